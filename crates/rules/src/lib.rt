@@ -1,0 +1,87 @@
+// Document 01's types, shared by every crate above. The rules themselves stand in specs/Document.
+
+// Planes and levels are counted apart: a place for one never accepts the other.
+pub struct Plane(pub usize);
+
+pub struct Level(pub usize);
+
+// Width, height and decomposition count.
+pub struct Size {
+    pub w: usize,
+    pub h: usize,
+    pub n: usize,
+}
+
+// What a call is refused for, with the place where one is reported.
+pub enum Refusal {
+    Size,
+    Length,
+    Work,
+    Range(usize),
+    Room,
+    Head(usize),
+    Version,
+    Part(usize),
+    Pad(usize),
+    Fit(usize),
+    Ask,
+}
+
+pub enum Verdict {
+    Accepted,
+    Refused(Refusal),
+}
+
+// The answers of coding, serving and decoding.
+pub struct Coded {
+    pub verdict: Verdict,
+    pub length: usize,
+}
+
+pub struct Served {
+    pub verdict: Verdict,
+    pub length: usize,
+    pub tail: usize,
+}
+
+pub struct Decoded {
+    pub verdict: Verdict,
+    pub tail: usize,
+    pub reached: [Plane; 6],
+}
+
+// A number read: its value and the place after it, or why it is none.
+pub enum Number {
+    Value(usize, usize),
+    TooManyBytes,
+    LongForm,
+    CutOff,
+}
+
+// A header read: what it says and the place after it.
+pub struct Header {
+    pub size: Size,
+    pub planes: usize,
+    pub end: usize,
+}
+
+pub enum HeaderRead {
+    Header(Header),
+    Refused(Refusal),
+}
+
+// A whole part of a record: its head, and where it, its body and the next part begin.
+pub struct Part {
+    pub plane: Plane,
+    pub level: Level,
+    pub bits: usize,
+    pub place: usize,
+    pub body: usize,
+    pub end: usize,
+}
+
+pub enum PartRead {
+    Part(Part),
+    Tail,
+    Refused(Refusal),
+}
