@@ -93,10 +93,10 @@ pub data Progress : Type 0 where
   going : State → List ℤ → Progress
   unfit : ℕ → Progress
 
-module _ (h : Header) (s : List ℕ) (there : List PartName) where
-  unfoldable pub used : Part → State → Course Reader → Progress
-  used p st c = cond (eqb (c .side .taken) (p .bits)) (going (after (p .level .0) c st) (c .side .pyramid)) (unfit (p .place))
+unfoldable pub used : Part → State → Course Reader → Progress
+used p st c = cond (eqb (c .side .taken) (p .bits)) (going (after (p .level .0) c st) (c .side .pyramid)) (unfit (p .place))
 
+module _ (h : Header) (s : List ℕ) (there : List PartName) where
   unfoldable pub onward : Part → Progress → Progress
   onward p (unfit at) = unfit at
   onward p (going st v) =
