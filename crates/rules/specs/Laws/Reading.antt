@@ -1,0 +1,150 @@
+-- What is known of a number, a header and a part that were read: their values are legal, and they stand whole within the bytes.
+use mathlib.Core.Path.{_≡_, refl, ap, sym, _∙_, subst}
+use mathlib.Core.List.{List, [], _∷_, _++_}
+use mathlib.Core.Bool.{Bool, true, false, cond, _&&_, _||_, and-eq-true-iff}
+use Prim.Native.Nat.{ℕ, zero, suc, _+_, _-_, _*_, _≤_, _<_, _^_}
+use native.Mathlib.Omega.{arith}
+use lib.Dec.{leb, ltb, eqb}
+use borrow.Author.Tests.{leb-true, leb-false}
+use lib.ListN.{length, getD}
+use Rattle.rules.specs.declared.Size.{Size}
+use Rattle.rules.specs.declared.Refusal.{Refusal}
+use Rattle.rules.specs.declared.Refusal.the-variants as refusal
+use Rattle.rules.specs.declared.Number.{Number}
+use Rattle.rules.specs.declared.Number.the-variants.{Value, TooManyBytes, LongForm, CutOff}
+use Rattle.rules.specs.declared.Header.{Header}
+use Rattle.rules.specs.declared.HeaderRead.{HeaderRead}
+use Rattle.rules.specs.declared.HeaderRead.the-variants as header
+use Rattle.rules.specs.declared.Part.{Part}
+use Rattle.rules.specs.declared.PartRead.{PartRead}
+use Rattle.rules.specs.declared.PartRead.the-variants as part
+use Rattle.rules.specs.Document.Pyramid.{legalSize, mostPlanes}
+use Rattle.rules.specs.Document.Passes.{PartName}
+use Rattle.rules.specs.Document.Layout.{numberFrom, readNumber, version, bytesFor, padClear, bodyOf, nameOf}
+use Rattle.rules.specs.Document.Numbers.{headNumber, judgedHeader, readSizes, readHeader, partNumber, legalHead, judgedPart, headed, readPart}
+
+-- A number that was read: it has a byte at least and ends within the bytes.
+pub record NumberStands (s : List ℕ) (at v end : ℕ) : Type 0 where
+  pub after : at < end
+  pub within : end ≤ length s
+
+-- A header that was read.
+pub record HeaderStands (s : List ℕ) (h : Header) : Type 0 where
+  pub legal : legalSize (h .size) ≡ true
+  pub planes : h .planes ≤ mostPlanes
+  pub within : h .end ≤ length s
+
+-- A part that was read at a place: a legal head, a whole body, clear padding.
+pub record PartStands (h : Header) (s : List ℕ) (before : PartName) (place : ℕ) (p : Part) : Type 0 where
+  pub placed : p .place ≡ place
+  pub legal : legalHead h before (nameOf p) (p .bits) ≡ true
+  pub after : place < p .body
+  pub end : p .end ≡ p .body + bytesFor (p .bits)
+  pub within : p .end ≤ length s
+  pub clear : padClear (bodyOf s p) (p .bits) ≡ true
+
+-- Numbers.
+numberFrom-stands : (more : ℕ) (s : List ℕ) (at worth v w end : ℕ) → numberFrom more s at worth v ≡ Value w end → NumberStands s at w end
+unfolding numberFrom
+numberFrom-stands zero s at worth v w end e = absurd (let z : _≡_ {A = ℕ} 0 1 = cc in omega arith)
+numberFrom-stands (suc more) s at worth v w end e = go (leb (length s) at) refl (leb 128 (getD s at 0)) (ltb 1 worth && eqb (getD s at 0) 0) e (numberFrom-stands more s (at + 1) (worth * 128) (v + (getD s at 0 - 128) * worth) w end)
+  where
+    go : (a : Bool) → leb (length s) at ≡ a → (b c : Bool)
+        → cond a CutOff (cond b (numberFrom more s (at + 1) (worth * 128) (v + (getD s at 0 - 128) * worth)) (cond c LongForm (Value (v + getD s at 0 * worth) (at + 1)))) ≡ Value w end
+        → (numberFrom more s (at + 1) (worth * 128) (v + (getD s at 0 - 128) * worth) ≡ Value w end → NumberStands s (at + 1) w end) → NumberStands s at w end
+    go true l b c i r = absurd (let z : _≡_ {A = ℕ} 0 1 = cc in omega arith)
+    go false l true c i r = let n = r i in record { after = omega (arith, n .after); within = n .within }
+    go false l false true i r = absurd (let z : _≡_ {A = ℕ} 0 1 = cc in omega arith)
+    go false l false false i r =
+        let f : at + 1 ≡ end = cc in
+        let g : at < length s = leb-false (length s) at l in
+        record { after = omega arith; within = omega arith }
+
+pub readNumber-stands : (s : List ℕ) (at v end : ℕ) → readNumber s at ≡ Value v end → NumberStands s at v end
+unfolding readNumber
+readNumber-stands s at v end e = numberFrom-stands 4 s at 1 0 v end e
+
+-- Headers. A number of a header that was read has a value.
+headNumber-value : (at : ℕ) (x : Number) (go : ℕ → ℕ → HeaderRead) (h : Header) → headNumber at x go ≡ header.Header h
+    → (v : ℕ) × (end : ℕ) × (x ≡ Value v end) × (go v end ≡ header.Header h)
+unfolding headNumber
+headNumber-value at (Value v end) go h e = (v, end, refl, e)
+headNumber-value at TooManyBytes go h e = absurd (let z : _≡_ {A = ℕ} 0 1 = cc in omega arith)
+headNumber-value at LongForm go h e = absurd (let z : _≡_ {A = ℕ} 0 1 = cc in omega arith)
+headNumber-value at CutOff go h e = absurd (let z : _≡_ {A = ℕ} 0 1 = cc in omega arith)
+
+judgedHeader-legal : (z : Size) (planes end : ℕ) (h : Header) → judgedHeader z planes end ≡ header.Header h
+    → (legalSize (h .size) ≡ true) × (h .planes ≤ mostPlanes) × (h .end ≡ end)
+unfolding judgedHeader
+judgedHeader-legal z planes end h e = go (legalSize z && leb planes mostPlanes) refl e
+  where
+    go : (b : Bool) → legalSize z && leb planes mostPlanes ≡ b
+        → cond b (header.Header (record { size = z; planes = planes; end = end })) (header.Refused refusal.Size) ≡ header.Header h
+        → (legalSize (h .size) ≡ true) × (h .planes ≤ mostPlanes) × (h .end ≡ end)
+    go false l i = absurd (let z : _≡_ {A = ℕ} 0 1 = cc in omega arith)
+    go true l i =
+        let f : record { size = z; planes = planes; end = end } ≡ h = cc in
+        let t : (legalSize z ≡ true) × (leb planes mostPlanes ≡ true) = and-eq-true-iff _ _ .0 l in
+        subst (λ (x : Header). (legalSize (x .size) ≡ true) × (x .planes ≤ mostPlanes) × (x .end ≡ end)) f (t .0, leb-true planes mostPlanes (t .1), refl)
+
+readSizes-stands : (s : List ℕ) (at : ℕ) (h : Header) → readSizes s at ≡ header.Header h → HeaderStands s h
+unfolding readSizes
+readSizes-stands s at h e =
+    let w = headNumber-value at (readNumber s at) _ h e in
+    let i = headNumber-value (w .1) (readNumber s (w .1)) _ h (w .3) in
+    let n = headNumber-value (i .1) (readNumber s (i .1)) _ h (i .3) in
+    let p = headNumber-value (n .1) (readNumber s (n .1)) _ h (n .3) in
+    let t : (legalSize (h .size) ≡ true) × (h .planes ≤ mostPlanes) × (h .end ≡ p .1) = judgedHeader-legal (record { w = w .0; h = i .0; n = n .0 }) (p .0) (p .1) h (p .3) in
+    record { legal = t .0; planes = t .1; within = omega (arith, t .2, readNumber-stands s (n .1) (p .0) (p .1) (p .2) .within) }
+
+pub readHeader-stands : (s : List ℕ) (h : Header) → readHeader s ≡ header.Header h → HeaderStands s h
+unfolding readHeader
+readHeader-stands s h e =
+    let v = headNumber-value 0 (readNumber s 0) _ h e in
+    go (eqb (v .0) version) (v .1) (v .3)
+  where
+    go : (b : Bool) (at : ℕ) → cond b (readSizes s at) (header.Refused refusal.Version) ≡ header.Header h → HeaderStands s h
+    go true at i = readSizes-stands s at h i
+    go false at i = absurd (let z : _≡_ {A = ℕ} 0 1 = cc in omega arith)
+
+-- Parts. A number of a part that was read has a value.
+partNumber-value : (place : ℕ) (x : Number) (go : ℕ → ℕ → PartRead) (p : Part) → partNumber place x go ≡ part.Part p
+    → (v : ℕ) × (end : ℕ) × (x ≡ Value v end) × (go v end ≡ part.Part p)
+unfolding partNumber
+partNumber-value place (Value v end) go p e = (v, end, refl, e)
+partNumber-value place TooManyBytes go p e = absurd (let z : _≡_ {A = ℕ} 0 1 = cc in omega arith)
+partNumber-value place LongForm go p e = absurd (let z : _≡_ {A = ℕ} 0 1 = cc in omega arith)
+partNumber-value place CutOff go p e = absurd (let z : _≡_ {A = ℕ} 0 1 = cc in omega arith)
+
+judgedPart-part : (h : Header) (s : List ℕ) (before : PartName) (x p : Part) → judgedPart h s before x ≡ part.Part p
+    → (x ≡ p) × (legalHead h before (nameOf x) (x .bits) ≡ true) × (x .end ≤ length s) × (padClear (bodyOf s x) (x .bits) ≡ true)
+unfolding judgedPart
+judgedPart-part h s before x p e =
+    go (legalHead h before (nameOf x) (x .bits)) refl (leb (x .end) (length s)) refl (padClear (bodyOf s x) (x .bits)) refl e
+  where
+    go : (a : Bool) → legalHead h before (nameOf x) (x .bits) ≡ a → (b : Bool) → leb (x .end) (length s) ≡ b → (c : Bool) → padClear (bodyOf s x) (x .bits) ≡ c
+        → cond a (cond b (cond c (part.Part x) (part.Refused (refusal.Pad (x .place)))) part.Tail) (part.Refused (refusal.Part (x .place))) ≡ part.Part p
+        → (x ≡ p) × (legalHead h before (nameOf x) (x .bits) ≡ true) × (x .end ≤ length s) × (padClear (bodyOf s x) (x .bits) ≡ true)
+    go true l true m true n i = (cc, l, leb-true (x .end) (length s) m, n)
+    go true l true m false n i = absurd (let z : _≡_ {A = ℕ} 0 1 = cc in omega arith)
+    go true l false m c n i = absurd (let z : _≡_ {A = ℕ} 0 1 = cc in omega arith)
+    go false l b m c n i = absurd (let z : _≡_ {A = ℕ} 0 1 = cc in omega arith)
+
+pub readPart-stands : (h : Header) (s : List ℕ) (before : PartName) (place : ℕ) (p : Part) → readPart h s before place ≡ part.Part p
+    → PartStands h s before place p
+unfolding readPart headed
+readPart-stands h s before place p e =
+    let n = partNumber-value place (readNumber s place) _ p e in
+    let k = partNumber-value place (readNumber s (n .1)) _ p (n .3) in
+    let c = partNumber-value place (readNumber s (k .1)) _ p (k .3) in
+    let x = headed place (n .0) (k .0) (c .0) (c .1) in
+    let t : (x ≡ p) × (legalHead h before (nameOf x) (x .bits) ≡ true) × (x .end ≤ length s) × (padClear (bodyOf s x) (x .bits) ≡ true) = judgedPart-part h s before x p (c .3) in
+    subst (PartStands h s before place) (t .0)
+    (record {
+      placed = refl;
+      legal = t .1;
+      end = refl;
+      within = t .2;
+      clear = t .3;
+      after = omega (arith, readNumber-stands s place (n .0) (n .1) (n .2) .after, readNumber-stands s (n .1) (k .0) (k .1) (k .2) .after, readNumber-stands s (k .1) (c .0) (c .1) (c .2) .after);
+    })
