@@ -2,3 +2,4 @@
 pub mod Cases
 pub mod Reading
 pub mod Walk
+pub mod Output
