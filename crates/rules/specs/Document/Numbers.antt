@@ -22,7 +22,7 @@ use Rattle.rules.specs.Document.Passes.{PartName}
 use Rattle.rules.specs.Document.Layout.{readNumber, version, bytesFor, padClear, bodyOf, nameOf}
 
 -- The table's first and last columns.
-unfoldable pub refusalNumber : Refusal → ℕ
+abbrev pub refusalNumber : Refusal → ℕ
 refusalNumber refusal.Size = 1
 refusalNumber refusal.Length = 2
 refusalNumber refusal.Work = 3
@@ -35,7 +35,7 @@ refusalNumber (refusal.Pad i) = 9
 refusalNumber (refusal.Fit i) = 10
 refusalNumber refusal.Ask = 11
 
-unfoldable pub refusalPlace : Refusal → ℕ
+abbrev pub refusalPlace : Refusal → ℕ
 refusalPlace refusal.Size = 0
 refusalPlace refusal.Length = 0
 refusalPlace refusal.Work = 0
@@ -48,11 +48,11 @@ refusalPlace (refusal.Pad i) = i
 refusalPlace (refusal.Fit i) = i
 refusalPlace refusal.Ask = 0
 
-unfoldable pub verdictNumber : Verdict → ℕ
+abbrev pub verdictNumber : Verdict → ℕ
 verdictNumber Accepted = 0
 verdictNumber (Refused r) = refusalNumber r
 
-unfoldable pub verdictPlace : Verdict → ℕ
+abbrev pub verdictPlace : Verdict → ℕ
 verdictPlace Accepted = 0
 verdictPlace (Refused r) = refusalPlace r
 

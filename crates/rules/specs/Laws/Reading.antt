@@ -34,8 +34,13 @@ pub record HeaderStands (s : List ℕ) (h : Header) : Type 0 where
   pub planes : h .planes ≤ mostPlanes
   pub within : h .end ≤ length s
 
--- A part that was read at a place: a legal head, a whole body, clear padding.
+-- A part that was read at a place: its three numbers and where they stand, a legal head, a whole body, clear padding.
 pub record PartStands (h : Header) (s : List ℕ) (before : PartName) (place : ℕ) (p : Part) : Type 0 where
+  pub levelAt : ℕ
+  pub bitsAt : ℕ
+  pub plane-read : readNumber s place ≡ Value (p .plane .0) levelAt
+  pub level-read : readNumber s levelAt ≡ Value (p .level .0) bitsAt
+  pub bits-read : readNumber s bitsAt ≡ Value (p .bits) (p .body)
   pub placed : p .place ≡ place
   pub legal : legalHead h before (nameOf p) (p .bits) ≡ true
   pub after : place < p .body
@@ -44,7 +49,7 @@ pub record PartStands (h : Header) (s : List ℕ) (before : PartName) (place : �
   pub clear : padClear (bodyOf s p) (p .bits) ≡ true
 
 -- Numbers.
-numberFrom-stands : (more : ℕ) (s : List ℕ) (at worth v w end : ℕ) → numberFrom more s at worth v ≡ Value w end → NumberStands s at w end
+pub numberFrom-stands : (more : ℕ) (s : List ℕ) (at worth v w end : ℕ) → numberFrom more s at worth v ≡ Value w end → NumberStands s at w end
 unfolding numberFrom
 numberFrom-stands zero s at worth v w end e = absurd (let z : _≡_ {A = ℕ} 0 1 = cc in omega arith)
 numberFrom-stands (suc more) s at worth v w end e = go (leb (length s) at) refl (leb 128 (getD s at 0)) (ltb 1 worth && eqb (getD s at 0) 0) e (numberFrom-stands more s (at + 1) (worth * 128) (v + (getD s at 0 - 128) * worth) w end)
@@ -108,7 +113,7 @@ readHeader-stands s h e =
     go false at i = absurd (let z : _≡_ {A = ℕ} 0 1 = cc in omega arith)
 
 -- Parts. A number of a part that was read has a value.
-partNumber-value : (place : ℕ) (x : Number) (go : ℕ → ℕ → PartRead) (p : Part) → partNumber place x go ≡ part.Part p
+pub partNumber-value : (place : ℕ) (x : Number) (go : ℕ → ℕ → PartRead) (p : Part) → partNumber place x go ≡ part.Part p
     → (v : ℕ) × (end : ℕ) × (x ≡ Value v end) × (go v end ≡ part.Part p)
 unfolding partNumber
 partNumber-value place (Value v end) go p e = (v, end, refl, e)
@@ -116,7 +121,7 @@ partNumber-value place TooManyBytes go p e = absurd (let z : _≡_ {A = ℕ} 0 1
 partNumber-value place LongForm go p e = absurd (let z : _≡_ {A = ℕ} 0 1 = cc in omega arith)
 partNumber-value place CutOff go p e = absurd (let z : _≡_ {A = ℕ} 0 1 = cc in omega arith)
 
-judgedPart-part : (h : Header) (s : List ℕ) (before : PartName) (x p : Part) → judgedPart h s before x ≡ part.Part p
+pub judgedPart-part : (h : Header) (s : List ℕ) (before : PartName) (x p : Part) → judgedPart h s before x ≡ part.Part p
     → (x ≡ p) × (legalHead h before (nameOf x) (x .bits) ≡ true) × (x .end ≤ length s) × (padClear (bodyOf s x) (x .bits) ≡ true)
 unfolding judgedPart
 judgedPart-part h s before x p e =
@@ -141,6 +146,11 @@ readPart-stands h s before place p e =
     let t : (x ≡ p) × (legalHead h before (nameOf x) (x .bits) ≡ true) × (x .end ≤ length s) × (padClear (bodyOf s x) (x .bits) ≡ true) = judgedPart-part h s before x p (c .3) in
     subst (PartStands h s before place) (t .0)
     (record {
+      levelAt = n .1;
+      bitsAt = k .1;
+      plane-read = n .2;
+      level-read = k .2;
+      bits-read = c .2;
       placed = refl;
       legal = t .1;
       end = refl;

@@ -1,0 +1,54 @@
+-- `memory::zero_i32` meets its contract.
+use Prim.Native.Nat.{_-_}
+use native.Mathlib.Omega.{arith}
+use lib.ListN.{length}
+use lib.IntN.{pos}
+use borrow.Author.Needs.{needs}
+use Rattle.memory.proofs.Laws.{Filled, filled-none, filled-more, filled-all}
+use Rattle.memory.proofs.zero_i32.Statement.{statement}
+use Rattle.memory.proofs.zero_i32.Tie as tie
+
+abbrev Inv-loop : tie.InvT-loop
+Inv-loop s₀ i₀ s i = Filled (pos 0) s₀ i s
+
+abbrev μ-loop : tie.MeasureT-loop
+μ-loop s₀ i₀ s i = length s₀ - i
+
+loop-holds : tie.Need-loop-holds Inv-loop μ-loop
+loop-holds c = filled-none (pos 0) _
+
+mul-s : tie.Need-mul-s Inv-loop μ-loop
+mul-s c = search needs
+
+slice-set-of-s : tie.Need-slice-set-of-s Inv-loop μ-loop
+slice-set-of-s c = omega arith
+
+add-i : tie.Need-add-i Inv-loop μ-loop
+add-i c = omega arith
+
+loop-less : tie.Need-loop-less Inv-loop μ-loop
+loop-less c = omega arith
+
+loop-again : tie.Need-loop-again Inv-loop μ-loop
+loop-again c = filled-more (pos 0) _ _ _ (c .before .loop .inv) (omega arith)
+
+same-length : tie.Need-same-length Inv-loop μ-loop
+same-length c = omega arith
+
+returns : tie.Need-returns Inv-loop μ-loop
+returns c = filled-all (pos 0) _ _ _ (c .before .loop .inv) (omega arith)
+
+pub zero-i32-spec : {M : Type 1} → statement M
+zero-i32-spec =
+    tie.close
+    (tie.spec
+    Inv-loop
+    μ-loop
+    loop-holds
+    mul-s
+    slice-set-of-s
+    add-i
+    loop-less
+    loop-again
+    same-length
+    returns)
