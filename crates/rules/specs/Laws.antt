@@ -10,3 +10,4 @@ pub mod Reading
 pub mod Walk
 pub mod Output
 pub mod Local
+pub mod Selection

@@ -11,13 +11,14 @@ use borrow.Author.Tests.{leb-true, leb-false, lt-leb, le-leb}
 use Rattle.rules.specs.declared.Number.{Number}
 use Rattle.rules.specs.declared.Number.the-variants.{Value, TooManyBytes, LongForm, CutOff}
 use Rattle.rules.specs.declared.Header.{Header}
+use Rattle.rules.specs.declared.HeaderRead.the-variants as header
 use Rattle.rules.specs.declared.Part.{Part}
 use Rattle.rules.specs.declared.PartRead.{PartRead}
 use Rattle.rules.specs.declared.PartRead.the-variants as part
-use Rattle.rules.specs.Document.Layout.{numberFrom, readNumber, bytesFor, padClear, wholeOf, bodyOf, nameOf}
+use Rattle.rules.specs.Document.Layout.{numberFrom, readNumber, version, bytesFor, padClear, wholeOf, bodyOf, nameOf}
 use Rattle.rules.specs.Document.Passes.{PartName}
-use Rattle.rules.specs.Document.Numbers.{partNumber, legalHead, judgedPart, headed, readPart}
-use Rattle.rules.specs.Laws.Reading.{NumberStands, numberFrom-stands, readNumber-stands, PartStands, readPart-stands}
+use Rattle.rules.specs.Document.Numbers.{headNumber, judgedHeader, readSizes, readHeader, partNumber, legalHead, judgedPart, headed, readPart}
+use Rattle.rules.specs.Laws.Reading.{NumberStands, numberFrom-stands, readNumber-stands, HeaderStands, readHeader-stands, PartStands, readPart-stands}
 
 -- The n bytes of s at a and those of t at b are the same, and all there.
 pub record Same (s : List ℕ) (a : ℕ) (t : List ℕ) (b n : ℕ) : Type 0 where
@@ -156,3 +157,31 @@ module _ (h : Header) (s : List ℕ) (before : PartName) (place : ℕ) (p : Part
       readPart-judged ∙ ap (judgedPart h t earlier) x
       ∙ judgedPart-part′ h t earlier (movedTo b p) l (omega (arith, n .there))
       (ap (λ (y : List ℕ). padClear y (p .bits)) (movedTo-body s t b p n (omega (arith, st .after, st .placed)) (st .end) (st .within)) ∙ st .clear)
+
+-- A header at the front of other bytes.
+pub readHeader-local : (s : List ℕ) (h : Header) → readHeader s ≡ header.Header h → (t : List ℕ) → Same s 0 t 0 (h .end) → readHeader t ≡ header.Header h
+unfolding readHeader readSizes headNumber judgedHeader
+readHeader-local s h e t m =
+    let st = readHeader-stands s h e in
+    let a = readNumber-stands s 0 version (st .widthAt) (st .version-read) in
+    let b = readNumber-stands s (st .widthAt) (h .size .w) (st .heightAt) (st .width-read) in
+    let c = readNumber-stands s (st .heightAt) (h .size .h) (st .depthAt) (st .height-read) in
+    let d = readNumber-stands s (st .depthAt) (h .size .n) (st .planesAt) (st .depth-read) in
+    let f = readNumber-stands s (st .planesAt) (h .planes) (h .end) (st .planes-read) in
+    rw (
+      here 0 version (st .widthAt) (st .version-read) (omega (arith, b .after, c .after, d .after, f .after)),
+      here (st .widthAt) (h .size .w) (st .heightAt) (st .width-read) (omega (arith, c .after, d .after, f .after)),
+      here (st .heightAt) (h .size .h) (st .depthAt) (st .height-read) (omega (arith, d .after, f .after)),
+      here (st .depthAt) (h .size .n) (st .planesAt) (st .depth-read) (omega (arith, f .after)),
+      here (st .planesAt) (h .planes) (h .end) (st .planes-read) (omega arith),
+      st .judged,
+    )
+  where
+    here : (at v end : ℕ) → readNumber s at ≡ Value v end → end ≤ h .end → readNumber t at ≡ Value v end
+    here at v end r l =
+        let n = readNumber-stands s at v end r in
+        let x : 0 + (at - 0) ≡ at = omega arith in
+        let y : at + (end - at) ≡ end = omega (arith, n .after) in
+        readNumber-local s at t at v end r
+        (subst (λ (i : ℕ). Same s at t i (end - at)) x (same-part s 0 t 0 (h .end) at end m (omega arith) (omega (arith, n .after)) (omega arith)))
+        ∙ ap (Value v) y

@@ -5,7 +5,7 @@ use mathlib.Core.Bool.{Bool, true, false, cond, _&&_, _||_, and-eq-true-iff}
 use Prim.Native.Nat.{ℕ, zero, suc, _+_, _-_, _*_, _≤_, _<_, _^_}
 use native.Mathlib.Omega.{arith}
 use lib.Dec.{leb, ltb, eqb}
-use borrow.Author.Tests.{leb-true, leb-false}
+use borrow.Author.Tests.{leb-true, leb-false, eqb-true}
 use lib.ListN.{length, getD}
 use Rattle.rules.specs.declared.Size.{Size}
 use Rattle.rules.specs.declared.Refusal.{Refusal}
@@ -28,11 +28,18 @@ pub record NumberStands (s : List ℕ) (at v end : ℕ) : Type 0 where
   pub after : at < end
   pub within : end ≤ length s
 
--- A header that was read.
+-- A header that was read: its five numbers and where they stand, and legal values.
 pub record HeaderStands (s : List ℕ) (h : Header) : Type 0 where
-  pub legal : legalSize (h .size) ≡ true
-  pub planes : h .planes ≤ mostPlanes
-  pub within : h .end ≤ length s
+  pub widthAt : ℕ
+  pub heightAt : ℕ
+  pub depthAt : ℕ
+  pub planesAt : ℕ
+  pub version-read : readNumber s 0 ≡ Value version widthAt
+  pub width-read : readNumber s widthAt ≡ Value (h .size .w) heightAt
+  pub height-read : readNumber s heightAt ≡ Value (h .size .h) depthAt
+  pub depth-read : readNumber s depthAt ≡ Value (h .size .n) planesAt
+  pub planes-read : readNumber s planesAt ≡ Value (h .planes) (h .end)
+  pub judged : legalSize (h .size) && leb (h .planes) mostPlanes ≡ true
 
 -- A part that was read at a place: its three numbers and where they stand, a legal head, a whole body, clear padding.
 pub record PartStands (h : Header) (s : List ℕ) (before : PartName) (place : ℕ) (p : Part) : Type 0 where
@@ -78,39 +85,59 @@ headNumber-value at TooManyBytes go h e = absurd (let z : _≡_ {A = ℕ} 0 1 = 
 headNumber-value at LongForm go h e = absurd (let z : _≡_ {A = ℕ} 0 1 = cc in omega arith)
 headNumber-value at CutOff go h e = absurd (let z : _≡_ {A = ℕ} 0 1 = cc in omega arith)
 
-judgedHeader-legal : (z : Size) (planes end : ℕ) (h : Header) → judgedHeader z planes end ≡ header.Header h
-    → (legalSize (h .size) ≡ true) × (h .planes ≤ mostPlanes) × (h .end ≡ end)
+judgedHeader-header : (z : Size) (planes end : ℕ) (h : Header) → judgedHeader z planes end ≡ header.Header h
+    → (record { size = z; planes = planes; end = end } ≡ h) × (legalSize z && leb planes mostPlanes ≡ true)
 unfolding judgedHeader
-judgedHeader-legal z planes end h e = go (legalSize z && leb planes mostPlanes) refl e
+judgedHeader-header z planes end h e = go (legalSize z && leb planes mostPlanes) refl e
   where
     go : (b : Bool) → legalSize z && leb planes mostPlanes ≡ b
         → cond b (header.Header (record { size = z; planes = planes; end = end })) (header.Refused refusal.Size) ≡ header.Header h
-        → (legalSize (h .size) ≡ true) × (h .planes ≤ mostPlanes) × (h .end ≡ end)
+        → (record { size = z; planes = planes; end = end } ≡ h) × (legalSize z && leb planes mostPlanes ≡ true)
     go false l i = absurd (let z : _≡_ {A = ℕ} 0 1 = cc in omega arith)
-    go true l i =
-        let f : record { size = z; planes = planes; end = end } ≡ h = cc in
-        let t : (legalSize z ≡ true) × (leb planes mostPlanes ≡ true) = and-eq-true-iff _ _ .0 l in
-        subst (λ (x : Header). (legalSize (x .size) ≡ true) × (x .planes ≤ mostPlanes) × (x .end ≡ end)) f (t .0, leb-true planes mostPlanes (t .1), refl)
+    go true l i = (cc, l)
 
-readSizes-stands : (s : List ℕ) (at : ℕ) (h : Header) → readSizes s at ≡ header.Header h → HeaderStands s h
+readSizes-stands : (s : List ℕ) (at : ℕ) (h : Header) → readNumber s 0 ≡ Value version at → readSizes s at ≡ header.Header h → HeaderStands s h
 unfolding readSizes
-readSizes-stands s at h e =
+readSizes-stands s at h v e =
     let w = headNumber-value at (readNumber s at) _ h e in
     let i = headNumber-value (w .1) (readNumber s (w .1)) _ h (w .3) in
     let n = headNumber-value (i .1) (readNumber s (i .1)) _ h (i .3) in
     let p = headNumber-value (n .1) (readNumber s (n .1)) _ h (n .3) in
-    let t : (legalSize (h .size) ≡ true) × (h .planes ≤ mostPlanes) × (h .end ≡ p .1) = judgedHeader-legal (record { w = w .0; h = i .0; n = n .0 }) (p .0) (p .1) h (p .3) in
-    record { legal = t .0; planes = t .1; within = omega (arith, t .2, readNumber-stands s (n .1) (p .0) (p .1) (p .2) .within) }
+    let t = judgedHeader-header (record { w = w .0; h = i .0; n = n .0 }) (p .0) (p .1) h (p .3) in
+    subst (HeaderStands s) (t .0)
+    (record {
+      widthAt = at;
+      heightAt = w .1;
+      depthAt = i .1;
+      planesAt = n .1;
+      version-read = v;
+      width-read = w .2;
+      height-read = i .2;
+      depth-read = n .2;
+      planes-read = p .2;
+      judged = t .1;
+    })
 
 pub readHeader-stands : (s : List ℕ) (h : Header) → readHeader s ≡ header.Header h → HeaderStands s h
 unfolding readHeader
 readHeader-stands s h e =
     let v = headNumber-value 0 (readNumber s 0) _ h e in
-    go (eqb (v .0) version) (v .1) (v .3)
+    go (eqb (v .0) version) refl (v .3) (v .2)
   where
-    go : (b : Bool) (at : ℕ) → cond b (readSizes s at) (header.Refused refusal.Version) ≡ header.Header h → HeaderStands s h
-    go true at i = readSizes-stands s at h i
-    go false at i = absurd (let z : _≡_ {A = ℕ} 0 1 = cc in omega arith)
+    go : {x at : ℕ} (b : Bool) → eqb x version ≡ b → cond b (readSizes s at) (header.Refused refusal.Version) ≡ header.Header h
+        → readNumber s 0 ≡ Value x at → HeaderStands s h
+    go {x} {at} true e i r = readSizes-stands s at h (r ∙ ap (λ (v : ℕ). Value v at) (eqb-true x version e)) i
+    go false e i r = absurd (let z : _≡_ {A = ℕ} 0 1 = cc in omega arith)
+
+-- The size is legal, the planes are not too many, and the header is whole.
+pub header-legal : {s : List ℕ} {h : Header} → HeaderStands s h → legalSize (h .size) ≡ true
+header-legal {h = h} t = and-eq-true-iff (legalSize (h .size)) (leb (h .planes) mostPlanes) .0 (t .judged) .0
+
+pub header-planes : {s : List ℕ} {h : Header} → HeaderStands s h → h .planes ≤ mostPlanes
+header-planes {h = h} t = leb-true (h .planes) mostPlanes (and-eq-true-iff (legalSize (h .size)) (leb (h .planes) mostPlanes) .0 (t .judged) .1)
+
+pub header-within : {s : List ℕ} {h : Header} → HeaderStands s h → h .end ≤ length s
+header-within {s} {h} t = readNumber-stands s (t .planesAt) (h .planes) (h .end) (t .planes-read) .within
 
 -- Parts. A number of a part that was read has a value.
 pub partNumber-value : (place : ℕ) (x : Number) (go : ℕ → ℕ → PartRead) (p : Part) → partNumber place x go ≡ part.Part p

@@ -26,7 +26,7 @@ readNumber-past : (s : List ℕ) (at : ℕ) → length s ≤ at → readNumber s
 unfolding readNumber numberFrom
 readNumber-past s at l = rw (le-leb (length s) at l)
 
-readPart-past : (h : Header) (s : List ℕ) (before : PartName) (place : ℕ) → length s ≤ place → readPart h s before place ≡ part.Tail
+pub readPart-past : (h : Header) (s : List ℕ) (before : PartName) (place : ℕ) → length s ≤ place → readPart h s before place ≡ part.Tail
 unfolding readPart partNumber
 readPart-past h s before place l = rw (readNumber-past s place l)
 
