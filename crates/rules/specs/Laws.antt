@@ -11,3 +11,5 @@ pub mod Walk
 pub mod Output
 pub mod Local
 pub mod Selection
+pub mod Results
+pub mod Serving

@@ -5,7 +5,7 @@ use mathlib.Core.Bool.{Bool, true, false, cond, _&&_}
 use Prim.Native.Nat.{ℕ, zero, suc, _+_, _-_, _*_, _≤_, _<_}
 use native.Mathlib.Omega.{arith}
 use lib.Dec.{leb, ltb, eqb}
-use lib.ListN.{length, getD, take, drop, length-drop}
+use lib.ListN.{length, getD, take, drop, length-append, length-drop, List·getD-append}
 use lib.Seq.{ext-getD, getD-take, getD-drop, length-take-le}
 use borrow.Author.Tests.{leb-true, leb-false, lt-leb, le-leb}
 use Rattle.rules.specs.declared.Number.{Number}
@@ -24,6 +24,17 @@ use Rattle.rules.specs.Laws.Reading.{NumberStands, numberFrom-stands, re
 pub record Same (s : List ℕ) (a : ℕ) (t : List ℕ) (b n : ℕ) : Type 0 where
   pub there : b + n ≤ length t
   pub bytes : (i : ℕ) → i < n → getD t (b + i) 0 ≡ getD s (a + i) 0
+
+-- The first bytes, with others behind them.
+pub same-taken : (s : List ℕ) (n : ℕ) (rest : List ℕ) → n ≤ length s → Same s 0 (take n s ++ rest) 0 n
+same-taken s n rest l =
+    let e : length (take n s) ≡ n = length-take-le n s l in
+    record {
+      there = omega (arith, length-append (take n s) rest);
+      bytes = λ i j.
+          let x : 0 + i ≡ i = omega arith in
+          rw (x, List·getD-append (take n s) rest 0 i (omega arith), getD-take n s i 0 j);
+    }
 
 -- A stretch of a stretch.
 pub same-within : (s : List ℕ) (a : ℕ) (t : List ℕ) (b n k m : ℕ) → Same s a t b n → k + m ≤ n → Same s (a + k) t (b + k) m

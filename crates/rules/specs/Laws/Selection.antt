@@ -77,6 +77,12 @@ module _ (h : Header) (before p : PartName) (bits : ℕ) (l : legalHead h before
   unfolding legalHead
   legalHead-follows = both-right in-range (follows before p) (both-left _ (leb bits (mostBits (h .size))) l)
 
+  pub legalHead-level : leb 1 (p .level) ≡ true
+  unfolding legalHead
+  legalHead-level =
+      both-right (ltb (p .plane) (h .planes)) (leb 1 (p .level))
+      (both-left _ (leb (p .level) (levels (h .size))) (both-left in-range (follows before p) (both-left _ (leb bits (mostBits (h .size))) l)))
+
   -- a legal head stays legal behind an earlier part
   legalHead-behind : (earlier : PartName) → follows earlier p ≡ true → legalHead h earlier p bits ≡ true
   unfolding legalHead

@@ -1,0 +1,30 @@
+-- A call that was accepted passed each of its tests; one that was refused failed the first that names its refusal.
+use mathlib.Core.Path.{_≡_, refl}
+use mathlib.Core.Bool.{Bool, true, false}
+use Prim.Native.Nat.{ℕ}
+use native.Mathlib.Omega.{arith}
+use Rattle.rules.specs.declared.Refusal.{Refusal}
+use Rattle.rules.specs.declared.Header.{Header}
+use Rattle.rules.specs.declared.HeaderRead.{HeaderRead}
+use Rattle.rules.specs.declared.HeaderRead.the-variants as header
+use Rattle.rules.specs.Document.Numbers.{Ending, tail, fault}
+use Rattle.rules.specs.Document.Calls.{Result, refused, accepted, unless, onHeader, onEnding}
+
+module _ {X : Type 0} where
+  pub accepted-same : {x y : X} → accepted x ≡ accepted y → x ≡ y
+  accepted-same e = cc
+
+  pub unless-accepted : (b : Bool) (r : Refusal) (y : Result X) (x : X) → unless b r y ≡ accepted x → (b ≡ true) × (y ≡ accepted x)
+  unfolding unless
+  unless-accepted true r y x e = (refl, e)
+  unless-accepted false r y x e = absurd (let z : _≡_ {A = ℕ} 0 1 = cc in omega arith)
+
+  pub onHeader-accepted : (y : HeaderRead) (go : Header → Result X) (x : X) → onHeader y go ≡ accepted x → (h : Header) × (y ≡ header.Header h) × (go h ≡ accepted x)
+  unfolding onHeader
+  onHeader-accepted (header.Header h) go x e = (h, refl, e)
+  onHeader-accepted (header.Refused r) go x e = absurd (let z : _≡_ {A = ℕ} 0 1 = cc in omega arith)
+
+  pub onEnding-accepted : (y : Ending) (go : ℕ → Result X) (x : X) → onEnding y go ≡ accepted x → (t : ℕ) × (y ≡ tail t) × (go t ≡ accepted x)
+  unfolding onEnding
+  onEnding-accepted (tail t) go x e = (t, refl, e)
+  onEnding-accepted (fault r) go x e = absurd (let z : _≡_ {A = ℕ} 0 1 = cc in omega arith)

@@ -1,0 +1,169 @@
+-- Serving: what is served is a record with exactly the parts named and no tail; a record without a tail, served whole, is itself.
+use mathlib.Core.Path.{_≡_, refl, ap, ap₂, sym, _∙_, subst, subst₂}
+use mathlib.Core.List.{List, [], _∷_, _++_, append-assoc, append-nil}
+use mathlib.Core.Bool.{Bool, true, false, cond, _&&_}
+use Prim.Native.Nat.{ℕ, zero, suc, _+_, _-_, _≤_, _<_}
+use native.Mathlib.Omega.{arith}
+use lib.Dec.{leb}
+use borrow.Author.Tests.{le-leb}
+use lib.ListN.{length, take, drop, take-append-drop, drop-of-length-le}
+use lib.Seq.{length-take-le, drop-drop}
+use Rattle.rules.specs.declared.Refusal.the-variants as refusal
+use Rattle.rules.specs.declared.Header.{Header}
+use Rattle.rules.specs.declared.HeaderRead.{HeaderRead}
+use Rattle.rules.specs.declared.HeaderRead.the-variants as header
+use Rattle.rules.specs.declared.Part.{Part}
+use Rattle.rules.specs.Document.Notation.{flat}
+use Rattle.rules.specs.Document.Pyramid.{levels}
+use Rattle.rules.specs.Document.Passes.{PartName}
+use Rattle.rules.specs.Document.Layout.{wholeOf, nameOf}
+use Rattle.rules.specs.declared.PartRead.{PartRead}
+use Rattle.rules.specs.declared.PartRead.the-variants as part
+use Rattle.rules.specs.Document.Numbers.{Ending, tail, fault, Reading, readHeader, readPart, goOn, readFrom, readParts}
+use Rattle.rules.specs.Document.Calls.{Result, refused, accepted, unless, onHeader, onEnding, legalAsk, keptOf, servedBytes, Portion, portioned, serving}
+use Rattle.rules.specs.Laws.Reading.{HeaderStands, readHeader-stands, header-within, PartStands, readPart-stands}
+use Rattle.rules.specs.Laws.Tests.{both}
+use Rattle.rules.specs.Laws.Results.{unless-accepted, onHeader-accepted, onEnding-accepted, accepted-same}
+use Rattle.rules.specs.Laws.Walk.{partsFrom, readParts-from}
+use Rattle.rules.specs.Laws.Local.{Same, same-taken, readHeader-local}
+use Rattle.rules.specs.Laws.Selection.{chosen, placedFrom, Chain, readParts-chain, legalHead-level, chosen-read}
+
+-- the parts with level ≥ r and plane ≥ p
+abbrev pub wanted : ℕ → ℕ → Part → Bool
+wanted r p x = leb r (x .level .0) && leb p (x .plane .0)
+
+-- What was served, and of what.
+pub record IsServed (s : List ℕ) (r p : ℕ) (x : Portion) : Type 0 where
+  pub head : Header
+  pub read : readHeader s ≡ header.Header head
+  pub asked : legalAsk head r p ≡ true
+  pub ending : readParts head s .ending ≡ tail (x .tail)
+  pub bytes : x .bytes ≡ take (head .end) s ++ flat (wholeOf s) (chosen (wanted r p) (readParts head s .parts))
+
+flat-chosen : (s : List ℕ) (r p : ℕ) (ps : List Part) → flat (keptOf s r p) ps ≡ flat (wholeOf s) (chosen (wanted r p) ps)
+unfolding flat keptOf chosen
+flat-chosen s r p [] = refl
+flat-chosen s r p (x ∷ ps) = go (wanted r p x) (flat-chosen s r p ps)
+  where
+    go : (b : Bool) → flat (keptOf s r p) ps ≡ flat (wholeOf s) (chosen (wanted r p) ps)
+        → cond b (wholeOf s x) [] ++ flat (keptOf s r p) ps ≡ flat (wholeOf s) (cond b (x ∷ chosen (wanted r p) ps) (chosen (wanted r p) ps))
+    go true e = ap (λ (l : List ℕ). wholeOf s x ++ l) e
+    go false e = e
+
+pub serving-served : (s : List ℕ) (r p room : ℕ) (x : Portion) → serving s r p room ≡ accepted x → IsServed s r p x
+unfolding serving portioned servedBytes
+serving-served s r p room x e =
+    let h = onHeader-accepted (readHeader s) _ x e in
+    let a = unless-accepted (legalAsk (h .0) r p) refusal.Ask _ x (h .2) in
+    let t = onEnding-accepted (readParts (h .0) s .ending) _ x (a .1) in
+    let b = unless-accepted _ refusal.Room _ x (t .2) in
+    let y : record { bytes = servedBytes (h .0) s r p (readParts (h .0) s .parts); tail = t .0 } ≡ x = accepted-same (b .1) in
+    subst (IsServed s r p) y
+    (record { head = h .0; read = h .1; asked = a .0; ending = t .1; bytes = ap (λ (l : List ℕ). take (h .0 .end) s ++ l) (flat-chosen s r p (readParts (h .0) s .parts)) })
+
+-- What was served reads as the parts named, one behind the other, and nothing else.
+module _ (s : List ℕ) (r p : ℕ) (x : Portion) (v : IsServed s r p x) where
+  abbrev named : List Part
+  named = chosen (wanted r p) (readParts (v .head) s .parts)
+
+  within : v .head .end ≤ length s
+  within = header-within (readHeader-stands s (v .head) (v .read))
+
+  pub served-header : readHeader (x .bytes) ≡ header.Header (v .head)
+  served-header =
+      readHeader-local s (v .head) (v .read) (x .bytes)
+      (subst (λ (l : List ℕ). Same s 0 l 0 (v .head .end)) (sym (v .bytes)) (same-taken s (v .head .end) (flat (wholeOf s) named) within))
+
+  pub served-parts : readParts (v .head) (x .bytes) ≡ record { parts = placedFrom (v .head .end) named; ending = tail 0 }
+  served-parts =
+      let f = take (v .head .end) s in
+      let n : length f ≡ v .head .end = length-take-le (v .head .end) s within in
+      let first : PartName = record { plane = v .head .planes; level = 0 } in
+      let c : partsFrom (v .head) (f ++ flat (wholeOf s) named) first (length f) ≡ record { parts = placedFrom (length f) named; ending = tail 0 }
+      = chosen-read (v .head) s (wanted r p) (readParts (v .head) s .parts) first first (v .head .end) (readParts-chain (v .head) s) (λ y t. t) f in
+      readParts-from (v .head) (x .bytes) (header-within (readHeader-stands (x .bytes) (v .head) served-header))
+      ∙ subst₂ (λ (l : List ℕ) (k : ℕ). partsFrom (v .head) l first k ≡ record { parts = placedFrom k named; ending = tail 0 }) (sym (v .bytes)) n c
+
+-- Serving accepts whatever reads without a fault, where the request is legal and there is room.
+pub serving-accepts : (s : List ℕ) (h : Header) (r p k room : ℕ) → readHeader s ≡ header.Header h → legalAsk h r p ≡ true → readParts h s .ending ≡ tail k
+    → length (servedBytes h s r p (readParts h s .parts)) ≤ room
+    → serving s r p room ≡ accepted (record { bytes = servedBytes h s r p (readParts h s .parts); tail = k })
+unfolding serving onHeader onEnding unless portioned
+serving-accepts s h r p k room a b c d = rw (a, b, c, le-leb (length (servedBytes h s r p (readParts h s .parts))) room d)
+
+-- A record is its header, its parts and its tail.
+module _ (h : Header) (s : List ℕ) where
+  tail-rest : (place k : ℕ) → place ≤ length s → tail (length s - place) ≡ tail k → drop (length s - k) s ≡ drop place s
+  tail-rest place k l e =
+      let f : length s - place ≡ k = cc in
+      let g : length s - k ≡ place = omega arith in
+      ap (λ (n : ℕ). drop n s) g
+
+  whole-rest : (p : Part) → p .place ≤ p .end → wholeOf s p ++ drop (p .end) s ≡ drop (p .place) s
+  unfolding wholeOf
+  whole-rest p o =
+      let e : p .end ≡ p .place + (p .end - p .place) = omega arith in
+      ap (λ (n : ℕ). take (p .end - p .place) (drop (p .place) s) ++ drop n s) e
+      ∙ ap (λ (l : List ℕ). take (p .end - p .place) (drop (p .place) s) ++ l) (sym (drop-drop (p .end - p .place) (p .place) s))
+      ∙ take-append-drop (p .end - p .place) (drop (p .place) s)
+
+  readFrom-bytes : (m : ℕ) (before : PartName) (place k : ℕ) → place ≤ length s → readFrom m h s before place .ending ≡ tail k
+      → flat (wholeOf s) (readFrom m h s before place .parts) ++ drop (length s - k) s ≡ drop place s
+  unfolding readFrom flat goOn
+  readFrom-bytes zero before place k l e = tail-rest place k l e
+  readFrom-bytes (suc m) before place k l e = go (readPart h s before place) refl e (λ p o. readFrom-bytes m (nameOf p) (p .end) k o)
+    where
+      go : (x : PartRead) → readPart h s before place ≡ x → goOn s place x (λ p. readFrom m h s (nameOf p) (p .end)) .ending ≡ tail k
+          → ((p : Part) → p .end ≤ length s → readFrom m h s (nameOf p) (p .end) .ending ≡ tail k
+          → flat (wholeOf s) (readFrom m h s (nameOf p) (p .end) .parts) ++ drop (length s - k) s ≡ drop (p .end) s)
+          → flat (wholeOf s) (goOn s place x (λ p. readFrom m h s (nameOf p) (p .end)) .parts) ++ drop (length s - k) s ≡ drop place s
+      go (part.Part p) f i r =
+          let st = readPart-stands h s before place p f in
+          append-assoc (wholeOf s p) _ (drop (length s - k) s) ∙ ap (λ (l : List ℕ). wholeOf s p ++ l) (r p (st .within) i)
+          ∙ whole-rest p (omega (arith, st .placed, st .after, st .end)) ∙ ap (λ (n : ℕ). drop n s) (st .placed)
+      go part.Tail f i r = tail-rest place k l i
+      go (part.Refused q) f i r = absurd (let z : _≡_ {A = ℕ} 0 1 = cc in omega arith)
+
+  pub record-bytes : (k : ℕ) → h .end ≤ length s → readParts h s .ending ≡ tail k
+      → take (h .end) s ++ (flat (wholeOf s) (readParts h s .parts) ++ drop (length s - k) s) ≡ s
+  unfolding readParts
+  record-bytes k l e =
+      ap (λ (x : List ℕ). take (h .end) s ++ x) (readFrom-bytes (length s) (record { plane = h .planes; level = 0 }) (h .end) k l e)
+      ∙ take-append-drop (h .end) s
+
+-- Served for r = 1 and p = 0, every part is kept.
+chosen-all : (h : Header) (s : List ℕ) (before : PartName) (place : ℕ) (ps : List Part) → Chain h s before place ps → chosen (wanted 1 0) ps ≡ ps
+unfolding Chain chosen nameOf
+chosen-all h s before place [] c = refl
+chosen-all h s before place (p ∷ ps) c =
+    let st = readPart-stands h s before place p (c .0) in
+    let k : leb 1 (p .level .0) ≡ true = legalHead-level h before (nameOf p) (p .bits) (st .legal) in
+    let n : leb 0 (p .plane .0) ≡ true = le-leb 0 (p .plane .0) (omega arith) in
+    rw (k, n) (ap (λ (l : List Part). p ∷ l) (chosen-all h s (nameOf p) (p .end) ps (c .1)))
+
+asks-all : (h : Header) → legalAsk h 1 0 ≡ true
+unfolding legalAsk
+asks-all h = both _ _ (both _ _ (le-leb 1 1 (omega arith)) (le-leb 1 (levels (h .size)) (omega arith))) (le-leb 0 (h .planes) (omega arith))
+
+serves-all : (s : List ℕ) (h : Header) → h .end ≤ length s → readParts h s .ending ≡ tail 0 → servedBytes h s 1 0 (readParts h s .parts) ≡ s
+unfolding servedBytes
+serves-all s h l e =
+    let c = chosen-all h s (record { plane = h .planes; level = 0 }) (h .end) (readParts h s .parts) (readParts-chain h s) in
+    let d : drop (length s - 0) s ≡ [] = drop-of-length-le s {i = length s - 0} (omega arith) in
+    ap (λ (x : List ℕ). take (h .end) s ++ x)
+    (flat-chosen s 1 0 (readParts h s .parts) ∙ ap (flat (wholeOf s)) c ∙ sym (append-nil _) ∙ ap (λ (x : List ℕ). flat (wholeOf s) (readParts h s .parts) ++ x) (sym d))
+    ∙ record-bytes h s 0 l e
+
+-- A record without a tail, served whole, is itself.
+pub served-whole : (s : List ℕ) (h : Header) (room : ℕ) → readHeader s ≡ header.Header h → readParts h s .ending ≡ tail 0 → length s ≤ room
+    → serving s 1 0 room ≡ accepted (record { bytes = s; tail = 0 })
+served-whole s h room a e l =
+    let b : servedBytes h s 1 0 (readParts h s .parts) ≡ s = serves-all s h (header-within (readHeader-stands s h a)) e in
+    serving-accepts s h 1 0 0 room a (asks-all h) e (subst (λ (x : List ℕ). length x ≤ room) (sym b) l) ∙ ap (λ (x : List ℕ). accepted (record { bytes = x; tail = 0 })) b
+
+-- What was served is accepted by serving, for any legal request and with room.
+pub served-is-record : (s : List ℕ) (r p room : ℕ) (x : Portion) → serving s r p room ≡ accepted x
+    → serving (x .bytes) 1 0 (length (x .bytes)) ≡ accepted (record { bytes = x .bytes; tail = 0 })
+served-is-record s r p room x e =
+    let v = serving-served s r p room x e in
+    served-whole (x .bytes) (v .head) (length (x .bytes)) (served-header s r p x v) (ap (λ (y : Reading). y .ending) (served-parts s r p x v)) (omega arith)
