@@ -1,7 +1,13 @@
-// The document's number and place for each verdict, made in one function each: what every call answers with.
+// The document's number and place for each verdict, made in one function each; and each answer's numbers at the front of a lent slice.
 ghost use mathlib.Core.Path.{_≡_};
+ghost use Prim.Native.Nat.{_≤_};
+ghost use lib.ListN.{length};
 ghost use Rattle.rules.specs.Document.Numbers.{refusalNumber, refusalPlace, verdictNumber, verdictPlace};
+ghost use Rattle.rules.specs.Document.Calls.{codePlaces, servePlaces, decodePlaces, codeNumbers, serveNumbers, decodeNumbers};
+ghost use Rattle.answers.specs.Report.{Reported};
+use rules::Coded;
 use rules::Refusal;
+use rules::Served;
 use rules::Verdict;
 
 fn refusal_number(r: Refusal) -> u64
@@ -56,4 +62,31 @@ pub fn place(v: Verdict) -> u64
         Verdict::Accepted => 0,
         Verdict::Refused(r) => refusal_place(r),
     }
+}
+
+pub fn report_coded(a: Coded, answer: &mut [u64]) -> u64
+    requires { ⌜ codePlaces ≤ length (now answer) ⌝ }
+    ensures { λ n. ⌜ Reported (codeNumbers a) (now (answer .entry)) n (now (answer .exit)) ⌝ }
+{
+    memory::zero_u64(answer);
+    let v = a.verdict;
+    let n = number(v);
+    answer[0] = n;
+    answer[1] = place(v);
+    answer[2] = a.length as u64;
+    n
+}
+
+pub fn report_served(a: Served, answer: &mut [u64]) -> u64
+    requires { ⌜ servePlaces ≤ length (now answer) ⌝ }
+    ensures { λ n. ⌜ Reported (serveNumbers a) (now (answer .entry)) n (now (answer .exit)) ⌝ }
+{
+    memory::zero_u64(answer);
+    let v = a.verdict;
+    let n = number(v);
+    answer[0] = n;
+    answer[1] = place(v);
+    answer[2] = a.length as u64;
+    answer[3] = a.tail as u64;
+    n
 }

@@ -48,3 +48,8 @@ clipped-fits (suc room) [] l = let e : suc room ≡ suc room - 0 = omega arith i
 clipped-fits (suc room) (b ∷ bytes) l =
     let e : room - length bytes ≡ suc room - suc (length bytes) = omega arith in
     ap (λ (l : List ℕ). b ∷ l) (clipped-fits room bytes (omega arith) ∙ ap (λ (n : ℕ). bytes ++ zeros n) e)
+
+-- The first numbers of a slice of zeros.
+pub filled-sets : (room : ℕ) (numbers : List ℕ) → length numbers ≤ room → sets (zeros room) 0 numbers ≡ filled room numbers
+filled-sets room numbers l =
+    ap (λ (x : List ℕ). sets x 0 numbers) (sym (clipped-nothing room)) ∙ clipped-append room [] numbers ∙ clipped-fits room numbers l
