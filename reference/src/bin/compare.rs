@@ -1,0 +1,84 @@
+//! Compares the product with the reference on many seeded cases: the archive's
+//! exported calls (with the feature `archive`, else the reference's own
+//! portal), or what a part list program prints.
+
+use reference::compare::{run, run_partlist, Difference, Routine, Subject, Tally};
+use std::path::Path;
+use std::process::ExitCode;
+use std::time::{Duration, Instant};
+
+#[cfg(feature = "archive")]
+const SUBJECT: (&str, &dyn Subject) = ("the archive", &reference::archive::Archive);
+#[cfg(not(feature = "archive"))]
+const SUBJECT: (&str, &dyn Subject) = ("the reference's own portal", &reference::compare::Own);
+
+const USAGE: &str = "usage: compare code|serve|decode COUNT [SEED]
+       compare partlist PROGRAM COUNT [SEED]";
+
+fn main() -> ExitCode {
+    let arguments: Vec<String> = std::env::args().skip(1).collect();
+    match compare(&arguments) {
+        Some(outcome) => report(outcome),
+        None => {
+            eprintln!("{USAGE}");
+            ExitCode::from(2)
+        }
+    }
+}
+
+/// Nothing where the arguments make no sense.
+fn compare(arguments: &[String]) -> Option<Result<Tally, Difference>> {
+    let (name, rest) = arguments.split_first()?;
+    if name == Routine::Partlist.name() {
+        let (program, rest) = rest.split_first()?;
+        let (count, seed) = count_and_seed(rest)?;
+        eprintln!("partlist of {program}, {count} cases, seed {seed}");
+        let program = Path::new(program);
+        return Some(run_partlist(program, count, seed, &mut progress(count)));
+    }
+    let routine = Routine::exported(name)?;
+    let (count, seed) = count_and_seed(rest)?;
+    let (whose, subject) = SUBJECT;
+    eprintln!("{name} of {whose}, {count} cases, seed {seed}");
+    Some(run(routine, count, seed, subject, &mut progress(count)))
+}
+
+fn count_and_seed(arguments: &[String]) -> Option<(u64, u64)> {
+    match arguments {
+        [count] => Some((count.parse().ok()?, 1)),
+        [count, seed] => Some((count.parse().ok()?, seed.parse().ok()?)),
+        _ => None,
+    }
+}
+
+/// All equal is not enough: each sort of case must have occurred.
+fn report(outcome: Result<Tally, Difference>) -> ExitCode {
+    let tally = match outcome {
+        Ok(tally) => tally,
+        Err(difference) => {
+            println!("DIFFERENT {difference}");
+            return ExitCode::FAILURE;
+        }
+    };
+    print!("{tally}");
+    let missing = tally.missing();
+    if missing.is_empty() {
+        ExitCode::SUCCESS
+    } else {
+        println!("  NO CASE OF {}", missing.join(", "));
+        ExitCode::FAILURE
+    }
+}
+
+/// A line on standard error every few seconds of a long run.
+fn progress(count: u64) -> impl FnMut(u64) {
+    let begun = Instant::now();
+    let mut next = Duration::from_secs(5);
+    move |done| {
+        let elapsed = begun.elapsed();
+        if elapsed >= next {
+            eprintln!("  {done} of {count} after {} s", elapsed.as_secs());
+            next = elapsed + Duration::from_secs(10);
+        }
+    }
+}

@@ -1,0 +1,54 @@
+//! Cases of decoding.
+
+use super::lent::*;
+use super::{header_of, Compared, Subject};
+use crate::generate::{records, Chance};
+use crate::layout::Header;
+use crate::portal::DECODE_ANSWER;
+
+pub fn compare_decode(chance: &mut Chance, base: &[u8], subject: &dyn Subject) -> Compared {
+    let record = records::any_record(chance, base);
+    let header = header_of(&record);
+    let (length, work_length) = decode_room(chance, header);
+    let answer_length = answer_length(chance, DECODE_ANSWER);
+
+    let mut want_out = Lent::dirty(length, DIRTY_COEFFICIENT);
+    let mut want_work = Lent::dirty(work_length, DIRTY_WORD);
+    let said = crate::decode(&record, want_out.cells(), want_work.cells());
+    let [r1, r2, r3, r4, r5, r6] = said.reached;
+    let numbers = [said.number, said.place, said.tail, r1, r2, r3, r4, r5, r6];
+    let (want, mut want_answer) = expected_answer(answer_length, &numbers);
+    if answer_length < numbers.len() {
+        want_out.cells().fill(0);
+    }
+
+    let before = record.clone();
+    let mut out = Lent::dirty(length, DIRTY_COEFFICIENT);
+    let mut work = Lent::dirty(work_length, DIRTY_WORD);
+    let mut answer = Lent::dirty(answer_length, DIRTY_NUMBER);
+    let got = subject.decode(&record, out.cells(), work.cells(), answer.cells());
+
+    check_returned(got, want)?;
+    answer.check("answer", &mut want_answer)?;
+    out.check("out", &mut want_out)?;
+    work.check("work", &mut want_work)?;
+    check_input("the record", &record, &before)?;
+    Ok((want, header.map(|header| header.shape)))
+}
+
+/// Lengths of output and workspace: right, or at times one of them wrong.
+fn decode_room(chance: &mut Chance, header: Option<Header>) -> (usize, usize) {
+    let (area, least) = match header {
+        Some(Header { shape, .. }) => (shape.area(), shape.workspace()),
+        None => (chance.below(80), chance.below(300)),
+    };
+    match chance.below(32) {
+        0 => (area + 1, least),
+        1 => (area.saturating_sub(1), least),
+        2 => (chance.below(area + 1), chance.below(least + 1)),
+        3 => (area, least.saturating_sub(1)),
+        4 => (area, chance.below(least + 1)),
+        5..=8 => (area, least + chance.below(40)),
+        _ => (area, least),
+    }
+}

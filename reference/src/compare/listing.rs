@@ -1,0 +1,46 @@
+//! Cases of the part list program.
+
+use super::{header_of, Compared};
+use crate::generate::{records, Chance};
+use crate::partlist::LONGEST_INPUT;
+use std::io::Write;
+use std::path::Path;
+use std::process::{Command, Stdio};
+
+pub fn compare_partlist(chance: &mut Chance, base: &[u8], program: &Path) -> Compared {
+    let mut record = records::any_record(chance, base);
+    if record.len() > LONGEST_INPUT && chance.percent(80) {
+        record.truncate(LONGEST_INPUT - chance.below(2) * chance.below(LONGEST_INPUT));
+    }
+    let want = crate::partlist(&record);
+    let got = printed(program, &record)
+        .map_err(|error| format!("{} doesn't run: {error}", program.display()))?;
+    if got != want.as_bytes() {
+        let got = String::from_utf8_lossy(&got);
+        return Err(format!("printed\n{got}expected\n{want}"));
+    }
+    let shape = header_of(&record).map(|header| header.shape);
+    Ok((listed_number(&want), shape))
+}
+
+/// What a program prints for this input.
+fn printed(program: &Path, input: &[u8]) -> std::io::Result<Vec<u8>> {
+    let mut child = Command::new(program)
+        .stdin(Stdio::piped())
+        .stdout(Stdio::piped())
+        .stderr(Stdio::null())
+        .spawn()?;
+    let mut stdin = child.stdin.take().expect("the input is a pipe");
+    // A program that has read enough may close its input early. It prints
+    // less than a pipe holds, so that it never waits for its reader.
+    let _ = stdin.write_all(input);
+    drop(stdin);
+    Ok(child.wait_with_output()?.stdout)
+}
+
+/// The number in `refused NUMBER PLACE`, 0 for a list.
+fn listed_number(list: &str) -> u64 {
+    list.strip_prefix("refused ")
+        .and_then(|rest| rest.split(' ').next())
+        .map_or(0, |number| number.parse().expect("a number"))
+}

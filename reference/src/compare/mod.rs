@@ -1,0 +1,230 @@
+//! Comparison of a subject, reached through calls of the exported shape, with
+//! the library: the returned number, the answer, the output, the workspace.
+//!
+//! Every buffer is lent dirty, with guards on both sides that must stay as
+//! they are. A comparison counts its cases by answer, by N and by size, and
+//! is only good if none of the counts is 0.
+
+mod coding;
+mod decoding;
+mod lent;
+mod listing;
+mod serving;
+mod tally;
+
+use crate::generate::shapes::shape_of_case;
+use crate::generate::{records, Chance};
+use crate::layout::Header;
+use crate::portal;
+use crate::reading::Walk;
+use crate::size::Shape;
+use coding::compare_code;
+use decoding::compare_decode;
+use listing::compare_partlist;
+use serving::compare_serve;
+use std::path::Path;
+pub use tally::{Difference, Tally};
+
+/// What is compared with the library.
+pub trait Subject {
+    #[allow(clippy::too_many_arguments)]
+    fn code(
+        &self,
+        pyramid: &[i32],
+        w: u64,
+        h: u64,
+        n: u64,
+        out: &mut [u8],
+        work: &mut [u32],
+        answer: &mut [u64],
+    ) -> u64;
+
+    fn serve(
+        &self,
+        record: &[u8],
+        level: u64,
+        plane: u64,
+        out: &mut [u8],
+        answer: &mut [u64],
+    ) -> u64;
+
+    fn decode(&self, record: &[u8], out: &mut [i32], work: &mut [u32], answer: &mut [u64]) -> u64;
+}
+
+/// The library itself, through [`portal`]: tries the portal, and the
+/// comparison.
+pub struct Own;
+
+impl Subject for Own {
+    fn code(
+        &self,
+        pyramid: &[i32],
+        w: u64,
+        h: u64,
+        n: u64,
+        out: &mut [u8],
+        work: &mut [u32],
+        answer: &mut [u64],
+    ) -> u64 {
+        portal::afs_code(pyramid, w, h, n, out, work, answer)
+    }
+
+    fn serve(
+        &self,
+        record: &[u8],
+        level: u64,
+        plane: u64,
+        out: &mut [u8],
+        answer: &mut [u64],
+    ) -> u64 {
+        portal::afs_serve(record, level, plane, out, answer)
+    }
+
+    fn decode(&self, record: &[u8], out: &mut [i32], work: &mut [u32], answer: &mut [u64]) -> u64 {
+        portal::afs_decode(record, out, work, answer)
+    }
+}
+
+#[derive(Clone, Copy, Debug, PartialEq, Eq)]
+pub enum Routine {
+    Code,
+    Serve,
+    Decode,
+    /// The program; it has no subject but a path ([`run_partlist`]).
+    Partlist,
+}
+
+impl Routine {
+    /// Those that a [`Subject`] has.
+    pub const EXPORTED: [Routine; 3] = [Routine::Code, Routine::Serve, Routine::Decode];
+
+    pub fn name(self) -> &'static str {
+        match self {
+            Routine::Code => "code",
+            Routine::Serve => "serve",
+            Routine::Decode => "decode",
+            Routine::Partlist => "partlist",
+        }
+    }
+
+    /// The exported routine of this name.
+    pub fn exported(name: &str) -> Option<Routine> {
+        let mut exported = Routine::EXPORTED.iter().copied();
+        exported.find(|routine| routine.name() == name)
+    }
+
+    /// The numbers that the exported routine can give. Decoding has ROOM only
+    /// for an answer slice that is too short.
+    pub fn can_answer(self, number: u64) -> bool {
+        let numbers: &[u64] = match self {
+            Routine::Code => &[0, 1, 2, 3, 4, 5],
+            Routine::Serve => &[0, 1, 5, 6, 7, 8, 9, 11],
+            Routine::Decode => &[0, 1, 2, 3, 5, 6, 7, 8, 9, 10],
+            Routine::Partlist => &[0, 1, 5, 6, 7, 8, 9],
+        };
+        numbers.contains(&number)
+    }
+}
+
+/// Compares on so many cases of a seed, up to the first difference. Case i is
+/// the same however many there are.
+pub fn run(
+    routine: Routine,
+    count: u64,
+    seed: u64,
+    subject: &dyn Subject,
+    progress: &mut dyn FnMut(u64),
+) -> Result<Tally, Difference> {
+    let mut stock = Stock::new(seed);
+    all_cases(
+        routine,
+        count,
+        seed,
+        progress,
+        |chance, case| match routine {
+            Routine::Code => compare_code(chance, case, subject),
+            Routine::Serve => compare_serve(chance, stock.record(case), subject),
+            Routine::Decode => compare_decode(chance, stock.record(case), subject),
+            Routine::Partlist => Err("a subject has no part list".to_string()),
+        },
+    )
+}
+
+/// Compares what a program prints, given records on its standard input, with
+/// the library's part list.
+pub fn run_partlist(
+    program: &Path,
+    count: u64,
+    seed: u64,
+    progress: &mut dyn FnMut(u64),
+) -> Result<Tally, Difference> {
+    let mut stock = Stock::new(seed);
+    all_cases(Routine::Partlist, count, seed, progress, |chance, case| {
+        compare_partlist(chance, stock.record(case), program)
+    })
+}
+
+fn all_cases(
+    routine: Routine,
+    count: u64,
+    seed: u64,
+    progress: &mut dyn FnMut(u64),
+    mut compare: impl FnMut(&mut Chance, u64) -> Compared,
+) -> Result<Tally, Difference> {
+    let mut tally = Tally::new(routine, seed);
+    for case in 0..count {
+        match compare(&mut Chance::of_case(seed, case), case) {
+            Ok((number, shape)) => tally.count(number, shape),
+            Err(what) => {
+                return Err(Difference {
+                    routine,
+                    seed,
+                    case,
+                    what,
+                })
+            }
+        }
+        progress(case + 1);
+    }
+    Ok(tally)
+}
+
+/// Whole records to begin from. Some cases in a row share one, as making it
+/// takes longer than harming it.
+struct Stock {
+    seed: u64,
+    batch: Option<u64>,
+    record: Vec<u8>,
+}
+
+impl Stock {
+    const SHARED_BY: u64 = 8;
+
+    fn new(seed: u64) -> Stock {
+        Stock {
+            seed,
+            batch: None,
+            record: Vec::new(),
+        }
+    }
+
+    fn record(&mut self, case: u64) -> &[u8] {
+        let batch = case / Stock::SHARED_BY;
+        if self.batch != Some(batch) {
+            self.batch = Some(batch);
+            let mut chance = Chance::of_case(!self.seed, batch);
+            let shape = shape_of_case(&mut chance, batch);
+            self.record = records::any_whole(&mut chance, shape);
+        }
+        &self.record
+    }
+}
+
+/// The answer number of a case and its shape, if it has a legal one; or what
+/// differs.
+type Compared = Result<(u64, Option<Shape>), String>;
+
+/// The header that reading finds, if it finds one.
+fn header_of(record: &[u8]) -> Option<Header> {
+    Walk::begin(record).ok().map(|walk| walk.header())
+}

@@ -1,0 +1,226 @@
+//! The decoder: from any record to a pyramid, by its usable parts.
+
+use crate::family::Node;
+use crate::layout::{Bits, Header, RanOut};
+use crate::lists::AllLists;
+use crate::passes::{run_part, Side};
+use crate::reading::{Part, Walk};
+use crate::refusal::{Cause, Refusal};
+use crate::size::{Level, Plane, MOST_LEVELS, MOST_PLANES};
+use crate::slip::{Faithful, Slips};
+
+/// Number and place of a refusal, or 0, 0, the length of the record's tail
+/// and each level's reached plane, level 1 first.
+#[derive(Clone, Copy, Debug, Default, PartialEq, Eq)]
+pub struct DecodeAnswer {
+    pub number: u64,
+    pub place: u64,
+    pub tail: u64,
+    pub reached: [u64; MOST_LEVELS],
+}
+
+/// Decodes a record into a pyramid of exactly its size. After a refusal the
+/// output is all 0; the workspace is all 0 afterwards in any case.
+pub fn decode(record: &[u8], out: &mut [i32], work: &mut [u32]) -> DecodeAnswer {
+    decode_as::<Faithful>(record, out, work)
+}
+
+/// [`decode`], with the errors that `S` names.
+pub fn decode_as<S: Slips>(record: &[u8], out: &mut [i32], work: &mut [u32]) -> DecodeAnswer {
+    out.fill(0);
+    let outcome = decode_parts::<S>(record, out, work);
+    work.fill(0);
+    outcome.unwrap_or_else(|refusal| {
+        out.fill(0);
+        DecodeAnswer {
+            number: refusal.number(),
+            place: refusal.place(),
+            ..DecodeAnswer::default()
+        }
+    })
+}
+
+/// One walk reads, judges and decodes, because the first part at fault decides
+/// whatever its fault is.
+fn decode_parts<S: Slips>(
+    record: &[u8],
+    out: &mut [i32],
+    work: &mut [u32],
+) -> Result<DecodeAnswer, Refusal> {
+    let mut walk = Walk::begin(record)?;
+    let header = walk.header();
+    if out.len() != header.shape.area() {
+        return Err(Refusal::new(Cause::Length));
+    }
+    if work.len() < header.shape.workspace() {
+        return Err(Refusal::new(Cause::Work));
+    }
+    let mut decoding = Decoding {
+        header,
+        out,
+        lists: AllLists::start(header.shape, work),
+        usable: Usable::none_yet(header),
+    };
+    while let Some(part) = walk.next_part()? {
+        if S::TAKES_ABSENT_FOR_EMPTY {
+            decoding.take_absent_before::<S>(Some((part.plane, part.level)), part.offset)?;
+        }
+        if decoding.usable.enter::<S>(part.plane, part.level) {
+            decoding.run::<S>(&part)?;
+        }
+    }
+    if S::TAKES_ABSENT_FOR_EMPTY {
+        decoding.take_absent_before::<S>(None, record.len())?;
+    }
+    Ok(DecodeAnswer {
+        tail: walk.tail() as u64,
+        reached: decoding.usable.reached_planes(),
+        ..DecodeAnswer::default()
+    })
+}
+
+/// A decoding under way.
+struct Decoding<'d> {
+    header: Header,
+    out: &'d mut [i32],
+    lists: AllLists<'d>,
+    usable: Usable,
+}
+
+impl Decoding<'_> {
+    /// Runs a usable part's passes; its bits must do exactly.
+    fn run<S: Slips>(&mut self, part: &Part) -> Result<(), Refusal> {
+        let mut listener = Listener {
+            out: self.out,
+            bits: Bits::new(part.body, part.bits),
+        };
+        let ended = run_part::<S, _>(
+            self.header.shape,
+            &mut self.lists,
+            part.plane,
+            part.level,
+            &mut listener,
+        );
+        match ended {
+            Ok(()) if listener.bits.all_read() => Ok(()),
+            Ok(()) | Err(RanOut) => Err(Refusal::at(Cause::Fit, part.offset)),
+        }
+    }
+
+    /// A slip: what is absent before the given place in the order is run as
+    /// parts of 0 bits.
+    fn take_absent_before<S: Slips>(
+        &mut self,
+        until: Option<(Plane, Level)>,
+        offset: usize,
+    ) -> Result<(), Refusal> {
+        for (plane, level) in self.header.parts_in_order() {
+            if Some((plane, level)) == until {
+                break;
+            }
+            if !self.usable.is_usable(plane, level) && self.usable.enter::<S>(plane, level) {
+                self.run::<S>(&Part {
+                    offset,
+                    plane,
+                    level,
+                    bits: 0,
+                    body: &[],
+                    whole: &[],
+                })?;
+            }
+        }
+        Ok(())
+    }
+}
+
+/// Which parts are usable: (n, k) is if every part (n', k') with n' >= n and
+/// k' >= k is present whole.
+struct Usable {
+    header: Header,
+    table: [[bool; MOST_LEVELS]; MOST_PLANES as usize],
+}
+
+impl Usable {
+    fn none_yet(header: Header) -> Usable {
+        Usable {
+            header,
+            table: [[false; MOST_LEVELS]; MOST_PLANES as usize],
+        }
+    }
+
+    fn is_usable(&self, plane: Plane, level: Level) -> bool {
+        self.table[plane.0 as usize][level.0 as usize - 1]
+    }
+
+    /// Notes that a part is present, and says whether it is usable. All the
+    /// parts on which that depends come before it in the order. They are this
+    /// one, those on which the part one plane up depends, and those on which
+    /// the part one level coarser depends; so these two being usable says it.
+    fn enter<S: Slips>(&mut self, plane: Plane, level: Level) -> bool {
+        let is_top = plane.0 + 1 == self.header.planes;
+        let is_coarsest = level == self.header.shape.coarsest();
+        let usable = (is_top || self.is_usable(Plane(plane.0 + 1), level))
+            && (is_coarsest || self.is_usable(plane, Level(level.0 + 1)));
+        let usable = usable || S::GOES_ON_AFTER_LOSS;
+        self.table[plane.0 as usize][level.0 as usize - 1] = usable;
+        usable
+    }
+
+    /// The lowest plane whose part of this level is usable, or the number of
+    /// planes if none is.
+    fn reached(&self, level: Level) -> u32 {
+        (0..self.header.planes)
+            .find(|&plane| self.is_usable(Plane(plane), level))
+            .unwrap_or(self.header.planes)
+    }
+
+    /// Level 1 first, 0 beyond level N + 1.
+    fn reached_planes(&self) -> [u64; MOST_LEVELS] {
+        let mut reached = [0; MOST_LEVELS];
+        for level in self.header.shape.levels_downward() {
+            reached[level.0 as usize - 1] = self.reached(level).into();
+        }
+        reached
+    }
+}
+
+/// The decoder's side of a pass: reads each answer and draws it.
+struct Listener<'d, 'r> {
+    out: &'d mut [i32],
+    bits: Bits<'r>,
+}
+
+impl Side for Listener<'_, '_> {
+    type Stop = RanOut;
+
+    #[inline]
+    fn coefficient(&mut self, index: usize, plane: Plane) -> Result<bool, RanOut> {
+        let significant = self.bits.take()?;
+        if significant {
+            let magnitude = plane.threshold() as i32;
+            let negative = self.bits.take()?;
+            self.out[index] = if negative { -magnitude } else { magnitude };
+        }
+        Ok(significant)
+    }
+
+    #[inline]
+    fn descendants(&mut self, _: Node, _: Plane) -> Result<bool, RanOut> {
+        self.bits.take()
+    }
+
+    #[inline]
+    fn leaves(&mut self, _: Node, _: Plane) -> Result<bool, RanOut> {
+        self.bits.take()
+    }
+
+    /// A bit of 1 adds 2^n to the magnitude, whichever the sign. Either bit
+    /// goes the same way, as no branch could be foretold here.
+    #[inline]
+    fn refinement(&mut self, index: usize, plane: Plane) -> Result<(), RanOut> {
+        let added = i32::from(self.bits.take()?) << plane.0;
+        let coefficient = &mut self.out[index];
+        *coefficient += coefficient.signum() * added;
+        Ok(())
+    }
+}

@@ -1,0 +1,47 @@
+//! Layered coefficient records: a coder from a lent pyramid to a record, a
+//! server that keeps some parts of a record without decoding it, a decoder
+//! from any such record back to a pyramid.
+//!
+//! This is the second, separate implementation. It is written from the exact
+//! rules (called "the rules" in the comments here) and from the published
+//! FS-SPIHT steps, and shares no line with the product, so that a misreading
+//! of the rules by either shows as a difference between the two.
+//!
+//! The modules follow the rules' sections:
+//!
+//! * [`refusal`]: the numbers that a call may come back with
+//! * [`size`]: sizes, levels, planes
+//! * [`family`]: offspring, and the sets D and L
+//! * [`lists`], [`passes`]: the three lists of each level, and the passes
+//! * [`layout`]: numbers, header, parts, packed bits
+//! * [`reading`]: the walk over a record
+//! * [`coder`], [`server`], [`decoder`], [`partlist`]: the calls
+//! * [`portal`]: the same calls in the shape in which C sees them
+//!
+//! and for trying the product: [`generate`] makes pyramids and records,
+//! [`compare`] compares, [`slip`] holds the rules' "errors that look
+//! reasonable" so that the tests can be shown to catch them.
+
+pub mod coder;
+pub mod compare;
+pub mod decoder;
+pub mod family;
+pub mod generate;
+pub mod layout;
+pub mod lists;
+pub mod partlist;
+pub mod passes;
+pub mod portal;
+pub mod reading;
+pub mod refusal;
+pub mod server;
+pub mod size;
+pub mod slip;
+
+#[cfg(feature = "archive")]
+pub mod archive;
+
+pub use coder::{code, CodeAnswer};
+pub use decoder::{decode, DecodeAnswer};
+pub use partlist::partlist;
+pub use server::{serve, ServeAnswer};

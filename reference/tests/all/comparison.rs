@@ -1,0 +1,268 @@
+//! The comparison: the reference's own portal passes it, all that can occur
+//! occurs in it, and subjects that are wrong in one thing fail it.
+
+use reference::compare::{run, run_partlist, Difference, Own, Routine, Subject, Tally};
+use std::path::Path;
+use std::process::Command;
+
+fn compare(routine: Routine, count: u64, subject: &dyn Subject) -> Result<Tally, Difference> {
+    run(routine, count, 1, subject, &mut |_| {})
+}
+
+#[test]
+fn the_own_portal_is_equal_and_all_occurs() {
+    for routine in Routine::EXPORTED {
+        let tally = compare(routine, 4_000, &Own).unwrap_or_else(|d| panic!("{d}"));
+        assert_eq!(tally.missing(), [""; 0], "{tally}");
+    }
+}
+
+#[test]
+fn the_own_program_is_equal_and_all_occurs() {
+    let program = Path::new(env!("CARGO_BIN_EXE_partlist"));
+    let tally = run_partlist(program, 1_200, 1, &mut |_| {}).unwrap_or_else(|d| panic!("{d}"));
+    assert_eq!(tally.missing(), [""; 0], "{tally}");
+}
+
+#[test]
+fn a_wrong_program_is_caught() {
+    // It prints its usage, or nothing.
+    let program = Path::new(env!("CARGO_BIN_EXE_compare"));
+    assert!(run_partlist(program, 1, 1, &mut |_| {}).is_err());
+    let nowhere = Path::new("no/such/program");
+    assert!(run_partlist(nowhere, 1, 1, &mut |_| {}).is_err());
+}
+
+/// The program's exit status: 1 also where all is equal but too little of it.
+#[test]
+fn the_comparing_program() {
+    let run = |arguments: &[&str]| {
+        let output = Command::new(env!("CARGO_BIN_EXE_compare"))
+            .args(arguments)
+            .output()
+            .expect("the program runs");
+        let printed = String::from_utf8(output.stdout).expect("text");
+        (output.status.code(), printed)
+    };
+    let (status, printed) = run(&["serve", "2500", "3"]);
+    assert_eq!(status, Some(0), "{printed}");
+    assert!(printed.starts_with("serve: seed 3, 2500 cases, all equal\n"));
+    let (status, printed) = run(&["serve", "2"]);
+    assert_eq!(status, Some(1));
+    assert!(printed.contains("NO CASE OF answer"), "{printed}");
+    for wrong in [&["serve"][..], &["dance", "3"], &["code", "x"], &[]] {
+        assert_eq!(run(wrong), (Some(2), String::new()));
+    }
+}
+
+#[test]
+fn what_did_not_occur_is_named() {
+    let tally = compare(Routine::Serve, 1, &Own).unwrap();
+    assert!(tally.missing().len() > 10);
+}
+
+#[test]
+fn a_seed_gives_the_same_cases() {
+    let first = compare(Routine::Decode, 200, &Own).unwrap().to_string();
+    let again = compare(Routine::Decode, 200, &Own).unwrap().to_string();
+    assert_eq!(first, again);
+    assert!(
+        first.starts_with("decode: seed 1, 200 cases, all equal\n"),
+        "{first}"
+    );
+}
+
+/// The portal with one thing wrong afterwards.
+struct Wrong {
+    spoil: fn(&mut Lent),
+}
+
+/// All that a call was lent, where it has it, and what it returns.
+#[derive(Default)]
+struct Lent<'l> {
+    returned: u64,
+    bytes: &'l mut [u8],
+    coefficients: &'l mut [i32],
+    work: &'l mut [u32],
+    answer: &'l mut [u64],
+}
+
+impl Subject for Wrong {
+    fn code(
+        &self,
+        pyramid: &[i32],
+        w: u64,
+        h: u64,
+        n: u64,
+        out: &mut [u8],
+        work: &mut [u32],
+        answer: &mut [u64],
+    ) -> u64 {
+        let mut lent = Lent {
+            returned: Own.code(pyramid, w, h, n, out, work, answer),
+            bytes: out,
+            work,
+            answer,
+            ..Lent::default()
+        };
+        (self.spoil)(&mut lent);
+        lent.returned
+    }
+
+    fn serve(
+        &self,
+        record: &[u8],
+        level: u64,
+        plane: u64,
+        out: &mut [u8],
+        answer: &mut [u64],
+    ) -> u64 {
+        let mut lent = Lent {
+            returned: Own.serve(record, level, plane, out, answer),
+            bytes: out,
+            answer,
+            ..Lent::default()
+        };
+        (self.spoil)(&mut lent);
+        lent.returned
+    }
+
+    fn decode(&self, record: &[u8], out: &mut [i32], work: &mut [u32], answer: &mut [u64]) -> u64 {
+        let mut lent = Lent {
+            returned: Own.decode(record, out, work, answer),
+            coefficients: out,
+            work,
+            answer,
+            ..Lent::default()
+        };
+        (self.spoil)(&mut lent);
+        lent.returned
+    }
+}
+
+fn fails(routine: Routine, spoil: fn(&mut Lent)) {
+    let compared = compare(routine, 400, &Wrong { spoil });
+    assert!(compared.is_err(), "{}", routine.name());
+}
+
+#[test]
+fn a_wrong_number_or_place_is_caught() {
+    for routine in Routine::EXPORTED {
+        fails(routine, |lent| lent.returned = lent.returned.max(1));
+        fails(routine, |lent| {
+            if lent.returned >= 8 {
+                lent.returned = 8;
+            }
+            if let Some(place) = lent.answer.get_mut(1) {
+                *place += u64::from(lent.returned != 0);
+            }
+        });
+    }
+}
+
+#[test]
+fn a_wrong_count_is_caught() {
+    // Length, tail, reached plane of level 6.
+    fails(Routine::Code, |lent| bump(lent, 2));
+    fails(Routine::Serve, |lent| bump(lent, 3));
+    fails(Routine::Decode, |lent| bump(lent, 8));
+}
+
+fn bump(lent: &mut Lent, at: usize) {
+    if let Some(number) = lent.answer.get_mut(at) {
+        *number += 1;
+    }
+}
+
+#[test]
+fn an_answer_not_cleared_is_caught() {
+    for routine in Routine::EXPORTED {
+        fails(routine, |lent| {
+            if lent.answer.len() > 9 {
+                lent.answer[9] = 1;
+            }
+            if lent.returned == 5 && !lent.answer.is_empty() {
+                lent.answer[0] = 5;
+                lent.answer[lent.answer.len() - 1] = 5;
+            }
+        });
+    }
+}
+
+#[test]
+fn memory_left_dirty_is_caught() {
+    let dirty_work = |lent: &mut Lent| {
+        if let Some(last) = lent.work.last_mut() {
+            *last = 1;
+        }
+    };
+    fails(Routine::Code, dirty_work);
+    fails(Routine::Decode, dirty_work);
+    let dirty_refusal = |lent: &mut Lent| {
+        if lent.returned != 0 {
+            lent.bytes.iter_mut().take(1).for_each(|byte| *byte = 1);
+            lent.coefficients.iter_mut().take(1).for_each(|c| *c = 1);
+        }
+    };
+    for routine in Routine::EXPORTED {
+        fails(routine, dirty_refusal);
+    }
+    let dirty_end = |lent: &mut Lent| {
+        if let Some(last) = lent.bytes.last_mut() {
+            *last ^= 1;
+        }
+    };
+    fails(Routine::Code, dirty_end);
+    fails(Routine::Serve, dirty_end);
+}
+
+#[test]
+fn a_wrong_coefficient_is_caught() {
+    fails(Routine::Decode, |lent| {
+        if let (0, Some(last)) = (lent.returned, lent.coefficients.last_mut()) {
+            *last = -*last;
+        }
+    });
+}
+
+/// Writes just beyond what was lent.
+struct Overrun;
+
+impl Subject for Overrun {
+    fn code(
+        &self,
+        pyramid: &[i32],
+        w: u64,
+        h: u64,
+        n: u64,
+        out: &mut [u8],
+        work: &mut [u32],
+        answer: &mut [u64],
+    ) -> u64 {
+        Own.code(pyramid, w, h, n, out, work, answer)
+    }
+
+    fn serve(
+        &self,
+        record: &[u8],
+        level: u64,
+        plane: u64,
+        out: &mut [u8],
+        answer: &mut [u64],
+    ) -> u64 {
+        let number = Own.serve(record, level, plane, out, answer);
+        // The comparison keeps guards of its own around every slice it lends.
+        unsafe { *out.as_mut_ptr().add(out.len()) = 0 };
+        number
+    }
+
+    fn decode(&self, record: &[u8], out: &mut [i32], work: &mut [u32], answer: &mut [u64]) -> u64 {
+        Own.decode(record, out, work, answer)
+    }
+}
+
+#[test]
+fn writing_outside_is_caught() {
+    let difference = compare(Routine::Serve, 10, &Overrun).unwrap_err();
+    assert_eq!(difference.what, "written outside of out");
+}
