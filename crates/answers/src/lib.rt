@@ -1,11 +1,13 @@
 // The document's number and place for each verdict, made in one function each; and each answer's numbers at the front of a lent slice.
 ghost use mathlib.Core.Path.{_≡_};
-ghost use Prim.Native.Nat.{_≤_};
+ghost use Prim.Native.Nat.{_≤_, _<_};
 ghost use lib.ListN.{length};
 ghost use Rattle.rules.specs.Document.Numbers.{refusalNumber, refusalPlace, verdictNumber, verdictPlace};
-ghost use Rattle.rules.specs.Document.Calls.{codePlaces, servePlaces, decodePlaces, codeNumbers, serveNumbers, decodeNumbers};
+ghost use Rattle.rules.specs.Document.Calls.{levelPlaces, codePlaces, servePlaces, decodePlaces, codeNumbers, serveNumbers, planeIn, decodeNumbers};
 ghost use Rattle.answers.specs.Report.{Reported};
 use rules::Coded;
+use rules::Decoded;
+use rules::Plane;
 use rules::Refusal;
 use rules::Served;
 use rules::Verdict;
@@ -88,5 +90,33 @@ pub fn report_served(a: Served, answer: &mut [u64]) -> u64
     answer[1] = place(v);
     answer[2] = a.length as u64;
     answer[3] = a.tail as u64;
+    n
+}
+
+fn plane_number(planes: [Plane; 6], i: usize) -> u64
+    requires { ⌜ i < levelPlaces ⌝ }
+    ensures { λ n. ⌜ n ≡ planeIn planes i ⌝ }
+{
+    let p = planes[i];
+    p.0 as u64
+}
+
+pub fn report_decoded(a: Decoded, answer: &mut [u64]) -> u64
+    requires { ⌜ decodePlaces ≤ length (now answer) ⌝ }
+    ensures { λ n. ⌜ Reported (decodeNumbers a) (now (answer .entry)) n (now (answer .exit)) ⌝ }
+{
+    memory::zero_u64(answer);
+    let v = a.verdict;
+    let reached = a.reached;
+    let n = number(v);
+    answer[0] = n;
+    answer[1] = place(v);
+    answer[2] = a.tail as u64;
+    answer[3] = plane_number(reached, 0);
+    answer[4] = plane_number(reached, 1);
+    answer[5] = plane_number(reached, 2);
+    answer[6] = plane_number(reached, 3);
+    answer[7] = plane_number(reached, 4);
+    answer[8] = plane_number(reached, 5);
     n
 }

@@ -190,8 +190,11 @@ codeNumbers a = verdictNumber (a .verdict) ∷ verdictPlace (a .verdict) ∷ a .
 unfoldable pub serveNumbers : Served → List ℕ
 serveNumbers a = verdictNumber (a .verdict) ∷ verdictPlace (a .verdict) ∷ a .length ∷ a .tail ∷ []
 
+unfoldable pub planeIn : List Plane → ℕ → ℕ
+planeIn planes i = getD planes i (record { 0 = 0 }) .0
+
 unfoldable pub decodeNumbers : Decoded → List ℕ
-decodeNumbers a = verdictNumber (a .verdict) ∷ verdictPlace (a .verdict) ∷ a .tail ∷ map (λ p. p .0) (a .reached)
+decodeNumbers a = verdictNumber (a .verdict) ∷ verdictPlace (a .verdict) ∷ a .tail ∷ map (planeIn (a .reached)) (from 0 levelPlaces)
 
 -- "An exported call writes its answer, in the order told below, to the front of a lent slice of 64-bit numbers, the rest 0, and returns the
 -- first of them. A slice shorter than the answer gives 5 before any other check, with that slice and the output all 0."
