@@ -2,6 +2,8 @@
 pub mod Cases
 pub mod Count
 pub mod Family
+pub mod Sizes
+pub mod Offspring
 pub mod Tests
 pub mod Planes
 pub mod Simulation

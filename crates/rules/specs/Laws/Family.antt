@@ -2,14 +2,14 @@
 -- are of their parent's own level, so no field says that a level falls. A mask takes nothing out of a family: inside or not is a weight.
 use mathlib.Core.Path.{_≡_, refl, ap, sym, _∙_}
 use mathlib.Core.List.{List, [], _∷_, _++_}
-use mathlib.Core.Bool.{Bool, true, false, true≢false}
+use mathlib.Core.Bool.{true, false}
 use mathlib.Core.Logic.{_≢_}
-use Prim.Native.Nat.{ℕ, zero, suc, _+_, _≤_, _<_}
+use Prim.Native.Nat.{ℕ, suc, _+_, _≤_}
 use native.Mathlib.Omega.{arith}
 use lib.ListN.{length}
 use lib.Dec.{eqb}
 use borrow.Author.Tests.{eqb-true, eqb-false, eq-eqb}
-use Rattle.rules.specs.Document.Notation.{any, flat}
+use Rattle.rules.specs.Document.Notation.{flat}
 use Rattle.rules.specs.Document.Pyramid.{Family}
 use Rattle.rules.specs.Document.Passes.{Entry, typeA, typeB, members, inLevel, opened, added}
 use Rattle.rules.specs.Laws.Count.{sum, is, _∈_, Every, sum-append, in-flat, flat-in, sum-flat, sum-map, sum-ifAny, in-some, some-in, any-true, any-false, any-at}
@@ -24,7 +24,8 @@ pub record Lawful (F : Family) : Type 0 where
   -- Offspring are one level under their parent at most: so a set that leaves a level has members in the next.
   pub near : (p r : ℕ) → r ∈ F .offspring p → F .level p ≤ suc (F .level r)
   -- Offspring of one parent have offspring alike: so the sets that come of a set of type B all have members where it had.
-  pub alike : (p r s q : ℕ) → r ∈ F .offspring p → s ∈ F .offspring p → q ∈ F .offspring r → (t : ℕ) × (t ∈ F .offspring s) × (F .level q ≤ F .level t)
+  pub alike : (p r s q : ℕ) → r ∈ F .offspring p → s ∈ F .offspring p → q ∈ F .offspring r
+      → (t : ℕ) × (t ∈ F .offspring s) × (F .level q ≤ F .level t)
   -- Offspring come by four: so a set's members pay for the slots that come of it.
   pub four : (p r : ℕ) → r ∈ F .offspring p → 4 ≤ length (F .offspring p)
 
@@ -39,7 +40,9 @@ module _ (F : Family) where
 
   pub level-some : (k : ℕ) (e : Entry) → inLevel F k e ≡ true → (q : ℕ) × (q ∈ members F e) × (F .level q ≡ k)
   unfolding inLevel
-  level-some k e h = let w : (q : ℕ) × (q ∈ members F e) × (eqb (F .level q) k ≡ true) = any-true _ (members F e) h in (w .0, w .1, eqb-true _ _ (w .2))
+  level-some k e h =
+      let w : (q : ℕ) × (q ∈ members F e) × (eqb (F .level q) k ≡ true) = any-true _ (members F e) h in
+      (w .0, w .1, eqb-true _ _ (w .2))
 
   pub level-none : (k : ℕ) (e : Entry) → inLevel F k e ≡ false → Every (λ q. F .level q ≢ k) (members F e)
   unfolding inLevel
@@ -51,7 +54,8 @@ module _ (F : Family) (L : Lawful F) where
 
   pub further-descend : (p r q : ℕ) → r ∈ F .offspring p → q ∈ F .descendants r → q ∈ F .descendants p
   further-descend p r q i j =
-      rw (L .unfolds p) (omega (arith, sum-append (is q) (F .offspring p) (flat (F .descendants) (F .offspring p)), in-flat (F .descendants) (F .offspring p) r q i j))
+      let l : List ℕ = flat (F .descendants) (F .offspring p) in
+      rw (L .unfolds p) (omega (arith, sum-append (is q) (F .offspring p) l, in-flat (F .descendants) (F .offspring p) r q i j))
 
   -- Who has descendants has offspring.
   pub offspring-some : (p q : ℕ) → q ∈ F .descendants p → (r : ℕ) × (r ∈ F .offspring p)
@@ -100,7 +104,8 @@ module _ (F : Family) (L : Lawful F) where
       (omega (arith, L .highest (g .0) (g .3 .0) (w .0) (g .3 .1) (g .2), w .2, a .2, u (a .0) (grandchild-in p s (a .0) i (a .1))))
 
   -- A set that leaves level j + 1 has members in level j: one of type B that was made there, and one of type A that began there.
-  pub leaves-B : (j p : ℕ) → UpTo F (suc j) (typeA p) → inLevel F (suc j) (typeA p) ≡ true → 1 ≤ length (members F (typeB p)) → inLevel F (suc j) (typeB p) ≡ false
+  pub leaves-B : (j p : ℕ) → UpTo F (suc j) (typeA p) → inLevel F (suc j) (typeA p) ≡ true
+      → 1 ≤ length (members F (typeB p)) → inLevel F (suc j) (typeB p) ≡ false
       → inLevel F j (typeB p) ≡ true
   unfolding members
   leaves-B j p u h l n =
@@ -108,9 +113,10 @@ module _ (F : Family) (L : Lawful F) where
       let g : _ = grandchild p (w .0) (w .1) in
       let t : ℕ = g .3 .0 in
       let i : t ∈ members F (typeB p) = grandchild-in p (g .0) t (g .1) (g .3 .1) in
+      let a : t ∈ F .descendants p = further-descend p (g .0) t (g .1) (offspring-descend (g .0) t (g .3 .1)) in
       let d : F .level t ≢ suc j = level-none F (suc j) (typeB p) n t i in
       level-test F j t (typeB p) i
-      (omega (arith, opened-level (suc j) p u h (g .0) (g .1), L .near (g .0) t (g .3 .1), u t (further-descend p (g .0) t (g .1) (offspring-descend (g .0) t (g .3 .1)))))
+      (omega (arith, opened-level (suc j) p u h (g .0) (g .1), L .near (g .0) t (g .3 .1), u t a))
 
   pub leaves-A : (j p : ℕ) → UpTo F (suc j) (typeA p) → F .level p ≡ suc j → 1 ≤ length (F .offspring p) → inLevel F (suc j) (typeA p) ≡ false
       → inLevel F j (typeA p) ≡ true

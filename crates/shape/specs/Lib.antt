@@ -1,0 +1,5 @@
+pub mod Legal
+pub mod Levels
+pub mod Counts
+pub mod Offspring
+pub mod Planes
