@@ -1,5 +1,6 @@
 -- What follows from the definitions of Document.
 pub mod Cases
+pub mod Tests
 pub mod Count
 pub mod Family
 pub mod Sizes
@@ -16,10 +17,17 @@ pub mod State
 pub mod StateParts
 pub mod StateStart
 pub mod StateRecord
-pub mod Tests
-pub mod Planes
 pub mod Simulation
+pub mod Maxima
+pub mod Planes
+pub mod Parts
 pub mod Usable
+pub mod OneWalk
+pub mod ReadBackBody
+pub mod ReadBackNumber
+pub mod ReadBackPart
+pub mod ReadBack
+pub mod WholeParts
 pub mod Reading
 pub mod Walk
 pub mod Output

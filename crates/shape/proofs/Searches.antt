@@ -1,21 +1,21 @@
 -- The loops' searches: the first over, the largest, the count of planes.
-use mathlib.Core.Path.{_≡_, refl, ap, ap₂, sym, _∙_}
-use mathlib.Core.List.{List, [], _∷_}
-use mathlib.Core.Bool.{Bool, true, false, cond, true≢false}
+use mathlib.Core.Path.{_≡_, ap, sym, _∙_}
+use mathlib.Core.List.{List}
+use mathlib.Core.Bool.{Bool, true, false, cond}
 use Prim.Native.Nat.{ℕ, zero, suc, _+_, _-_, _^_, _≤_, _<_, max}
 use native.Mathlib.Nat.{zero-max, max-zero}
 use native.Mathlib.Numerals.{add-one}
 use native.Mathlib.Decide.{decLt}
 use native.Mathlib.Omega.{arith}
 use lib.Dec.{leb, ltb}
-use lib.ListN.{length, getD, drop, drop-of-length-le}
+use lib.ListN.{length, drop, drop-of-length-le}
 use lib.Seq.{drop-cons}
 use lib.IntN.{ℤ, pos, natAbs}
-use borrow.Author.Count.{below-more}
-use borrow.Author.Tests.{lt-ltb, le-ltb, le-leb, lt-leb, eq-eqb, ne-eqb}
+use borrow.Author.Tests.{lt-ltb, le-ltb, le-leb, lt-leb}
 use Rattle.rules.specs.Document.Notation.{lowest, greatest}
 use Rattle.rules.specs.Document.Pyramid.{magnitude, mostMagnitude, mostPlanes, log2Up, planesOf}
 use Rattle.rules.specs.Document.Calls.{firstOver}
+use Rattle.shape.specs.Planes.{planes-some}
 
 max-assoc : (a b c : ℕ) → max (max a b) c ≡ max a (max b c)
 max-assoc a b c = omega arith
@@ -26,7 +26,8 @@ unfolding lowest
 lowest-found t zero i h before here = omega arith
 lowest-found t (suc m) zero h before here = rw (here (omega arith))
 lowest-found t (suc m) (suc i) h before here =
-    rw (before 0 (omega arith)) (ap suc (lowest-found (λ k. t (suc k)) m i (omega arith) (λ k l. before (suc k) (omega arith)) (λ l. here (omega arith))))
+    rw (before 0 (omega arith))
+    (ap suc (lowest-found (λ k. t (suc k)) m i (omega arith) (λ k l. before (suc k) (omega arith)) (λ l. here (omega arith))))
 
 module _ (pyramid : List ℤ) where
   abbrev pub over : ℕ → Bool
@@ -37,7 +38,8 @@ module _ (pyramid : List ℤ) where
 
   pub over-found : (q : ℕ) → q < length pyramid → NoneOver q → {m : ℕ} → m ≡ magnitude pyramid q → mostMagnitude < m → q ≡ firstOver pyramid
   unfolding firstOver
-  over-found q h before {m} e l = lowest-found over (length pyramid) q (omega arith) before (λ k. lt-ltb mostMagnitude (magnitude pyramid q) (omega arith))
+  over-found q h before {m} e l =
+      lowest-found over (length pyramid) q (omega arith) before (λ k. lt-ltb mostMagnitude (magnitude pyramid q) (omega arith))
 
   pub over-nowhere : (q : ℕ) → q ≤ length pyramid → length pyramid ≤ q → NoneOver q → q ≡ firstOver pyramid
   unfolding firstOver
@@ -60,7 +62,8 @@ module _ (pyramid : List ℤ) where
   pub seen-onward : (m q r v : ℕ) → q < length pyramid → Seen m q → v ≡ magnitude pyramid q → r ≡ max m v → Seen r (q + 1)
   unfolding greatest magnitude
   seen-onward m q r v h e ev er =
-      rw (add-one q) (ap (λ (x : ℕ). max x (greatest natAbs (drop (suc q) pyramid))) (er ∙ ap (max m) ev) ∙ max-assoc _ _ _) ∙ rw (drop-cons pyramid q (pos 0) h) at e
+      rw (add-one q) (ap (λ (x : ℕ). max x (greatest natAbs (drop (suc q) pyramid))) (er ∙ ap (max m) ev) ∙ max-assoc _ _ _)
+      ∙ rw (drop-cons pyramid q (pos 0) h) at e
 
   pub seen-all : (m q : ℕ) → length pyramid ≤ q → Seen m q → m ≡ greatest natAbs pyramid
   unfolding greatest
@@ -70,28 +73,19 @@ module _ (m : ℕ) where
   abbrev pub Reaching : ℕ → Type 0
   Reaching e = log2Up e m ≡ log2Up mostPlanes m
 
-  pub planes-none : m ≡ 0 → 0 ≡ planesOf m
-  unfolding planesOf
-  planes-none h = rw (eq-eqb m 0 h)
-
-  planes-some : (m ≡ 0 → ⊥) → planesOf m ≡ suc (log2Up mostPlanes m)
-  unfolding planesOf
-  planes-some h = rw (ne-eqb m 0 h)
-
-  pub planes-found : (m ≡ 0 → ⊥) → (e t : ℕ) → 0 < e → Reaching e → t ≡ 2 ^ (e - 1) → t < m → e + 1 ≡ planesOf m
+  log2-step : (e t : ℕ) → 0 < e → t ≡ 2 ^ (e - 1) → log2Up e m ≡ cond (leb m t) (log2Up (e - 1) m) e
   unfolding log2Up
-  planes-found d zero t h r et l = absurd (omega arith)
-  planes-found d (suc e) t h r et l =
-      let i : suc e - 1 ≡ e = omega arith in
-      add-one (suc e) ∙ ap suc (sym (rw (lt-leb m (2 ^ e) (omega (arith, rw i at et)))) ∙ r) ∙ sym (planes-some d)
+  log2-step zero t h e = absurd (omega arith)
+  log2-step (suc e) t h i = let j : suc e - 1 ≡ e = omega arith in rw (i, j)
 
-  pub planes-onward : (e t : ℕ) → 0 < e → Reaching e → t ≡ 2 ^ (e - 1) → m ≤ t → Reaching (e - 1)
-  unfolding log2Up
-  planes-onward zero t h r et l = absurd (omega arith)
-  planes-onward (suc e) t h r et l =
-      let i : suc e - 1 ≡ e = omega arith in rw i (sym (rw (le-leb m (2 ^ e) (omega (arith, rw i at et)))) ∙ r)
+  module _ (e t : ℕ) (h : 0 < e) (i : t ≡ 2 ^ (e - 1)) (going : Reaching e) where
+    pub planes-found : (m ≡ 0 → ⊥) → t < m → e + 1 ≡ planesOf m
+    planes-found d l = add-one e ∙ ap suc (sym (log2-step e t h i ∙ rw (lt-leb m t l)) ∙ going) ∙ sym (planes-some m d)
+
+    pub planes-onward : m ≤ t → Reaching (e - 1)
+    planes-onward l = sym (log2-step e t h i ∙ rw (le-leb m t l)) ∙ going
 
   pub planes-one : (m ≡ 0 → ⊥) → (e : ℕ) → e ≤ 0 → Reaching e → 1 ≡ planesOf m
   unfolding log2Up
-  planes-one d zero h r = ap suc r ∙ sym (planes-some d)
+  planes-one d zero h r = ap suc r ∙ sym (planes-some m d)
   planes-one d (suc e) h r = absurd (omega arith)

@@ -1,18 +1,17 @@
--- Signed numbers of 32 bits, by sign and magnitude.
+-- Signed numbers of 32 bits, by sign and magnitude: read, handed on, written.
 use mathlib.Core.Path.{_≡_, refl, ap, ap₂, sym, _∙_}
 use mathlib.Core.List.{List}
 use mathlib.Core.Bool.{Bool, true, false, true≢false}
 use Prim.Native.Nat.{ℕ, zero, suc, _+_, _^_, _≤_, _<_}
 use native.Mathlib.Nat.{zero-add, suc-add}
 use native.Mathlib.Omega.{arith}
-use lib.Dec.{T}
 use lib.IntN.{ℤ, pos, negsuc, negℤ, natAbs, _-ℤ_, +ℤ-idl}
-use lib.Signed.{mag, ltZ, nonNeg}
+use lib.Signed.{mag, ltZ}
 use lib.ListN.{length, getD, set, List·getD-eq-default}
 use lib.Seq.{set-out, set-getD}
 use lib.Pow.{pow-lt}
 use mir.Syntax.{w32, w64}
-use mir.Val.{Fits, SFits, toZ, ofZ}
+use mir.Val.{SFits, toZ, ofZ}
 use mir.ValLaws.{toZ-ofZ, toZ-pos}
 use borrow.Author.Tests.{le-ltb}
 use Rattle.rules.specs.Document.Pyramid.{magnitude, below0, negative}
@@ -23,11 +22,11 @@ negative-below (pos m) = le-ltb m 0 (omega arith)
 negative-below (negsuc m) = refl
 
 -- 0 less a negative number, and a number that is not negative, are their magnitudes
-pub opposite : (v : ℤ) → below0 v ≡ true → pos 0 -ℤ v ≡ pos (natAbs v)
+opposite : (v : ℤ) → below0 v ≡ true → pos 0 -ℤ v ≡ pos (natAbs v)
 opposite (pos m) h = absurd (true≢false (sym h))
 opposite (negsuc m) h = ap pos (zero-add (suc m))
 
-pub itself : (v : ℤ) → below0 v ≡ false → v ≡ pos (natAbs v)
+itself : (v : ℤ) → below0 v ≡ false → v ≡ pos (natAbs v)
 itself (pos m) h = refl
 itself (negsuc m) h = absurd (true≢false h)
 
@@ -35,6 +34,7 @@ pub magnitude-fits : (v : ℤ) → SFits w32 v → natAbs v ≤ 2 ^ 31
 magnitude-fits (pos m) f = omega (arith, f .sfits)
 magnitude-fits (negsuc m) f = omega (arith, f .sfits)
 
+-- the magnitude, worked out in 64 bits
 module _ (v : ℤ) (f : SFits w32 v) where
   pub same : toZ w32 (ofZ w32 v) ≡ v
   same = toZ-ofZ w32 v f
@@ -68,6 +68,7 @@ opposite-fits : (m : ℕ) → m < 2 ^ 31 → SFits w32 (negℤ (pos m))
 opposite-fits zero h = record { sfits = omega arith }
 opposite-fits (suc m) h = record { sfits = omega arith }
 
+-- the way back
 module _ (m : ℕ) (h : m < 2 ^ 31) where
   minus : pos 0 -ℤ toZ w32 m ≡ negℤ (pos m)
   minus = rw (toZ-pos w32 m h) (+ℤ-idl (negℤ (pos m)))
@@ -96,9 +97,11 @@ module _ (v : ℤ) (f : SFits w32 v) (n m t : ℕ) (em : m ≡ natAbs (toZ w32 (
   pub grown-small : natAbs v < 2 ^ 30 → n < 30 → m + t < 2 ^ 31
   grown-small h l = omega (arith, em ∙ ap natAbs (same v f), pow-lt {i = n} {j = 30} l)
 
-  pub grown-read : (b : Bool) (r : ℤ) → b ≡ below0 (toZ w32 (ofZ w32 v)) → r ≡ signed b (m + t) → mag r < 2 ^ 31 → toZ w32 (ofZ w32 r) ≡ grown true (2 ^ n) v
+  pub grown-read : (b : Bool) (r : ℤ) → b ≡ below0 (toZ w32 (ofZ w32 v)) → r ≡ signed b (m + t) → mag r < 2 ^ 31
+      → toZ w32 (ofZ w32 r) ≡ grown true (2 ^ n) v
   grown-read b r eb er h =
-      handed r h ∙ er ∙ ap₂ signed (eb ∙ ap below0 (same v f)) (ap₂ (λ (x y : ℕ). x + y) (em ∙ ap natAbs (same v f)) et) ∙ grown-signed v (2 ^ n)
+      handed r h ∙ er ∙ ap₂ signed (eb ∙ ap below0 (same v f)) (ap₂ (λ (x y : ℕ). x + y) (em ∙ ap natAbs (same v f)) et)
+      ∙ grown-signed v (2 ^ n)
 
 module _ (pyramid : List ℤ) (q : ℕ) where
   pub past-end : length pyramid ≤ q → pos 0 ≡ getD pyramid q (pos 0)
@@ -125,6 +128,8 @@ module _ (pyramid : List ℤ) (q : ℕ) where
     unfolding grown
     refined-kept e = rw e (sym (set-getD pyramid q (pos 0)))
 
-    pub refined-written : (v r : ℤ) → b ≡ true → mag v < 2 ^ 31 → v ≡ getD pyramid q (pos 0) → r ≡ grown true (2 ^ n) (toZ w32 (ofZ w32 v)) → mag r < 2 ^ 31
+    pub refined-written : (v r : ℤ) → b ≡ true → mag v < 2 ^ 31 → v ≡ getD pyramid q (pos 0)
+        → r ≡ grown true (2 ^ n) (toZ w32 (ofZ w32 v)) → mag r < 2 ^ 31
         → set pyramid q (toZ w32 (ofZ w32 r)) ≡ set pyramid q (grown b (2 ^ n) (getD pyramid q (pos 0)))
-    refined-written v r e h ev er k = rw e (ap (set pyramid q) (handed r k ∙ er ∙ ap (grown true (2 ^ n)) (handed v h ∙ ev)))
+    refined-written v r e h ev er k =
+        rw e (ap (set pyramid q) (handed r k ∙ er ∙ ap (grown true (2 ^ n)) (handed v h ∙ ev)))

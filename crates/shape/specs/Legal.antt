@@ -1,23 +1,23 @@
 -- What a legal size has: bounds on its sides, and sides that halve exactly down to the LL band and once more.
-use mathlib.Core.Path.{_≡_, refl, ap, sym, _∙_}
-use mathlib.Core.Bool.{Bool, true, false, _&&_, and-eq-true-iff}
-use Prim.Native.Nat.{ℕ, zero, suc, _+_, _-_, _*_, _/_, _%_, _^_, _≤_, _<_}
+use mathlib.Core.Path.{_≡_, ap, sym, _∙_}
+use mathlib.Core.Bool.{true, _&&_, and-eq-true-iff}
+use Prim.Native.Nat.{ℕ, suc, _+_, _-_, _*_, _/_, _%_, _^_, _≤_}
 use native.Mathlib.Nat.{mul-assoc, mul-le-mul, pow-suc, div-add-mod'}
 use native.Mathlib.Omega.{arith}
 use lib.Pow.{pow-add, shl-shr}
 use lib.Dec.{leb, eqb}
 use borrow.Author.Tests.{leb-true, eqb-true}
 use Rattle.rules.specs.declared.Size.{Size}
-use Rattle.rules.specs.Document.Pyramid.{legalSide, legalSize, area}
+use Rattle.rules.specs.Document.Pyramid.{leastSide, greatestSide, mostDecompositions, legalSide, legalSize, area}
 
 pub record Side (n x : ℕ) : Type 0 where
-  pub least : 4 ≤ x
-  pub most : x ≤ 512
+  pub least : leastSide ≤ x
+  pub most : x ≤ greatestSide
   pub half : (k : ℕ) → k ≤ n → x / 2 ^ k ≡ 2 * (x / 2 ^ suc k)
 
 pub record Legal (z : Size) : Type 0 where
   pub some : 1 ≤ z .n
-  pub few : z .n ≤ 5
+  pub few : z .n ≤ mostDecompositions
   pub width : Side (z .n) (z .w)
   pub height : Side (z .n) (z .h)
 
@@ -53,5 +53,5 @@ legal z e =
       height = side-of (z .n) (z .h) (h .1);
     }
 
-pub area-bound : (z : Size) → legalSize z ≡ true → area z ≤ 2 ^ 18
+pub area-bound : (z : Size) → legalSize z ≡ true → area z ≤ greatestSide * greatestSide
 area-bound z e = let l = legal z e in mul-le-mul (l .width .most) (l .height .most)

@@ -1,17 +1,15 @@
 -- Levels of a legal size: a coefficient's level is over k exactly where it lies within k.
-use mathlib.Core.Path.{_≡_, refl, ap, ap₂, sym, _∙_}
-use mathlib.Core.Bool.{Bool, true, false, cond, _&&_, and-eq-true-iff, true≢false}
-use Prim.Native.Nat.{ℕ, zero, suc, _+_, _-_, _*_, _/_, _%_, _^_, _≤_, _<_}
+use mathlib.Core.Path.{_≡_, refl, ap, sym, _∙_}
+use mathlib.Core.Bool.{Bool, true, false, cond, and-eq-true-iff, true≢false}
+use Prim.Native.Nat.{ℕ, zero, suc, _+_, _-_, _/_, _^_, _≤_, _<_}
 use native.Mathlib.Nat.{mod-lt, mul-comm, div-one, div-lt-iff-lt-mul}
 use native.Mathlib.Decide.{decLt}
 use native.Mathlib.Omega.{arith}
-use lib.Arith.{digits-div, digits-mod}
 use lib.Pow.{shr-shr, shr-le}
 use lib.Dec.{ltb}
 use borrow.Author.Tests.{lt-ltb, le-ltb, ltb-true, ltb-false}
 use Rattle.rules.specs.declared.Size.{Size}
 use Rattle.rules.specs.Document.Pyramid.{area, row, column, within, levelUpTo, levelOf, levels}
-use Rattle.shape.specs.Legal.{Legal}
 
 pub quotient-falls : (x m k : ℕ) → m ≤ k → x / 2 ^ k ≤ x / 2 ^ m
 quotient-falls x m k h = let e : m + (k - m) ≡ k = omega arith in omega (arith, rw e at (shr-shr x m (k - m)), shr-le (x / 2 ^ m) (k - m))

@@ -1,7 +1,7 @@
 -- The count of planes: enough for the largest magnitude, and never over 17 for a magnitude that is legal.
 use mathlib.Core.Path.{_≡_, refl}
 use mathlib.Core.Bool.{Bool, true, false, cond}
-use Prim.Native.Nat.{ℕ, zero, suc, _+_, _*_, _^_, _≤_, _<_}
+use Prim.Native.Nat.{ℕ, zero, suc, _^_, _≤_, _<_}
 use native.Mathlib.Nat.{pow-suc}
 use native.Mathlib.Decide.{decLt, ℕ-discrete}
 use native.Mathlib.Omega.{arith}
@@ -29,11 +29,11 @@ log2-least (suc e) f m h = go (leb m (2 ^ e)) refl (decLt e f) (log2-least e f m
     go false t (yes l) r = l
     go false t (no l) r = absurd (omega (arith, leb-false m (2 ^ e) t, pow-mono {i = f} {j = e} (omega arith)))
 
-planes-none : (m : ℕ) → m ≡ 0 → planesOf m ≡ 0
+pub planes-none : (m : ℕ) → m ≡ 0 → planesOf m ≡ 0
 unfolding planesOf
 planes-none m e = rw (eq-eqb m 0 e)
 
-planes-some : (m : ℕ) → (m ≡ 0 → ⊥) → planesOf m ≡ suc (log2Up mostPlanes m)
+pub planes-some : (m : ℕ) → (m ≡ 0 → ⊥) → planesOf m ≡ suc (log2Up mostPlanes m)
 unfolding planesOf
 planes-some m d = rw (ne-eqb m 0 d)
 

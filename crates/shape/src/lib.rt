@@ -8,11 +8,13 @@ ghost use Prim.Native.Nat.{_+_, _*_, _/_, _%_, _^_, _≤_, _<_, max};
 ghost use lib.ListN.{getD, set};
 ghost use lib.IntN.{pos, natAbs};
 ghost use Rattle.rules.specs.Document.Notation.{greatest};
-ghost use Rattle.rules.specs.Document.Pyramid.{legalSide, legalSize, area, within, levels, levelOf, offspringOf, magnitude, negative, below0, planesOf};
+ghost use Rattle.rules.specs.Document.Pyramid.{greatestSide, mostDecompositions, legalSide, legalSize, area};
+ghost use Rattle.rules.specs.Document.Pyramid.{within, levels, levelOf, offspringOf, magnitude, negative, below0, planesOf};
 ghost use Rattle.rules.specs.Document.Passes.{signed, grown};
 ghost use Rattle.rules.specs.Document.Calls.{firstOver};
 ghost use Rattle.shape.specs.Counts.{span, levelStart, levelEnd, levelSize};
-ghost use Rattle.shape.specs.Offspring.{offspringList, folded, Node};
+ghost use Rattle.shape.specs.Offspring.{offspringList, folded};
+ghost use Rattle.shape.specs.Nodes.{Node};
 
 const LEAST_SIDE: usize = 4;
 
@@ -31,7 +33,7 @@ pub enum Offspring {
 }
 
 fn legal_side(n: usize, x: usize) -> bool
-    requires { ⌜ n ≤ 5 ⌝ }
+    requires { ⌜ n ≤ mostDecompositions ⌝ }
     ensures { λ r. ⌜ r ≡ legalSide n x ⌝ }
 {
     if x < LEAST_SIDE {
@@ -123,8 +125,8 @@ pub fn level_size(z: Size, k: Level) -> usize
 
 // i rounded down to even, and `band` more where i is odd.
 fn folded(i: usize, band: usize) -> usize
-    requires { ⌜ (i < 512) × (band ≤ 512) ⌝ }
-    ensures { λ r. ⌜ (r ≡ folded i band) × (r ≤ 1023) ⌝ }
+    requires { ⌜ (i < greatestSide) × (band ≤ greatestSide) ⌝ }
+    ensures { λ r. ⌜ (r ≡ folded i band) × (r < 2 * greatestSide) ⌝ }
 {
     i / 2 * 2 + i % 2 * band
 }

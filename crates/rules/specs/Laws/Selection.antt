@@ -22,7 +22,7 @@ use Rattle.rules.specs.Laws.Reading.{PartStands, readPart-stands}
 use Rattle.rules.specs.Laws.Walk.{partsFrom, readPart-past, partsFrom-part, partsFrom-tail}
 use Rattle.rules.specs.Laws.Local.{Same, movedTo, readPart-local}
 use Rattle.rules.specs.Laws.Tests.{both, both-left, both-right, either-right}
-use Rattle.rules.specs.Laws.Usable.{After, follows-after, after-after}
+use Rattle.rules.specs.Laws.Parts.{After, follows-after, after-follows, after-after}
 
 -- those that pass a test, in order
 unfoldable pub chosen : {X : Type 0} → (X → Bool) → List X → List X
@@ -56,16 +56,6 @@ module _ (h : Header) (s : List ℕ) where
   readParts-chain = readFrom-chain (length s) (record { plane = h .planes; level = 0 }) (h .end)
 
 -- The order of parts goes on over those left out.
-after-follows : (a b : PartName) → After a b → follows a b ≡ true
-unfolding follows
-after-follows a b x = go (decLt (b .plane) (a .plane))
-  where
-    go : Dec (b .plane < a .plane) → ltb (b .plane) (a .plane) || eqb (b .plane) (a .plane) && ltb (b .level) (a .level) ≡ true
-    go (yes l) = rw (lt-ltb (b .plane) (a .plane) l)
-    go (no l) =
-        let e : b .plane ≡ a .plane = omega (arith, x .downward) in
-        either-right (ltb (b .plane) (a .plane)) _ (both _ _ (eq-eqb (b .plane) (a .plane) e) (lt-ltb (b .level) (a .level) (x .in-plane (omega arith))))
-
 follows-follows : (a b c : PartName) → follows a b ≡ true → follows b c ≡ true → follows a c ≡ true
 follows-follows a b c x y = after-follows a c (after-after a b c (follows-after a b x) (follows-after b c y))
 

@@ -1,9 +1,9 @@
 -- A walk is what its side says and tells; the decoder, on the bits that the coder spoke, tells the coder's outcomes and makes its lists.
 use mathlib.Core.Path.{_≡_, refl, ap, ap₂, sym, _∙_}
 use mathlib.Core.List.{List, [], _∷_, _++_, append-assoc, append-nil}
-use mathlib.Core.Bool.{Bool, true, false}
+use mathlib.Core.Bool.{Bool, false}
 use mathlib.Core.Logic.{_↔_}
-use Prim.Native.Nat.{ℕ, zero, suc, _+_, _≤_, _<_}
+use Prim.Native.Nat.{ℕ, suc, _+_, _≤_, _<_}
 use native.Mathlib.Omega.{arith}
 use native.Mathlib.Decide.{decLt}
 use native.Mathlib.Nat.{zero-add}
@@ -12,7 +12,8 @@ use lib.IntN.{ℤ}
 use lib.Seq.{drop-cons}
 use Rattle.rules.specs.Document.Notation.{flat}
 use Rattle.rules.specs.Document.Pyramid.{Family}
-use Rattle.rules.specs.Document.Passes.{Entry, Question, Event, toLip, toLsp, stays, moves, refined, Talk, done, ask, tell, Lists, pass, Reply, Side, walk, Course, listed, withSide, listing, passed, State, after, PartName, truth, coder, coded, Reader, written, decoder, decoded}
+use Rattle.rules.specs.Document.Passes.{Entry, Question, Event, toLip, toLsp, stays, moves, refined, Talk, done, ask, tell, Lists, pass, Side, walk, Course, listed, withSide, listing, passed, State, after, PartName, truth, coder, coded, Reader, written, decoder, decoded}
+use Rattle.rules.specs.Laws.Tests.{clash}
 
 -- What a side says and tells on a walk.
 module _ {S : Type 0} (C : Side S) where
@@ -127,7 +128,14 @@ listed-side (refined p b) c s = refl
 
 extended-none : {S : Type 0} (c : Course S) → extended c [] (c .side) ≡ c
 unfolding extended flat
-extended-none c = λ i. record { lip = append-nil (c .lip) i; lsp = append-nil (c .lsp) i; lis = append-nil (c .lis) i; moved = append-nil (c .moved) i; side = c .side }
+extended-none c =
+    λ i. record {
+      lip = append-nil (c .lip) i;
+      lsp = append-nil (c .lsp) i;
+      lis = append-nil (c .lis) i;
+      moved = append-nil (c .moved) i;
+      side = c .side;
+    }
 
 extended-one : {S : Type 0} (e : Event) (es : List Event) (c : Course S) (s r : S) → extended (listed e c s) es r ≡ extended c (e ∷ es) r
 unfolding extended listed flat lipOf lspOf lisOf movedOf
@@ -137,7 +145,8 @@ extended-one (stays e) es c s r = rw append-assoc
 extended-one (moves e) es c s r = rw append-assoc
 extended-one (refined p b) es c s r = refl
 
-pub lists-told : {S : Type 0} (C : Side S) (t : Talk) (c : Course S) → walk (listing C) t c ≡ extended c (told C t (c .side)) (walk C t (c .side))
+pub lists-told : {S : Type 0} (C : Side S) (t : Talk) (c : Course S)
+    → walk (listing C) t c ≡ extended c (told C t (c .side)) (walk C t (c .side))
 unfolding walk told
 lists-told C done c = sym (extended-none c)
 lists-told C (ask q go) c =
@@ -184,7 +193,9 @@ module _ (F : Family) (mag : ℕ → ℕ) (neg : ℕ → Bool) (n : ℕ) where
   pub coder-spoken : (t : Talk) (bits : List Bool) → walk (coder F mag neg n) t bits ≡ bits ++ spoken (truth F mag neg n) t
   unfolding walk spoken
   coder-spoken done bits = sym (append-nil bits)
-  coder-spoken (ask q go) bits = coder-spoken (go (truth F mag neg n q)) (bits ++ (truth F mag neg n q ∷ [])) ∙ append-assoc bits (truth F mag neg n q ∷ []) _
+  coder-spoken (ask q go) bits =
+      let b : Bool = truth F mag neg n q in
+      coder-spoken (go b) (bits ++ (b ∷ [])) ∙ append-assoc bits (b ∷ []) _
   coder-spoken (tell e next) bits = coder-spoken next bits
 
   pub coder-tells : (t : Talk) (bits : List Bool) → told (coder F mag neg n) t bits ≡ outcomes (truth F mag neg n) t
@@ -198,6 +209,12 @@ module _ (F : Family) (mag : ℕ → ℕ) (neg : ℕ → Bool) (n : ℕ) where
       ≡ course l (outcomes (truth F mag neg n) (pass F k l)) (bits ++ spoken (truth F mag neg n) (pass F k l))
   coder-passed k l bits =
       passed-told F k (coder F mag neg n) l bits ∙ ap₂ (course l) (coder-tells (pass F k l) bits) (coder-spoken (pass F k l) bits)
+
+not-short : (es : List Event) (rest : List Bool) → whole es rest ≡ short → ⊥
+not-short es rest e = clash (cc)
+
+rest-same : (es fs : List Event) (rest left : List Bool) → whole es rest ≡ whole fs left → rest ≡ left
+rest-same es fs rest left e = cc
 
 -- A reader takes a bit for each that it says.
 module _ {S : Type 0} (C : Side S) (bit : ℕ → Bool) (taken : S → ℕ) (reads : Reads C bit taken) where
@@ -253,12 +270,6 @@ module _ {S : Type 0} (C : Side S) (bit : ℕ → Bool) (taken : S → ℕ) (rea
         ap (λ i. noted e (heard next (drop i bits))) (sym (reads .none-taken e s))
         ∙ ap (noted e) (reads-short next (C .note e s) (omega (arith, reads .none-taken e s)) h)
 
-    not-short : (es : List Event) (rest : List Bool) → whole es rest ≡ short → ⊥
-    not-short es rest e = let z : _≡_ {A = ℕ} 0 1 = cc in omega arith
-
-    rest-same : (es fs : List Event) (rest left : List Bool) → whole es rest ≡ whole fs left → rest ≡ left
-    rest-same es fs rest left e = cc
-
     pub beyond-is-short : (t : Talk) (s : S) → taken s ≤ length bits
         → (length bits < taken (walk C t s)) ↔ (heard t (drop (taken s) bits) ≡ short)
     beyond-is-short t s g = (reads-short t s g, λ e. cases e (decLt (length bits) (taken (walk C t s))))
@@ -275,11 +286,38 @@ module _ {S : Type 0} (C : Side S) (bit : ℕ → Bool) (taken : S → ℕ) (rea
         there : taken (walk C t s) ≡ length bits → heard t (drop (taken s) bits) ≡ whole (told C t s) []
         there e = reads-whole t s (omega arith) ∙ ap (whole (told C t s)) (drop-of-length-le bits {i = taken (walk C t s)} (omega arith))
 
-        cases : heard t (drop (taken s) bits) ≡ whole (told C t s) [] → Dec (length bits < taken (walk C t s)) → taken (walk C t s) ≡ length bits
+        cases : heard t (drop (taken s) bits) ≡ whole (told C t s) [] → Dec (length bits < taken (walk C t s))
+            → taken (walk C t s) ≡ length bits
         cases e (yes l) = absurd (not-short _ _ (sym e ∙ reads-short t s g l))
         cases e (no l) =
             let none : drop (taken (walk C t s)) bits ≡ [] = rest-same _ _ _ _ (sym (reads-whole t s (omega arith)) ∙ e) in
             omega (arith, length-drop (taken (walk C t s)) bits, ap length none)
+
+    -- some are left over
+    pub under-is-left : (t : Talk) (s : S) → taken s ≤ length bits
+        → (taken (walk C t s) < length bits)
+        ↔ ((b : Bool) × (rest : List Bool) × (heard t (drop (taken s) bits) ≡ whole (told C t s) (b ∷ rest)))
+    under-is-left t s g = (there, λ w. cases (w .0) (w .1) (w .2) (decLt (taken (walk C t s)) (length bits)))
+      where
+        place : ℕ
+        place = taken (walk C t s)
+
+        there : place < length bits → (b : Bool) × (rest : List Bool) × (heard t (drop (taken s) bits) ≡ whole (told C t s) (b ∷ rest))
+        there l = (
+          getD bits place false,
+          drop (suc place) bits,
+          reads-whole t s (omega arith) ∙ ap (whole (told C t s)) (drop-cons bits place false l),
+        )
+
+        cases : (b : Bool) (rest : List Bool) → heard t (drop (taken s) bits) ≡ whole (told C t s) (b ∷ rest) → Dec (place < length bits) → place < length bits
+        cases b rest e (yes l) = l
+        cases b rest e (no l) = absurd (none (decLt (length bits) place))
+          where
+            none : Dec (length bits < place) → ⊥
+            none (yes m) = not-short _ _ (sym e ∙ reads-short t s g m)
+            none (no m) =
+                let same : b ∷ rest ≡ [] = rest-same _ _ _ _ (sym e ∙ fit-is-whole t s g .0 (omega arith)) in
+                omega (arith, ap length same)
 
 -- The decoder.
 module _ (bit : ℕ → Bool) (n : ℕ) where
@@ -307,6 +345,23 @@ module _ (bit : ℕ → Bool) (n : ℕ) where
         taken = (taken-said (decoder bit n) bit (λ r. r .taken) reads t r ∙ ap (λ bits. r .taken + length bits) says) i;
         pyramid = (pyramid-drawn t r ∙ ap (λ es. drawn n es (r .pyramid)) tells) i;
       })
+
+-- So on the bits that the coder spoke, followed by anything, the decoder makes the coder's lists.
+pub record SameLists {S T : Type 0} (c : Course S) (d : Course T) : Type 0 where
+  pub lips : c .lip ≡ d .lip
+  pub lsps : c .lsp ≡ d .lsp
+  pub liss : c .lis ≡ d .lis
+  pub moveds : c .moved ≡ d .moved
+
+course-same : {S T : Type 0} (l : Lists) (es : List Event) (x : S) (y : T) → SameLists (course l es x) (course l es y)
+unfolding course
+course-same l es x y = record { lips = refl; lsps = refl; liss = refl; moveds = refl }
+
+pub decoder-follows : (F : Family) (mag : ℕ → ℕ) (neg : ℕ → Bool) (n k : ℕ) (l : Lists) (bits : List Bool) (bit : ℕ → Bool) (r : Reader)
+    → ((i : ℕ) → i < length (spoken (truth F mag neg n) (pass F k l)) → bit (r .taken + i) ≡ getD (spoken (truth F mag neg n) (pass F k l)) i false)
+    → SameLists (passed F k (decoder bit n) l r) (passed F k (coder F mag neg n) l bits)
+decoder-follows F mag neg n k l bits bit r h =
+    rw (decoder-passed bit n F (truth F mag neg n) k l r h, coder-passed F mag neg n k l bits) (course-same l _ _ _)
 
 -- Parts: what the coder makes of one, and what the decoder makes of one whose bits are those.
 module _ (F : Family) (mag : ℕ → ℕ) (neg : ℕ → Bool) (p : PartName) (s : State) where

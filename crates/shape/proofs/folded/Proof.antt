@@ -1,25 +1,20 @@
+-- `shape::folded`: the sum stays under twice the greatest side.
 use mathlib.Core.Path.{refl}
-use Rattle.shape.proofs.Sizes.{folded-small}
 use native.Mathlib.Omega.{arith}
 use borrow.Author.Needs.{needs}
+use Rattle.shape.proofs.Sizes.{folded-small}
 use Rattle.shape.proofs.folded.Statement.{statement}
 use Rattle.shape.proofs.folded.Tie as tie
-use Rattle.shape.proofs.folded.Reads as reads
-use Rattle.shape.proofs.folded.Lts as lts
 
--- src/lib.rt:123:5
 mul-result : tie.Need-mul-result
 mul-result c = search needs
 
--- src/lib.rt:123:17
 mul-result-2 : tie.Need-mul-result-2
 mul-result-2 c = record { fits = omega (arith, folded-small (c .args .i) (c .args .band) (c .pre .0) (c .pre .1)) }
 
--- src/lib.rt:123:5
 add-result : tie.Need-add-result
 add-result c = record { fits = omega (arith, folded-small (c .args .i) (c .args .band) (c .pre .0) (c .pre .1)) }
 
--- src/lib.rt:119:1
 returns : tie.Need-returns
 returns c = (refl, folded-small _ _ (c .pre .0) (c .pre .1))
 

@@ -1,34 +1,27 @@
-use Rattle.shape.proofs.Sizes.{shifted, side-short, side-long, side-multiple}
+-- `shape::legal_side`: the bounds first, then the power of two, which fits.
+use Prim.Native.Nat.{_+_}
 use native.Mathlib.Omega.{arith}
 use lib.Pow.{pow-pos}
-use Prim.Native.Nat.{_+_}
 use borrow.Author.Needs.{needs}
+use Rattle.shape.proofs.Sizes.{shifted, side-short, side-long, side-multiple}
 use Rattle.shape.proofs.legal_side.Statement.{statement}
 use Rattle.shape.proofs.legal_side.Tie as tie
-use Rattle.shape.proofs.legal_side.Reads as reads
-use Rattle.shape.proofs.legal_side.Lts as lts
 
--- src/lib.rt:32:9
 returns : tie.Need-returns
 returns c = side-short _ _ (c .if1 .taken)
 
--- src/lib.rt:35:9
 returns-2 : tie.Need-returns-2
 returns-2 c = side-long _ _ (c .before .if1 .left) (c .if2 .taken)
 
--- src/lib.rt:37:16
 add-result : tie.Need-add-result
 add-result c = search needs
 
--- src/lib.rt:37:10
 shl-result : tie.Need-shl-result
 shl-result c = search needs
 
--- src/lib.rt:37:5
 rem-result : tie.Need-rem-result
 rem-result c = let n = c .before .before .args .n in rw (shifted (n + 1) 64 (omega arith)) (pow-pos (n + 1))
 
--- src/lib.rt:27:1
 returns-3 : tie.Need-returns-3
 returns-3 c = side-multiple _ _ (c .before .before .pre) (c .before .if1 .left) (c .if2 .left)
 

@@ -1,33 +1,27 @@
-use Rattle.shape.proofs.Sizes.{size-few, size-many, size-first, size-second}
-use mathlib.Core.Path.{_≡_, sym, _∙_}
+-- `shape::legal_size`: N first, then both sides.
+use mathlib.Core.Path.{_∙_}
 use borrow.Author.Needs.{needs}
+use Rattle.shape.proofs.Sizes.{size-few, size-many, size-first, size-second}
 use Rattle.shape.proofs.legal_size.Statement.{statement}
 use Rattle.shape.proofs.legal_size.Tie as tie
-use Rattle.shape.proofs.legal_size.Reads as reads
-use Rattle.shape.proofs.legal_size.Lts as lts
-use Rattle.shape.proofs.legal_side.Reads as legal-side-reads
 
--- src/lib.rt:45:9
 returns : tie.Need-returns
 returns c = size-few _ (c .if1 .taken)
 
--- src/lib.rt:48:9
 returns-2 : tie.Need-returns-2
 returns-2 c = size-many _ (c .before .before .if1 .left) (c .if2 .taken)
 
--- src/lib.rt:50:8
 legal-side-requires : tie.Need-legal-side-requires
 legal-side-requires c κs = search needs
 
--- src/lib.rt:51:9
 legal-side-requires-2 : tie.Need-legal-side-requires-2
 legal-side-requires-2 c κs = search needs
 
--- src/lib.rt:41:1
 returns-3 : tie.Need-returns-3
-returns-3 c = c .legal-side2 .ensures ∙ size-second _ (c .before .before .before .before .before .if1 .left) (c .before .before .before .if2 .left) (c .before .before .legal-side .ensures) (c .before .if3 .taken)
+returns-3 c =
+    c .legal-side2 .ensures
+    ∙ size-second _ (c .before .before .before .before .before .if1 .left) (c .before .before .before .if2 .left) (c .before .before .legal-side .ensures) (c .before .if3 .taken)
 
--- src/lib.rt:41:1
 returns-4 : tie.Need-returns-4
 returns-4 c = size-first _ (c .before .before .before .before .if1 .left) (c .before .before .if2 .left) (c .before .legal-side .ensures) (c .if3 .left)
 

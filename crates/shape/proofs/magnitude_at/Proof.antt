@@ -1,22 +1,16 @@
-use Rattle.shape.proofs.Signed.{magnitude-read}
+-- `shape::magnitude_at`: the magnitude of what is read.
 use mathlib.Core.Path.{_∙_}
 use borrow.Author.Needs.{needs}
+use Rattle.shape.proofs.Signed.{magnitude-read}
 use Rattle.shape.proofs.magnitude_at.Statement.{statement}
 use Rattle.shape.proofs.magnitude_at.Tie as tie
-use Rattle.shape.proofs.magnitude_at.Reads as reads
-use Rattle.shape.proofs.magnitude_at.Lts as lts
-use Rattle.shape.proofs.coefficient_at.Reads as coefficient-at-reads
-use Rattle.shape.proofs.magnitude_of.Reads as magnitude-of-reads
 
--- src/lib.rt:213:18
 coefficient-at-requires : tie.Need-coefficient-at-requires
 coefficient-at-requires c κs = search needs
 
--- src/lib.rt:213:5
 magnitude-of-requires : tie.Need-magnitude-of-requires
 magnitude-of-requires c κs = search needs
 
--- src/lib.rt:210:1
 returns : tie.Need-returns
 returns c = c .magnitude-of .ensures ∙ magnitude-read _ _ _ (c .before .coefficient-at .ok) (c .before .coefficient-at .ensures)
 

@@ -1,30 +1,22 @@
-use Rattle.shape.specs.Legal.{area-bound}
-use Rattle.shape.specs.Offspring.{node-band, node-elsewhere, node-finest}
+-- `shape::offspring_in`: by the level: the LL band, elsewhere, none.
 use native.Mathlib.Omega.{arith}
-use borrow.Author.Needs.{needs}
+use Rattle.shape.specs.Legal.{area-bound}
+use Rattle.shape.specs.Nodes.{node-band, node-elsewhere, node-finest}
 use Rattle.shape.proofs.offspring_in.Statement.{statement}
 use Rattle.shape.proofs.offspring_in.Tie as tie
-use Rattle.shape.proofs.offspring_in.Reads as reads
-use Rattle.shape.proofs.offspring_in.Lts as lts
-use Rattle.shape.proofs.offspring_in_band.Reads as offspring-in-band-reads
 
--- src/lib.rt:147:9
 offspring-in-band-requires : tie.Need-offspring-in-band-requires
 offspring-in-band-requires c κs = (c .before .before .before .pre .legal, node-band (c .before .before .before .pre) (c .if1 .taken))
 
--- src/lib.rt:147:9
 returns : tie.Need-returns
 returns c = c .offspring-in-band .ensures
 
--- src/lib.rt:150:33
 mul-t5 : tie.Need-mul-t5
 mul-t5 c = record { fits = omega (arith, area-bound _ (c .before .before .before .before .before .pre .legal)) }
 
--- src/lib.rt:150:9
 returns-2 : tie.Need-returns-2
 returns-2 c = node-elsewhere (c .before .before .before .before .before .pre) (c .before .before .if1 .left) (c .if2 .taken)
 
--- src/lib.rt:142:1
 returns-3 : tie.Need-returns-3
 returns-3 c = node-finest (c .before .before .before .before .before .pre) (c .if2 .left)
 
