@@ -4,11 +4,11 @@ use mathlib.Core.Bool.{Bool, true, false}
 use mathlib.Core.List.{List}
 use Prim.Native.Nat.{ℕ, zero, suc, _+_, _-_, _*_, _/_, _%_, _^_, _≤_, _<_}
 use native.Mathlib.Nat.{pow-suc, zero-div, add-zero, not-suc-le-zero, le-of-suc-le-suc}
+use native.Mathlib.Decide.{decLt}
 use native.Mathlib.Omega.{arith}
-use lib.Dec.{ltb, eqb}
+use lib.Dec.{eqb}
 use lib.Pow.{high, low, field, mod-mod-pow}
 use lib.ListN.{length, getD, List·getD-eq-default}
-use borrow.Author.Tests.{ltb-true, ltb-false}
 use Rattle.rules.specs.Document.Layout.{bytesFor, bitNumber, eightBits, packFrom, packed, bitAt, clearFrom, padClear}
 
 bit-small : (b : Bool) → bitNumber b < 2
@@ -27,7 +27,8 @@ one-more false p rest h = omega arith
 eightBits-below : (bits : List Bool) (i m : ℕ) → eightBits bits i m < 2 ^ m
 unfolding eightBits
 eightBits-below bits i zero = omega arith
-eightBits-below bits i (suc m) = rw (pow-suc 2 m) (one-more (getD bits i false) (2 ^ m) (eightBits bits (suc i) m) (eightBits-below bits (suc i) m))
+eightBits-below bits i (suc m) =
+    rw (pow-suc 2 m) (one-more (getD bits i false) (2 ^ m) (eightBits bits (suc i) m) (eightBits-below bits (suc i) m))
 
 lower-bit : (hi m k rest : ℕ) → k < m → rest < 2 ^ m → (hi * 2 ^ m + rest) / 2 ^ k % 2 ≡ rest / 2 ^ k % 2
 lower-bit hi m k rest h g =
@@ -106,11 +107,11 @@ packed-past bits t h =
     ∙ sym (List·getD-eq-default bits false (omega arith))
 
 pub bitAt-packed : (bits : List Bool) (t : ℕ) → bitAt (packed bits) t ≡ getD bits t false
-bitAt-packed bits t = go (ltb (t / 8) (bytesFor (length bits))) refl
-  where
-    go : (b : Bool) → ltb (t / 8) (bytesFor (length bits)) ≡ b → bitAt (packed bits) t ≡ getD bits t false
-    go true e = packed-within bits t (ltb-true (t / 8) (bytesFor (length bits)) e)
-    go false e = packed-past bits t (ltb-false (t / 8) (bytesFor (length bits)) e)
+bitAt-packed bits t =
+    elim (decLt (t / 8) (bytesFor (length bits))) [
+      | yes h ↦ packed-within bits t h
+      | no h ↦ packed-past bits t (omega arith)
+    ]
 
 -- Its padding is clear.
 clearFrom-all : (body : List ℕ) (i n : ℕ) → ((t : ℕ) → i ≤ t → bitAt body t ≡ false) → clearFrom body i n ≡ true

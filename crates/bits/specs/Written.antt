@@ -8,18 +8,22 @@ use native.Mathlib.Omega.{arith}
 use lib.Bits.{bitOr, or-shifted}
 use lib.Pow.{pow-lt}
 use lib.ListN.{length, getD, set, length-set, List·getD-eq-default}
-use lib.Seq.{sets, set-getD, getD-set-other}
+use lib.Seq.{sets, set-out, set-getD, getD-set-other}
 use Rattle.rules.specs.Document.Layout.{bytesFor, bitNumber, eightBits, packFrom, packed}
 use Rattle.bits.specs.Bits.{withBit, setBit, writeBits}
 
--- Writing keeps the length, and goes on where it stopped.
+-- Writing a 0, or past the end, leaves all as it was; writing keeps the length, and goes on where it stopped.
 pub setBit-length : (out : List ℕ) (t : ℕ) (b : Bool) → length (setBit out t b) ≡ length out
 unfolding setBit
 setBit-length out t b = length-set out (t / 8) (withBit (getD out (t / 8) 0) (t % 8) b)
 
-setBit-none : (out : List ℕ) (t : ℕ) → setBit out t false ≡ out
+pub setBit-none : (out : List ℕ) (t : ℕ) → setBit out t false ≡ out
 unfolding setBit
 setBit-none out t = set-getD out (t / 8) 0
+
+pub setBit-past : (out : List ℕ) (t : ℕ) (b : Bool) → length out ≤ t / 8 → setBit out t b ≡ out
+unfolding setBit
+setBit-past out t b h = set-out out (t / 8) (withBit (getD out (t / 8) 0) (t % 8) b) h
 
 pub writeBits-length : (out : List ℕ) (t : ℕ) (bits : List Bool) → length (writeBits out t bits) ≡ length out
 unfolding writeBits
@@ -39,7 +43,8 @@ writeFrom : List ℕ → ℕ → List Bool → ℕ → ℕ → List ℕ
 writeFrom out t bits i zero = out
 writeFrom out t bits i (suc n) = writeFrom (setBit out t (getD bits i false)) (t + 1) bits (suc i) n
 
-writeFrom-tail : (out : List ℕ) (t : ℕ) (b : Bool) (bits : List Bool) (i n : ℕ) → writeFrom out t (b ∷ bits) (suc i) n ≡ writeFrom out t bits i n
+writeFrom-tail : (out : List ℕ) (t : ℕ) (b : Bool) (bits : List Bool) (i n : ℕ)
+    → writeFrom out t (b ∷ bits) (suc i) n ≡ writeFrom out t bits i n
 unfolding writeFrom
 writeFrom-tail out t b bits i zero = refl
 writeFrom-tail out t b bits i (suc n) = writeFrom-tail (setBit out t (getD bits i false)) (t + 1) b bits (suc i) n
@@ -47,7 +52,8 @@ writeFrom-tail out t b bits i (suc n) = writeFrom-tail (setBit out t (getD bits 
 writeFrom-none : (out : List ℕ) (t : ℕ) (bits : List Bool) (i n : ℕ) → length bits ≤ i → writeFrom out t bits i n ≡ out
 unfolding writeFrom
 writeFrom-none out t bits i zero h = refl
-writeFrom-none out t bits i (suc n) h = rw (List·getD-eq-default bits false h, setBit-none) (writeFrom-none out (t + 1) bits (suc i) n (omega arith))
+writeFrom-none out t bits i (suc n) h =
+    rw (List·getD-eq-default bits false h, setBit-none) (writeFrom-none out (t + 1) bits (suc i) n (omega arith))
 
 writeFrom-add : (out : List ℕ) (t : ℕ) (bits : List Bool) (i n more : ℕ)
     → writeFrom out t bits i (n + more) ≡ writeFrom (writeFrom out t bits i n) (t + n) bits (i + n) more
@@ -100,7 +106,8 @@ byte-written out k bits i (suc m) a h =
     ∙ ap (set out k) (ap (λ x. x + eightBits bits (suc i) m) (sym (next-bit a m b)) ∙ omega arith))
 
 -- All bytes, one after the other.
-first-byte : (out : List ℕ) (k : ℕ) (bits : List Bool) (i : ℕ) → getD out k 0 ≡ 0 → writeFrom out (8 * k) bits i 8 ≡ set out k (eightBits bits i 8)
+first-byte : (out : List ℕ) (k : ℕ) (bits : List Bool) (i : ℕ) → getD out k 0 ≡ 0
+    → writeFrom out (8 * k) bits i 8 ≡ set out k (eightBits bits i 8)
 first-byte out k bits i z =
     let clear : set out k 0 ≡ out = ap (set out k) (sym z) ∙ set-getD out k 0 in
     rw (clear, add-zero, zero-add) at (byte-written out k bits i 8 0 (omega arith))

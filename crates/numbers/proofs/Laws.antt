@@ -9,7 +9,8 @@ use lib.Seq.{sets}
 use lib.Pow.{pow-mono, pow-add}
 use Rattle.rules.specs.declared.Number.the-variants.{TooManyBytes, CutOff}
 use Rattle.rules.specs.Document.Layout.{groups, numberBytes, numberFrom, readNumber}
-use Rattle.numbers.specs.Written.{groups-last, groups-next, lastByte, numberFrom-cut, numberFrom-last, numberFrom-next, numberBytes-last, numberBytes-next, numberBytes-length}
+use Rattle.numbers.specs.Written.{groups-last, groups-next, numberBytes-last, numberBytes-next, numberBytes-length}
+use Rattle.numbers.specs.Written.{lastByte, numberFrom-cut, numberFrom-last, numberFrom-next}
 
 -- What is left to read of a number that began at `at`: up to `left` bytes, the next one at `place`.
 pub record Reading (s : List ℕ) (at place worth value left : ℕ) : Type 0 where
@@ -18,12 +19,12 @@ pub record Reading (s : List ℕ) (at place worth value left : ℕ) : Type 0 whe
   pub most : left ≤ 4
   pub below : value < worth
 
-module _ (s : List ℕ) (at : ℕ) where
+module _ {s : List ℕ} {at : ℕ} where
   pub reading-begins : Reading s at at 1 0 4
   unfolding readNumber
   reading-begins = record { same = refl; worth-is = refl; most = omega arith; below = omega arith }
 
-  module _ (place worth value left : ℕ) (r : Reading s at place worth value left) where
+  module _ {place worth value left : ℕ} (r : Reading s at place worth value left) where
     pub reading-none : left ≡ 0 → TooManyBytes ≡ readNumber s at
     unfolding numberFrom
     reading-none z = rw z at (r .same)
@@ -38,13 +39,13 @@ module _ (s : List ℕ) (at : ℕ) where
       pub reading-cut : length s ≤ place → CutOff ≡ readNumber s at
       reading-cut g = sym (numberFrom-cut (left - 1) s place worth value g) ∙ from-more
 
-      module _ (i : place < length s) (byte : ℕ) (e : byte ≡ getD s place 0) where
+      module _ (i : place < length s) {byte : ℕ} (e : byte ≡ getD s place 0) where
         pub reading-last : byte < 128 → lastByte value worth byte (place + 1) ≡ readNumber s at
         reading-last g = rw e (sym (numberFrom-last (left - 1) s place worth value i (omega arith)) ∙ from-more)
 
-        pub reading-next : (next : ℕ) → 128 ≤ byte → (next ≡ value + (byte - 128) * worth) × (next < worth * 128)
+        pub reading-next : {next : ℕ} → 128 ≤ byte → (next ≡ value + (byte - 128) * worth) × (next < worth * 128)
             → Reading s at (place + 1) (worth * 128) next (left - 1)
-        reading-next next g n =
+        reading-next {next} g n =
             let d : 28 - 7 * left + 7 ≡ 28 - 7 * (left - 1) = omega arith in
             record {
               same = rw (n .0, e) (sym (numberFrom-next (left - 1) s place worth value i (omega arith)) ∙ from-more);
@@ -87,15 +88,15 @@ pub record Writing (d : List ℕ) (at value : ℕ) (out : List ℕ) (place rest 
   pub ends : place + length (numberBytes rest) ≡ at + length (numberBytes value)
   pub list : sets out place (numberBytes rest) ≡ sets d at (numberBytes value)
 
-module _ (d : List ℕ) (at value : ℕ) where
+module _ {d : List ℕ} {at value : ℕ} where
   pub writing-begins : value < 2 ^ 28 → Writing d at value d at value
   writing-begins h = record { fits = h; same = refl; ends = refl; list = refl }
 
-  module _ (out : List ℕ) (place rest : ℕ) (w : Writing d at value out place rest) where
+  module _ {out : List ℕ} {place rest : ℕ} (w : Writing d at value out place rest) where
     pub writing-place : place ≤ at + 3
     writing-place = omega (arith, numberBytes-length value, numberBytes-length rest)
 
-    module _ (stored : List ℕ) where
+    module _ {stored : List ℕ} where
       pub writing-next : stored ≡ set out place (rest % 128 + 128) → 128 ≤ rest → Writing d at value stored (place + 1) (rest / 128)
       writing-next s h =
           let e = numberBytes-next rest h (w .fits) in

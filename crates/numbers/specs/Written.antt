@@ -1,16 +1,16 @@
 -- Laws of a number's bytes and of reading them: one group at a time, how many and how large they are, and that what was written is read.
 use mathlib.Core.Path.{_≡_, refl, sym, ap, ap₂, _∙_}
-use mathlib.Core.Logic.{⊎-elim, _⊎_, inl, inr}
 use mathlib.Core.List.{List, [], _∷_, _++_}
 use mathlib.Core.Bool.{Bool, true, false, cond, _&&_}
 use Prim.Native.Nat.{ℕ, zero, suc, _+_, _-_, _*_, _/_, _%_, _^_, _≤_, _<_}
 use native.Mathlib.Nat.{mul-assoc, mul-comm, add-mul, mul-le-mul-left, mul-le-mul-right, pow-suc}
+use native.Mathlib.Decide.{decLt}
 use native.Mathlib.Omega.{arith}
 use lib.Dec.{ltb, eqb}
 use lib.ListN.{length, getD, take, drop, length-append, length-drop, take-append-drop}
 use lib.Pow.{pow-mono, pow-add}
 use lib.Seq.{getD-append-seam, append-snoc, length-take-le}
-use borrow.Author.Tests.{ltb-true, ltb-false, lt-ltb, le-ltb, le-leb, lt-leb, eq-eqb, ne-eqb}
+use borrow.Author.Tests.{ltb-true, lt-ltb, le-ltb, le-leb, lt-leb, eq-eqb, ne-eqb}
 use Rattle.rules.specs.declared.Number.{Number}
 use Rattle.rules.specs.declared.Number.the-variants.{Value, LongForm, CutOff}
 use Rattle.rules.specs.Document.Layout.{groups, numberBytes, numberFrom, readNumber}
@@ -26,21 +26,19 @@ unfolding groups
 groups-next more v h = rw (le-ltb v 128 h) refl
 
 -- What holds of a last group, and of a number where it holds of the number without its lowest group, holds of every number that fits.
-below-or-not : (v n : ℕ) → (v < n) ⊎ (n ≤ v)
-below-or-not v n = go (ltb v n) refl
-  where
-    go : (b : Bool) → ltb v n ≡ b → (v < n) ⊎ (n ≤ v)
-    go true e = inl (ltb-true v n e)
-    go false e = inr (ltb-false v n e)
-
 one-less : (more v : ℕ) → v < 128 ^ suc (suc more) → v / 128 < 128 ^ suc more
 one-less more v h = let g : v < 128 ^ suc more * 128 = rw (pow-suc 128 (suc more)) at h in omega arith
 
-module _ (P : ℕ → ℕ → Type 0) (last : (more v : ℕ) → v < 128 → P more v) (next : (more v : ℕ) → 128 ≤ v → P more (v / 128) → P (suc more) v) where
+module _ (P : ℕ → ℕ → Type 0)
+    (last : (more v : ℕ) → v < 128 → P more v)
+    (next : (more v : ℕ) → 128 ≤ v → P more (v / 128) → P (suc more) v) where
   by-groups : (more v : ℕ) → v < 128 ^ suc more → P more v
   by-groups zero v h = last zero v h
   by-groups (suc more) v h =
-      ⊎-elim (last (suc more) v) (λ g. next more v g (by-groups more (v / 128) (one-less more v h))) (below-or-not v 128)
+      elim (decLt v 128) [
+        | yes g ↦ last (suc more) v g
+        | no g ↦ next more v (omega arith) (by-groups more (v / 128) (one-less more v h))
+      ]
 
 -- Where the groups left are enough, their number makes no difference.
 groups-enough : (more v : ℕ) → v < 128 ^ suc more → groups more v ≡ groups (suc more) v
@@ -60,13 +58,12 @@ numberBytes-next v h g = groups-next 2 v h ∙ ap (λ l. (v % 128 + 128) ∷ l) 
 -- Between one and four bytes.
 groups-length : (more v : ℕ) → (1 ≤ length (groups more v)) × (length (groups more v) ≤ suc more)
 unfolding groups
-groups-length zero v = (omega arith, omega arith)
-groups-length (suc more) v = go (groups-length more (v / 128)) (ltb v 128)
-  where
-    go : (1 ≤ length (groups more (v / 128))) × (length (groups more (v / 128)) ≤ suc more) → (b : Bool)
-        → (1 ≤ length (cond b (v ∷ []) ((v % 128 + 128) ∷ groups more (v / 128)))) × (length (cond b (v ∷ []) ((v % 128 + 128) ∷ groups more (v / 128))) ≤ suc (suc more))
-    go h true = (omega arith, omega arith)
-    go h false = (omega arith, omega arith)
+groups-length zero v = omega arith
+groups-length (suc more) v =
+    elim (decLt v 128) [
+      | yes h ↦ rw (groups-last (suc more) v h) (omega arith)
+      | no h ↦ let g = groups-length more (v / 128) in rw (groups-next more v (omega arith)) (omega arith)
+    ]
 
 pub numberBytes-length : (v : ℕ) → (1 ≤ length (numberBytes v)) × (length (numberBytes v) ≤ 4)
 unfolding numberBytes
@@ -84,7 +81,8 @@ numberBytes-bytes v h =
     one v g zero = omega arith
     one v g (suc i) = omega arith
 
-    another : (more v : ℕ) → ((i : ℕ) → getD (groups more (v / 128)) i 0 < 256) → (i : ℕ) → getD ((v % 128 + 128) ∷ groups more (v / 128)) i 0 < 256
+    another : (more v : ℕ) → ((i : ℕ) → getD (groups more (v / 128)) i 0 < 256) → (i : ℕ)
+        → getD ((v % 128 + 128) ∷ groups more (v / 128)) i 0 < 256
     another more v all zero = omega arith
     another more v all (suc i) = all i
 
@@ -95,10 +93,12 @@ lastByte value worth byte end = cond (ltb 1 worth && eqb byte 0) LongForm (Value
 pub lastByte-long : (value worth byte end : ℕ) → 1 < worth → byte ≡ 0 → lastByte value worth byte end ≡ LongForm
 lastByte-long value worth byte end h z = rw (lt-ltb 1 worth h, eq-eqb byte 0 z) refl
 
-pub lastByte-value : (value worth byte end : ℕ) → (1 < worth → 0 < byte) → lastByte value worth byte end ≡ Value (value + byte * worth) end
+pub lastByte-value : (value worth byte end : ℕ) → (1 < worth → 0 < byte)
+    → lastByte value worth byte end ≡ Value (value + byte * worth) end
 lastByte-value value worth byte end h = go (ltb 1 worth) refl
   where
-    go : (b : Bool) → ltb 1 worth ≡ b → cond (b && eqb byte 0) LongForm (Value (value + byte * worth) end) ≡ Value (value + byte * worth) end
+    go : (b : Bool) → ltb 1 worth ≡ b
+        → cond (b && eqb byte 0) LongForm (Value (value + byte * worth) end) ≡ Value (value + byte * worth) end
     go true e = let g = h (ltb-true 1 worth e) in rw (ne-eqb byte 0 (λ z. omega arith)) refl
     go false e = refl
 
@@ -122,7 +122,8 @@ module _ (more : ℕ) (s : List ℕ) (at worth value : ℕ) where
 Read : ℕ → ℕ → Type 0
 Read more v =
     (before after : List ℕ) (worth value : ℕ) → (1 < worth → 0 < v)
-    → numberFrom (suc more) (before ++ (groups more v ++ after)) (length before) worth value ≡ Value (value + v * worth) (length before + length (groups more v))
+    → numberFrom (suc more) (before ++ (groups more v ++ after)) (length before) worth value
+    ≡ Value (value + v * worth) (length before + length (groups more v))
 
 read-last : (more v : ℕ) → v < 128 → Read more v
 unfolding Read
@@ -213,21 +214,21 @@ module _ (s : List ℕ) (bytes : (i : ℕ) → getD s i 0 < 256) (v end : ℕ) w
   unfolding numberFrom
   from-whole zero at worth value h q = let z : _≡_ {A = ℕ} 0 1 = cc in absurd (omega arith)
   from-whole (suc more) at worth value h q =
-      ⊎-elim
-      (λ (i : at < length s).
-      ⊎-elim
-      (λ (g : getD s at 0 < 128).
-      let e = lastByte-whole value worth (getD s at 0) (at + 1) v end h g (sym (numberFrom-last more s at worth value i g) ∙ q) in
-      omega (arith, worth-next worth more .0))
-      (λ (g : 128 ≤ getD s at 0).
-      let b = group-below value worth (getD s at 0 - 128) h (omega (arith, bytes at)) in
-      let e = from-whole more (at + 1) (worth * 128) (value + (getD s at 0 - 128) * worth) b (sym (numberFrom-next more s at worth value i g) ∙ q) in
-      omega (arith, worth-next worth more .1))
-      (below-or-not (getD s at 0) 128))
-      (λ (i : length s ≤ at).
-      let e = sym (numberFrom-cut more s at worth value i) ∙ q in
-      let z : _≡_ {A = ℕ} 0 1 = cc in absurd (omega arith))
-      (below-or-not at (length s))
+      elim (decLt at (length s)) [
+        | yes i ↦ elim (decLt (getD s at 0) 128) [
+          | yes g ↦
+              let e = lastByte-whole value worth (getD s at 0) (at + 1) v end h g (sym (numberFrom-last more s at worth value i g) ∙ q) in
+              omega (arith, worth-next worth more .0)
+          | no g ↦
+              let next = value + (getD s at 0 - 128) * worth in
+              let b : next < worth * 128 = group-below value worth (getD s at 0 - 128) h (omega (arith, bytes at)) in
+              let w = from-whole more (at + 1) (worth * 128) next b (sym (numberFrom-next more s at worth value i (omega arith)) ∙ q) in
+              omega (arith, worth-next worth more .1)
+        ]
+        | no i ↦
+            let e = sym (numberFrom-cut more s at worth value (omega arith)) ∙ q in
+            let z : _≡_ {A = ℕ} 0 1 = cc in absurd (omega arith)
+      ]
 
   pub readNumber-whole : (at : ℕ) → readNumber s at ≡ Value v end → Whole s at v end
   unfolding readNumber

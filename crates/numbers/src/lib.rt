@@ -42,8 +42,8 @@ pub fn read_number(s: &[u8], at: usize) -> Number
     let mut place = at;
     let mut worth = 1;
     let mut value = 0;
-    let mut left: usize = 4;
-    while 0 < left {
+    let mut bytes_left: usize = 4;
+    while 0 < bytes_left {
         if s.len() <= place {
             return Number::CutOff;
         }
@@ -54,7 +54,7 @@ pub fn read_number(s: &[u8], at: usize) -> Number
         }
         value = with_group(value, worth, byte - 128);
         worth *= 128;
-        left -= 1;
+        bytes_left -= 1;
     }
     Number::TooManyBytes
 }

@@ -14,22 +14,27 @@ abbrev μ-loop : tie.MeasureT-loop
 μ-loop body bits position₀ position = 8 * bytesFor bits - position .at
 
 loop-holds : tie.Need-loop-holds Inv-loop μ-loop
-loop-holds c = clear-begins _ _
+loop-holds c = clear-begins
 
 read-requires : tie.Need-read-requires Inv-loop μ-loop
 read-requires c κs = search needs
 
 returns : tie.Need-returns Inv-loop μ-loop
-returns c = not-clear _ _ _ (c .before .before .before .before .loop .inv) (c .before .before .if1 .taken) _ (c .before .read .ensures .0) (c .if2 .taken)
+returns c =
+    let clear = c .before .before .before .before .loop .inv in
+    not-clear clear (c .before .before .if1 .taken) (c .before .read .ensures .0) (c .if2 .taken)
 
 loop-less : tie.Need-loop-less Inv-loop μ-loop
 loop-less c = search needs
 
 loop-again : tie.Need-loop-again Inv-loop μ-loop
-loop-again c = clear-next _ _ _ (c .before .before .before .before .before .loop .inv) (c .before .before .before .if1 .taken) _ (c .before .before .read .ensures .0) _ (c .before .if2 .left) (c .before .before .read .ensures .1)
+loop-again c =
+    let clear = c .before .before .before .before .before .loop .inv in
+    let read = c .before .before .read .ensures in
+    clear-next clear (c .before .before .before .if1 .taken) (read .0) (c .before .if2 .left) (read .1)
 
 returns-2 : tie.Need-returns-2 Inv-loop μ-loop
-returns-2 c = clear-all _ _ _ (c .before .before .loop .inv) (omega arith)
+returns-2 c = clear-all (c .before .before .loop .inv) (omega arith)
 
 pub padding-clear-spec : {M : Type 1} → statement M
 padding-clear-spec =

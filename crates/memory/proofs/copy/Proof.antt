@@ -25,7 +25,7 @@ lesser-requires-2 : tie.Need-lesser-requires-2 Inv-loop μ-loop
 lesser-requires-2 c κs = search needs
 
 loop-holds : tie.Need-loop-holds Inv-loop μ-loop
-loop-holds c = (omega arith, copied-none _ _ _ _ _)
+loop-holds c = (omega arith, copied-none)
 
 add-to : tie.Need-add-to Inv-loop μ-loop
 add-to c = search needs
@@ -46,13 +46,13 @@ loop-less : tie.Need-loop-less Inv-loop μ-loop
 loop-less c = omega arith
 
 loop-again : tie.Need-loop-again Inv-loop μ-loop
-loop-again c = (omega arith, copied-more _ _ _ _ _ _ _ (c .before .before .loop .inv .1) (omega arith))
+loop-again c = (omega arith, copied-more (c .before .before .loop .inv .1) (omega arith))
 
 same-length : tie.Need-same-length Inv-loop μ-loop
 same-length c = omega arith
 
 returns : tie.Need-returns Inv-loop μ-loop
-returns c = copied-all _ _ _ _ _ _ _ (c .before .loop .inv .1) (omega arith)
+returns c = copied-all (c .before .loop .inv .1) (omega arith)
 
 pub copy-spec : {M : Type 1} → statement M
 copy-spec =

@@ -22,7 +22,7 @@ lesser-requires : tie.Need-lesser-requires Inv-loop μ-loop
 lesser-requires c κs = search needs
 
 loop-holds : tie.Need-loop-holds Inv-loop μ-loop
-loop-holds c = (omega arith, moved-none _ _ _ _)
+loop-holds c = (omega arith, moved-none)
 
 sub-i : tie.Need-sub-i Inv-loop μ-loop
 sub-i c = search needs
@@ -46,13 +46,13 @@ loop-less : tie.Need-loop-less Inv-loop μ-loop
 loop-less c = omega arith
 
 loop-again : tie.Need-loop-again Inv-loop μ-loop
-loop-again c = (omega arith, moved-more _ _ _ _ _ _ (c .before .before .loop .inv .1) (omega arith) (omega arith) (omega arith))
+loop-again c = (omega arith, moved-more (c .before .before .loop .inv .1) (omega arith) (omega arith) (omega arith))
 
 same-length : tie.Need-same-length Inv-loop μ-loop
 same-length c = omega arith
 
 returns : tie.Need-returns Inv-loop μ-loop
-returns c = moved-all _ _ _ _ (c .before .before .before .before .before .before .args .count) _ _ (c .before .loop .inv .1) (omega arith) (omega arith)
+returns c = moved-all (c .before .loop .inv .1) (c .before .before .before .before .before .before .args .count) (omega arith) (omega arith)
 
 pub move-right-spec : {M : Type 1} → statement M
 move-right-spec =

@@ -14,7 +14,7 @@ abbrev μ-loop : tie.MeasureT-loop
 μ-loop s₀ i₀ s i = length s₀ - i
 
 loop-holds : tie.Need-loop-holds Inv-loop μ-loop
-loop-holds c = filled-none 0 _
+loop-holds c = filled-none
 
 mul-s : tie.Need-mul-s Inv-loop μ-loop
 mul-s c = search needs
@@ -29,13 +29,13 @@ loop-less : tie.Need-loop-less Inv-loop μ-loop
 loop-less c = omega arith
 
 loop-again : tie.Need-loop-again Inv-loop μ-loop
-loop-again c = filled-more 0 _ _ _ (c .before .loop .inv) (omega arith)
+loop-again c = filled-more (c .before .loop .inv) (omega arith)
 
 same-length : tie.Need-same-length Inv-loop μ-loop
 same-length c = omega arith
 
 returns : tie.Need-returns Inv-loop μ-loop
-returns c = filled-all 0 _ _ _ (c .before .loop .inv) (omega arith)
+returns c = filled-all (c .before .loop .inv) (omega arith)
 
 pub zero-u64-spec : {M : Type 1} → statement M
 zero-u64-spec =

@@ -20,7 +20,9 @@ returns-2 : tie.Need-returns-2
 returns-2 c =
     let a = c .before .before .args in
     ap (λ x. Value x (a .end)) (c .with-group .ensures .0)
-    ∙ sym (lastByte-value (a .value) (a .worth) (a .byte) (a .end) (λ h. ⊎-elim (λ w. omega arith) (λ w. omega arith) (c .before .if1 .came)))
+    ∙ sym
+    (lastByte-value (a .value) (a .worth) (a .byte) (a .end)
+    (λ h. ⊎-elim (λ w. omega arith) (λ w. omega arith) (c .before .if1 .came)))
 
 pub last-byte-spec : {M : Type 1} → statement M
 last-byte-spec = tie.close (tie.spec returns with-group-requires returns-2)

@@ -12,7 +12,7 @@ abbrev μ-loop : tie.MeasureT-loop
 μ-loop out₀ at value place₀ rest₀ out place rest = rest
 
 loop-holds : tie.Need-loop-holds Inv-loop μ-loop
-loop-holds c = writing-begins _ _ _ (c .before .pre .0)
+loop-holds c = writing-begins (c .before .pre .0)
 
 add-store : tie.Need-add-store Inv-loop μ-loop
 add-store c = search needs
@@ -24,13 +24,13 @@ store-requires : tie.Need-store-requires Inv-loop μ-loop
 store-requires c κs = search needs
 
 add-place : tie.Need-add-place Inv-loop μ-loop
-add-place c = omega (arith, writing-place _ _ _ _ _ _ (c .before .before .before .before .before .loop .inv))
+add-place c = omega (arith, writing-place (c .before .before .before .before .before .loop .inv))
 
 loop-less : tie.Need-loop-less Inv-loop μ-loop
 loop-less c = omega arith
 
 loop-again : tie.Need-loop-again Inv-loop μ-loop
-loop-again c = writing-next _ _ _ _ _ _ (c .before .before .before .before .before .loop .inv) _ (c .before .before .store .ensures) (omega arith)
+loop-again c = writing-next (c .before .before .before .before .before .loop .inv) (c .before .before .store .ensures) (omega arith)
 
 cast-store-2 : tie.Need-cast-store-2 Inv-loop μ-loop
 cast-store-2 c = search needs
@@ -39,13 +39,13 @@ store-requires-2 : tie.Need-store-requires-2 Inv-loop μ-loop
 store-requires-2 c κs = search needs
 
 add-result : tie.Need-add-result Inv-loop μ-loop
-add-result c = omega (arith, writing-place _ _ _ _ _ _ (c .before .before .before .before .before .loop .inv))
+add-result c = omega (arith, writing-place (c .before .before .before .before .before .loop .inv))
 
 same-length : tie.Need-same-length Inv-loop μ-loop
-same-length c = writing-same _ _ _ _ _ _ (c .before .before .before .before .before .loop .inv) _ (c .before .before .store2 .ensures)
+same-length c = writing-same (c .before .before .before .before .before .loop .inv) (c .before .before .store2 .ensures)
 
 returns : tie.Need-returns Inv-loop μ-loop
-returns c = writing-last _ _ _ _ _ _ (c .before .before .before .before .before .loop .inv) _ (c .before .before .store2 .ensures) (omega arith)
+returns c = writing-last (c .before .before .before .before .before .loop .inv) (c .before .before .store2 .ensures) (omega arith)
 
 pub write-number-spec : {M : Type 1} → statement M
 write-number-spec =

@@ -1,10 +1,10 @@
 -- `bits::BitPosition::write` meets its contract.
 use mathlib.Core.Logic.{⊎-elim}
-use mathlib.Core.Path.{refl, ap, _∙_}
+use mathlib.Core.Path.{refl, sym, ap, _∙_}
 use lib.ListN.{length}
 use borrow.Author.Needs.{needs}
-use Rattle.bits.proofs.Laws.{setBit-stored, setBit-past}
-use Rattle.bits.specs.Written.{setBit-length}
+use Rattle.bits.proofs.Laws.{setBit-stored}
+use Rattle.bits.specs.Written.{setBit-past, setBit-length}
 use Rattle.bits.proofs.BitPosition.write.Statement.{statement}
 use Rattle.bits.proofs.BitPosition.write.Tie as tie
 
@@ -25,7 +25,7 @@ returns c = (
   refl,
   ⊎-elim
       (λ w. w .3 ∙ setBit-stored (c .before .before .args .out .now) _ _ _ (w .2 .ensures))
-      (λ w. w .1 ∙ setBit-past _ _ _ (w .0 .left))
+      (λ w. w .1 ∙ sym (setBit-past _ _ _ (w .0 .left)))
       (c .if1 .came),
 )
 
