@@ -1,0 +1,179 @@
+-- What reading a number makes of a header and of a part, by what was read.
+use mathlib.Core.Path.{_≡_, refl, ap, sym, _∙_}
+use mathlib.Core.List.{List, [], _∷_}
+use mathlib.Core.Logic.{_⊎_, inl, inr}
+use mathlib.Core.Bool.{Bool, true, false, cond, _&&_, _||_, and-true, and-false, or-false}
+use Prim.Native.Nat.{ℕ, _+_, _-_, _*_, _^_, _≤_, _<_}
+use native.Mathlib.Nat.{mul-assoc, mul-le-mul, lt-of-le-of-lt}
+use lib.Dec.{leb, ltb, eqb, lit<}
+use borrow.Author.Tests.{eq-eqb, ne-eqb, le-leb, lt-leb, lt-ltb, le-ltb, leb-true}
+use lib.ListN.{length, take, drop}
+use native.Mathlib.Omega.{arith}
+use types.Run.{OneOf}
+use denote.Enum.Declared.{tagOf}
+use Rattle.rules.proofs.Number.{the-type}
+use Rattle.rules.specs.declared.Size.{Size}
+use Rattle.rules.specs.declared.Header.{Header}
+use Rattle.rules.specs.declared.Part.{Part}
+use Rattle.rules.specs.declared.Refusal.the-variants as refusal
+use Rattle.rules.specs.declared.Number.{Number}
+use Rattle.rules.specs.declared.Number.the-variants.{Value, TooManyBytes, LongForm, CutOff}
+use Rattle.rules.specs.declared.PartRead.{PartRead}
+use Rattle.rules.specs.declared.PartRead.the-variants as part
+use Rattle.rules.specs.declared.HeaderRead.{HeaderRead}
+use Rattle.rules.specs.declared.HeaderRead.the-variants as header
+use Rattle.rules.specs.Document.Pyramid.{legalSize, mostPlanes, levels}
+use Rattle.rules.specs.Document.Passes.{PartName}
+use Rattle.rules.specs.Document.Layout.{readNumber, version, bytesFor, padClear, bodyOf, nameOf}
+use Rattle.rules.specs.Document.Numbers.{headNumber, judgedHeader, mostBits, partNumber, follows, legalHead, judgedPart}
+use Rattle.record.specs.Named.{unread, wholePart}
+use Rattle.rules.specs.Laws.Sizes.{Legal, legal}
+use Rattle.rules.specs.Laws.Tests.{both-right}
+use Rattle.rules.specs.Laws.Reading.{NumberStands, readNumber-stands}
+
+abbrev pub NoValue : Number → Type 0
+NoValue x = OneOf (1 ∷ 2 ∷ 3 ∷ []) (tagOf the-type x)
+
+value-absurd : (v end : ℕ) → NoValue (Value v end) → ⊥
+value-absurd v end (inl e) = omega arith
+value-absurd v end (inr (inl e)) = omega arith
+value-absurd v end (inr (inr e)) = omega arith
+
+-- A header's number: one that has no value decides, one that has leads on. x is what was read of y.
+pub head-stop : (at : ℕ) (x y : Number) (go : ℕ → ℕ → HeaderRead) → x ≡ y → NoValue x → header.Refused (refusal.Head at) ≡ headNumber at y go
+unfolding headNumber
+head-stop at (Value v end) y go e o = absurd (value-absurd v end o)
+head-stop at TooManyBytes y go e o = ap (λ (n : Number). headNumber at n go) e
+head-stop at LongForm y go e o = ap (λ (n : Number). headNumber at n go) e
+head-stop at CutOff y go e o = ap (λ (n : Number). headNumber at n go) e
+
+pub head-step : (at : ℕ) (x y : Number) (go : ℕ → ℕ → HeaderRead) (v end : ℕ) (r : HeaderRead) → x ≡ y → x ≡ Value v end → r ≡ go v end → r ≡ headNumber at y go
+unfolding headNumber
+head-step at x y go v end r e f h = h ∙ ap (λ (n : Number). headNumber at n go) (sym f ∙ e)
+
+pub version-right : (v : ℕ) (r other wrong : HeaderRead) → v ≡ version → r ≡ other → r ≡ cond (eqb v version) other wrong
+version-right v r other wrong e h = rw (eq-eqb v version e) h
+
+pub version-wrong : (v : ℕ) (other wrong : HeaderRead) → (v ≡ version → ⊥) → wrong ≡ cond (eqb v version) other wrong
+version-wrong v other wrong e = rw (ne-eqb v version e)
+
+-- A header's size and planes judged. b is what was found of the size.
+module _ (z : Size) (planes end : ℕ) (b : Bool) (found : b ≡ legalSize z) where
+  pub judged-legal : b ≡ true → planes ≤ mostPlanes → header.Header (record { size = z; planes = planes; end = end }) ≡ judgedHeader z planes end
+  unfolding judgedHeader
+  judged-legal t l = rw (sym found ∙ t, le-leb planes mostPlanes l)
+
+  pub judged-planes : b ≡ true → mostPlanes < planes → header.Refused refusal.Size ≡ judgedHeader z planes end
+  unfolding judgedHeader
+  judged-planes t l = rw (sym found ∙ t, lt-leb planes mostPlanes l)
+
+  pub judged-size : b ≡ false → header.Refused refusal.Size ≡ judgedHeader z planes end
+  unfolding judgedHeader
+  judged-size t = rw (sym found ∙ t)
+
+-- The body of a part is what lies between its start and its end.
+pub body-between : (s : List ℕ) (p : Part) → p .end ≡ p .body + bytesFor (p .bits) → take (p .end - p .body) (drop (p .body) s) ≡ bodyOf s p
+unfolding bodyOf
+body-between s p e =
+    let f : p .end - p .body ≡ bytesFor (p .bits) = omega arith in
+    ap (λ (n : ℕ). take n (drop (p .body) s)) f
+
+-- The order of parts, by the plane first.
+module _ (before p : PartName) where
+  pub after-in-plane : p .plane ≡ before .plane → ltb (p .level) (before .level) ≡ follows before p
+  unfolding follows
+  after-in-plane e = rw (le-ltb (p .plane) (before .plane) (omega arith), eq-eqb (p .plane) (before .plane) e)
+
+  pub after-by-plane : (p .plane ≡ before .plane → ⊥) → ltb (p .plane) (before .plane) ≡ follows before p
+  unfolding follows
+  after-by-plane d = rw (ne-eqb (p .plane) (before .plane) d) (sym (or-false (ltb (p .plane) (before .plane))))
+
+-- A part's head judged, cause by cause.
+module _ (h : Header) (before p : PartName) (bits : ℕ) where
+  pub head-plane : h .planes ≤ p .plane → false ≡ legalHead h before p bits
+  unfolding legalHead
+  head-plane l = rw (le-ltb (p .plane) (h .planes) l)
+
+  pub head-low : p .level < 1 → false ≡ legalHead h before p bits
+  unfolding legalHead
+  head-low l = rw (lt-leb 1 (p .level) l, and-false (ltb (p .plane) (h .planes)))
+
+  pub head-high : h .size .n + 1 < p .level → false ≡ legalHead h before p bits
+  unfolding legalHead
+  head-high l = rw (lt-leb (p .level) (levels (h .size)) (omega arith), and-false (ltb (p .plane) (h .planes) && leb 1 (p .level)))
+
+  pub head-bits : 4 * h .size .w * h .size .h < bits → false ≡ legalHead h before p bits
+  unfolding legalHead
+  head-bits l =
+      rw (lt-leb bits (mostBits (h .size)) (omega (arith, mul-assoc 4 (h .size .w) (h .size .h))))
+      (sym (and-false (ltb (p .plane) (h .planes) && leb 1 (p .level) && leb (p .level) (levels (h .size)) && follows before p)))
+
+  pub head-order : (b : Bool) → b ≡ follows before p → p .plane < h .planes → 1 ≤ p .level → p .level ≤ h .size .n + 1 → bits ≤ 4 * h .size .w * h .size .h
+      → b ≡ legalHead h before p bits
+  unfolding legalHead
+  head-order b e n k j l =
+      rw (
+        lt-ltb (p .plane) (h .planes) n,
+        le-leb 1 (p .level) k,
+        le-leb (p .level) (levels (h .size)) (omega arith),
+        le-leb bits (mostBits (h .size)) (omega (arith, mul-assoc 4 (h .size .w) (h .size .h))),
+      ) (e ∙ sym (and-true (follows before p)))
+
+-- The bit count's limit fits.
+module _ (z : Size) (l : legalSize z ≡ true) where
+  pub depth-small : z .n + 1 < 2 ^ 64
+  depth-small = omega (arith, legal z l .few)
+
+  pub limit-small : 4 * z .w * z .h < 2 ^ 64
+  limit-small =
+      lt-of-le-of-lt (mul-le-mul {n₁ = 4 * z .w} {m₁ = z .h} {n₂ = 2048} {m₂ = 512} (omega (arith, legal z l .width .most)) (legal z l .height .most)) (lit< tt)
+
+  pub half-small : 4 * z .w < 2 ^ 64
+  half-small = omega (arith, legal z l .width .most)
+
+-- A part's number: one that has no value decides, one that has leads on. x is what was read of y.
+pub part-stop : (place : ℕ) (x y : Number) (go : ℕ → ℕ → PartRead) (r : PartRead) → x ≡ y → NoValue x → r ≡ unread place x → r ≡ partNumber place y go
+unfolding partNumber
+part-stop place (Value v end) y go r e o u = absurd (value-absurd v end o)
+part-stop place TooManyBytes y go r e o u = u ∙ ap (λ (n : Number). partNumber place n go) e
+part-stop place LongForm y go r e o u = u ∙ ap (λ (n : Number). partNumber place n go) e
+part-stop place CutOff y go r e o u = u ∙ ap (λ (n : Number). partNumber place n go) e
+
+pub part-step : (place : ℕ) (x y : Number) (go : ℕ → ℕ → PartRead) (v end : ℕ) (r : PartRead) → x ≡ y → x ≡ Value v end → r ≡ go v end → r ≡ partNumber place y go
+unfolding partNumber
+part-step place x y go v end r e f u = u ∙ ap (λ (n : Number). partNumber place n go) (sym f ∙ e)
+
+-- Behind the three numbers: the head, then the body and its padding.
+module _ (s : List ℕ) (p : Part) where
+  pub whole-cut : length s < p .end → part.Tail ≡ wholePart s p
+  unfolding wholePart
+  whole-cut l = rw (lt-leb (p .end) (length s) l)
+
+  pub whole-clear : (b : Bool) (body : List ℕ) → p .end ≤ length s → body ≡ bodyOf s p → b ≡ padClear body (p .bits) → b ≡ true → part.Part p ≡ wholePart s p
+  unfolding wholePart
+  whole-clear b body l e f t = rw (le-leb (p .end) (length s) l, ap (λ (x : List ℕ). padClear x (p .bits)) (sym e) ∙ sym f ∙ t)
+
+  pub whole-padded : (b : Bool) (body : List ℕ) → p .end ≤ length s → body ≡ bodyOf s p → b ≡ padClear body (p .bits) → b ≡ false
+      → part.Refused (refusal.Pad (p .place)) ≡ wholePart s p
+  unfolding wholePart
+  whole-padded b body l e f t = rw (le-leb (p .end) (length s) l, ap (λ (x : List ℕ). padClear x (p .bits)) (sym e) ∙ sym f ∙ t)
+
+module _ (h : Header) (s : List ℕ) (before : PartName) (p : Part) (b : Bool) (found : b ≡ legalHead h before (nameOf p) (p .bits)) where
+  pub judged-whole : (r : PartRead) → b ≡ true → r ≡ wholePart s p → r ≡ judgedPart h s before p
+  unfolding judgedPart wholePart
+  judged-whole r t e = rw (sym found ∙ t) e
+
+  pub judged-head : b ≡ false → part.Refused (refusal.Part (p .place)) ≡ judgedPart h s before p
+  unfolding judgedPart
+  judged-head t = rw (sym found ∙ t)
+
+-- What is known of a part with a legal head: its bits are few, its body begins within the bytes.
+pub head-few : (h : Header) (before p : PartName) (bits : ℕ) (b : Bool) → legalSize (h .size) ≡ true → b ≡ legalHead h before p bits → b ≡ true → bits ≤ 2 ^ 20
+unfolding legalHead
+head-few h before p bits b l e t =
+    let m : bits ≤ mostBits (h .size) = leb-true bits (mostBits (h .size)) (both-right (ltb (p .plane) (h .planes) && leb 1 (p .level) && leb (p .level) (levels (h .size)) && follows before p) _ (sym e ∙ t)) in
+    let n : h .size .w * h .size .h ≤ 512 * 512 = mul-le-mul {n₁ = h .size .w} {m₁ = h .size .h} {n₂ = 512} {m₂ = 512} (legal (h .size) l .width .most) (legal (h .size) l .height .most) in
+    omega arith
+
+pub body-begins : (s : List ℕ) (x : Number) (at bits body : ℕ) → x ≡ readNumber s at → x ≡ Value bits body → body ≤ length s
+body-begins s x at bits body e f = readNumber-stands s at bits body (sym e ∙ f) .within

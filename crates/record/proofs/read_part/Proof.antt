@@ -1,0 +1,90 @@
+use mathlib.Core.Path.{refl}
+use native.Mathlib.Omega.{arith}
+use Rattle.rules.specs.Document.Layout.{nameOf}
+use Rattle.rules.specs.Document.Numbers.{headed, readPart}
+use Rattle.record.proofs.Laws.{part-stop, part-step, judged-whole, judged-head, head-few, body-begins}
+use borrow.Author.Needs.{needs}
+use Rattle.record.proofs.read_part.Statement.{statement}
+use Rattle.record.proofs.read_part.Tie as tie
+
+read-number-requires : tie.Need-read-number-requires
+read-number-requires c κs = search needs
+
+enum-known-first : tie.Need-enum-known-first
+enum-known-first c = search needs
+
+no-value-requires : tie.Need-no-value-requires
+no-value-requires c κs = search needs
+
+returns : tie.Need-returns
+unfolding readPart
+returns c = part-stop _ _ _ _ _ (c .before .before .read-number .ensures) (c .before .match .keys2) (c .no-value .ensures)
+
+read-number-requires-2 : tie.Need-read-number-requires-2
+read-number-requires-2 c κs = search needs
+
+enum-known-second : tie.Need-enum-known-second
+enum-known-second c = search needs
+
+no-value-requires-2 : tie.Need-no-value-requires-2
+no-value-requires-2 c κs = search needs
+
+returns-2 : tie.Need-returns-2
+unfolding readPart
+returns-2 c = part-step _ _ _ _ _ _ _ (c .before .before .before .before .before .before .read-number .ensures) (c .before .before .before .before .first .given .1) (part-stop _ _ _ _ _ (c .before .before .read-number2 .ensures) (c .before .match2 .keys2) (c .no-value2 .ensures))
+
+read-number-requires-3 : tie.Need-read-number-requires-3
+read-number-requires-3 c κs = search needs
+
+enum-known-third : tie.Need-enum-known-third
+enum-known-third c = search needs
+
+no-value-requires-3 : tie.Need-no-value-requires-3
+no-value-requires-3 c κs = search needs
+
+returns-3 : tie.Need-returns-3
+unfolding readPart
+returns-3 c = part-step _ _ _ _ _ _ _ (c .before .before .before .before .before .before .before .before .before .before .read-number .ensures) (c .before .before .before .before .before .before .before .before .first .given .1) (part-step _ _ _ _ _ _ _ (c .before .before .before .before .before .before .read-number2 .ensures) (c .before .before .before .before .second .given .1) (part-stop _ _ _ _ _ (c .before .before .read-number3 .ensures) (c .before .match3 .keys2) (c .no-value3 .ensures)))
+
+legal-head-requires : tie.Need-legal-head-requires
+legal-head-requires c κs = search needs
+
+add-end : tie.Need-add-end
+add-end c = omega (arith, head-few _ _ _ _ _ (c .before .before .before .before .before .before .before .before .before .before .before .before .before .before .before .pre) (c .before .legal-head .ensures) (c .if1 .taken))
+
+add-end-2 : tie.Need-add-end-2
+add-end-2 c = omega (arith, head-few _ _ _ _ _ (c .before .before .before .before .before .before .before .before .before .before .before .before .before .before .before .pre) (c .before .legal-head .ensures) (c .if1 .taken), body-begins _ _ _ _ _ (c .before .before .before .before .before .read-number3 .ensures) (c .before .before .before .third .given .1), c .before .before .before .before .before .before .before .before .before .before .before .before .before .before .before .good)
+
+whole-part-requires : tie.Need-whole-part-requires
+whole-part-requires c κs = (refl, omega (arith, head-few _ _ _ _ _ (c .before .before .before .before .before .before .before .before .before .before .before .before .before .before .before .pre) (c .before .legal-head .ensures) (c .if1 .taken)))
+
+returns-4 : tie.Need-returns-4
+unfolding readPart headed nameOf
+returns-4 c = part-step _ _ _ _ _ _ _ (c .before .before .before .before .before .before .before .before .before .before .before .before .before .before .read-number .ensures) (c .before .before .before .before .before .before .before .before .before .before .before .before .first .given .1) (part-step _ _ _ _ _ _ _ (c .before .before .before .before .before .before .before .before .before .before .read-number2 .ensures) (c .before .before .before .before .before .before .before .before .second .given .1) (part-step _ _ _ _ _ _ _ (c .before .before .before .before .before .before .read-number3 .ensures) (c .before .before .before .before .third .given .1) (judged-whole _ _ _ _ _ (c .before .before .legal-head .ensures) _ (c .before .if1 .taken) (c .whole-part .ensures))))
+
+returns-5 : tie.Need-returns-5
+unfolding readPart headed nameOf
+returns-5 c = part-step _ _ _ _ _ _ _ (c .before .before .before .before .before .before .before .before .before .before .before .before .before .read-number .ensures) (c .before .before .before .before .before .before .before .before .before .before .before .first .given .1) (part-step _ _ _ _ _ _ _ (c .before .before .before .before .before .before .before .before .before .read-number2 .ensures) (c .before .before .before .before .before .before .before .second .given .1) (part-step _ _ _ _ _ _ _ (c .before .before .before .before .before .read-number3 .ensures) (c .before .before .before .third .given .1) (judged-head _ _ _ _ _ (c .before .legal-head .ensures) (c .if1 .left))))
+
+pub read-part-spec : {M : Type 1} → statement M
+read-part-spec =
+    tie.close
+    (tie.spec
+    read-number-requires
+    enum-known-first
+    no-value-requires
+    returns
+    read-number-requires-2
+    enum-known-second
+    no-value-requires-2
+    returns-2
+    read-number-requires-3
+    enum-known-third
+    no-value-requires-3
+    returns-3
+    legal-head-requires
+    add-end
+    add-end-2
+    whole-part-requires
+    returns-4
+    returns-5)
