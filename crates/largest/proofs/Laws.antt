@@ -12,11 +12,13 @@ use Rattle.shape.specs.Offspring.{offspringList}
 use Rattle.shape.specs.Nodes.{Node, NodeBlock, node-finest}
 
 -- the offspring, once the code has seen which they are
-pub seen : (z : Size) (q : ℕ) {found this : Offspring} → offspringList z found ≡ offspringOf z q → found ≡ this → offspringList z this ≡ offspringOf z q
+pub seen : (z : Size) (q : ℕ) {found this : Offspring} → offspringList z found ≡ offspringOf z q → found ≡ this
+    → offspringList z this ≡ offspringOf z q
 seen z q e i = ap (offspringList z) (sym i) ∙ e
 
 -- the greatest over a block of offspring
-pub greatest-block : (z : Size) (m : ℕ → ℕ) (first : ℕ) {a b c d : ℕ} → a ≡ m first → b ≡ m (first + 1) → c ≡ m (first + z .w) → d ≡ m (first + z .w + 1)
+pub greatest-block : (z : Size) (m : ℕ → ℕ) (first : ℕ) {a b c d : ℕ}
+    → a ≡ m first → b ≡ m (first + 1) → c ≡ m (first + z .w) → d ≡ m (first + z .w + 1)
     → max a (max b (max c d)) ≡ greatest m (offspringList z (Block first))
 unfolding greatest offspringList
 greatest-block z m first i j k l = rw (i, j, k, l, max-zero)
@@ -39,14 +41,17 @@ module _ (z : Size) (m : ℕ → ℕ) (q : ℕ) where
   d-block first e (suc k) h i j = let p : suc k - 1 ≡ k = omega arith in ap₂ max (i ∙ ap (greatest m) e) (rw p at j)
 
   -- L from the D of each offspring
-  pub l-block : (first : ℕ) → offspringList z (Block first) ≡ offspringOf z q → (k : ℕ) {a b c d : ℕ} → a ≡ maxD z m k first → b ≡ maxD z m k (first + 1)
-      → c ≡ maxD z m k (first + z .w) → d ≡ maxD z m k (first + z .w + 1) → max a (max b (max c d)) ≡ maxL z m k q
+  pub l-block : (first : ℕ) → offspringList z (Block first) ≡ offspringOf z q → (k : ℕ) {a b c d : ℕ}
+      → a ≡ maxD z m k first → b ≡ maxD z m k (first + 1) → c ≡ maxD z m k (first + z .w)
+      → d ≡ maxD z m k (first + z .w + 1) → max a (max b (max c d)) ≡ maxL z m k q
   unfolding maxL
   l-block first e k ia ib ic id = greatest-block z (maxD z m k) first ia ib ic id ∙ ap (greatest (maxD z m k)) e
 
 -- Below level 3 L is empty: its offspring, if any, have none.
-pub l-empty : {z : Size} {first k : ℕ} → NodeBlock z first (k - 1) → k < 3 → (m : ℕ → ℕ) (q : ℕ) → offspringList z (Block first) ≡ offspringOf z q → 0 ≡ maxL z m (k - 1) q
-l-empty {z} {first} {k} b h m q e = l-block z m q first e (k - 1) (none (b .topLeft)) (none (b .topRight)) (none (b .bottomLeft)) (none (b .bottomRight))
+pub l-empty : {z : Size} {first k : ℕ} → NodeBlock z first (k - 1) → k < 3 → (m : ℕ → ℕ) (q : ℕ)
+    → offspringList z (Block first) ≡ offspringOf z q → 0 ≡ maxL z m (k - 1) q
+l-empty {z} {first} {k} b h m q e =
+    l-block z m q first e (k - 1) (none (b .topLeft)) (none (b .topRight)) (none (b .bottomLeft)) (none (b .bottomRight))
   where
     none : {c : ℕ} → Node z c (k - 1) → 0 ≡ maxD z m (k - 1) c
     none {c} n = d-nothing z m c (node-finest n (omega arith)) (k - 1)

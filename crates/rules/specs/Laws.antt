@@ -35,3 +35,15 @@ pub mod Local
 pub mod Selection
 pub mod Results
 pub mod Serving
+pub mod Demands
+pub mod Rounding
+pub mod Known
+pub mod KnownState
+pub mod Agreement
+pub mod Rebuilt
+pub mod Followed
+pub mod Arrival
+pub mod RoundedRun
+pub mod ServedParts
+pub mod Demand3
+pub mod Demand2

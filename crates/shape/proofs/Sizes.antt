@@ -5,7 +5,7 @@ use Prim.Native.Nat.{ℕ, zero, suc, _+_, _-_, _*_, _/_, _%_, _^_, _≤_, _<_}
 use native.Mathlib.Nat.{one-mul, mul-le-mul, mod-lt}
 use native.Mathlib.Numerals.{add-one}
 use native.Mathlib.Omega.{arith}
-use lib.Pow.{shl-exact, shr-le}
+use lib.Pow.{pow-pos, shl-exact, shr-le}
 use lib.Dec.{ltb, eqb}
 use borrow.Author.Tests.{lt-ltb, le-ltb, le-leb, lt-leb, ne-eqb}
 use Rattle.rules.specs.declared.Size.{Size}
@@ -20,6 +20,9 @@ use Rattle.shape.specs.Offspring.{offspringList, folded, block-first, of
 -- a shift of 1 that stays under the width
 pub shifted : (k w : ℕ) → k < w → 1 * 2 ^ k % 2 ^ w ≡ 2 ^ k
 shifted k w h = shl-exact {a = 1} 1 k w (omega arith) (omega arith) ∙ one-mul (2 ^ k)
+
+pub shifted-some : (k w : ℕ) → k < w → 0 < 1 * 2 ^ k % 2 ^ w
+shifted-some k w h = rw (shifted k w h) (pow-pos k)
 
 module _ (n x : ℕ) where
   pub side-short : x < leastSide → false ≡ legalSide n x

@@ -53,7 +53,8 @@ module _ (z : Size) (e : legalSize z ≡ true) where
   pub span-quarters : (k : ℕ) → k ≤ z .n → span z k ≡ 4 * span z (suc k)
   unfolding span
   span-quarters k h =
-      ap₂ (λ (x y : ℕ). x * y) (legal z e .height .half k h) (legal z e .width .half k h) ∙ mul-mul-mul-comm 2 (z .h / 2 ^ suc k) 2 (z .w / 2 ^ suc k)
+      ap₂ (λ (x y : ℕ). x * y) (legal z e .height .half k h) (legal z e .width .half k h)
+      ∙ mul-mul-mul-comm 2 (z .h / 2 ^ suc k) 2 (z .w / 2 ^ suc k)
 
   pub span-area : (k : ℕ) → k ≤ levels z → span z k ≤ area z
   span-area zero h = omega (arith, span-whole z)

@@ -45,7 +45,8 @@ module _ (z : Size) where
   level-over m zero q h e = absurd (omega arith)
   level-over m (suc k) q h e = go (within z k q) refl (decLt m k) (level-over m k q)
     where
-      go : (b : Bool) → within z k q ≡ b → Dec (m < k) → (m < k → within z m q ≡ true → m < levelUpTo z k q) → m < cond b (suc k) (levelUpTo z k q)
+      go : (b : Bool) → within z k q ≡ b → Dec (m < k) → (m < k → within z m q ≡ true → m < levelUpTo z k q)
+          → m < cond b (suc k) (levelUpTo z k q)
       go true f d r = omega arith
       go false f (yes l) r = r l e
       go false f (no l) r = let i : m ≡ k = omega arith in absurd (true≢false (sym e ∙ ap (λ (x : ℕ). within z x q) i ∙ f))
@@ -71,7 +72,11 @@ module _ (z : Size) where
 
   pub level-is : (m q : ℕ) → m < z .n → within z m q ≡ true → within z (suc m) q ≡ false → levelOf z q ≡ suc m
   level-is m q h a b =
-      omega (arith, ltb-true m (levelOf z q) (sym (within-level m q (omega arith)) ∙ a), ltb-false (suc m) (levelOf z q) (sym (within-level (suc m) q h) ∙ b))
+      omega (
+        arith,
+        ltb-true m (levelOf z q) (sym (within-level m q (omega arith)) ∙ a),
+        ltb-false (suc m) (levelOf z q) (sym (within-level (suc m) q h) ∙ b),
+      )
 
   pub level-top : (q : ℕ) → within z (z .n) q ≡ true → levelOf z q ≡ levels z
   unfolding levelOf levelUpTo
@@ -94,4 +99,5 @@ module _ (z : Size) where
   level-some q w h =
       ltb-true 0 (levelOf z q)
       (sym (within-level 0 q (omega arith))
-      ∙ bounds-within 0 q (rw (div-one (z .h)) (div-lt-iff-lt-mul w .1 (omega (arith, mul-comm (z .h) (z .w))))) (rw (div-one (z .w)) (mod-lt q w)))
+      ∙ bounds-within 0 q (rw (div-one (z .h)) (div-lt-iff-lt-mul w .1 (omega (arith, mul-comm (z .h) (z .w)))))
+      (rw (div-one (z .w)) (mod-lt q w)))

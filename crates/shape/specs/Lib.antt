@@ -4,3 +4,4 @@ pub mod Counts
 pub mod Offspring
 pub mod Nodes
 pub mod Planes
+pub mod Magnitudes

@@ -60,10 +60,11 @@ module _ (z : Size) (e : legalSize z ≡ true) (q : ℕ) where
   node-at a b m h n r c out =
       let i : row z (index z a b) ≡ a = digits-div a h in
       let j : column z (index z a b) ≡ b = digits-mod a h in
+      let into = bounds-within z m (index z a b) (omega arith) (omega arith) in
       record {
         legal = e;
         inside = omega (arith, digits-lt {q = a} {m = z .h} {r = b} {c = z .w} (omega (arith, shr-le (z .h) m)) h, mul-comm (z .h) (z .w));
-        level = level-is z m (index z a b) n (bounds-within z m (index z a b) (omega arith) (omega arith)) (go (within z (suc m) (index z a b)) refl);
+        level = level-is z m (index z a b) n into (go (within z (suc m) (index z a b)) refl);
       }
     where
       go : (t : Bool) → within z (suc m) (index z a b) ≡ t → t ≡ false
@@ -108,9 +109,13 @@ module _ (z : Size) (e : legalSize z ≡ true) (q : ℕ) where
       let a = rw (sym h₁) at (folded-bound (row z q) (z .h / 2 ^ suc (z .n)) u (omega arith) hu) in
       let b = rw (sym w₁) at (folded-bound (column z q) (z .w / 2 ^ suc (z .n)) v (omega arith) hv) in
       rw i
-      (node-at (folded (row z q) (z .h / 2 ^ z .n) + u) (folded (column z q) (z .w / 2 ^ z .n) + v) m (omega (arith, shr-le (z .w) m)) (omega arith)
-      (omega arith) (omega arith)
-      (λ c d. some (omega (arith, folded-out (row z q) (z .h / 2 ^ z .n) u (rw s at c), folded-out (column z q) (z .w / 2 ^ z .n) v (rw s at d)))))
+      (node-at (folded (row z q) (z .h / 2 ^ z .n) + u) (folded (column z q) (z .w / 2 ^ z .n) + v) m (omega (arith, shr-le (z .w) m))
+      (omega arith) (omega arith) (omega arith)
+      (λ c d. some (omega (
+        arith,
+        folded-out (row z q) (z .h / 2 ^ z .n) u (rw s at c),
+        folded-out (column z q) (z .w / 2 ^ z .n) v (rw s at d),
+      ))))
 
   block-nodes : (a b k first : ℕ) → offspringList z (Block first) ≡ block z a b → Blocked a b k → NodeBlock z first k
   unfolding offspringList block Blocked
@@ -155,7 +160,8 @@ module _ {z : Size} {q k : ℕ} (n : Node z q k) where
 
   pub node-elsewhere : k ≤ z .n → 1 < k → offspringList z (Block (2 * q)) ≡ offspringOf z q
   node-elsewhere h l =
-      block-twice z q ∙ sym (offspring-elsewhere z q (not-band h) (within-level z 1 q (omega arith) ∙ lt-ltb 1 (levelOf z q) (omega (arith, n .level))))
+      let finer = within-level z 1 q (omega arith) ∙ lt-ltb 1 (levelOf z q) (omega (arith, n .level)) in
+      block-twice z q ∙ sym (offspring-elsewhere z q (not-band h) finer)
 
   pub node-finest : k ≤ 1 → offspringList z Nothing ≡ offspringOf z q
   unfolding offspringList

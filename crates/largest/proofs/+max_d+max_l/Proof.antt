@@ -5,6 +5,7 @@ use borrow.Fn.PlainCycle.{Measures, is, falls, and}
 use native.Mathlib.Nat.{max-zero}
 use native.Mathlib.Omega.{arith}
 use mathlib.Core.Path.{_≡_, sym, _∙_}
+use Rattle.rules.specs.declared.Size.{Size}
 use Rattle.rules.specs.Document.Pyramid.{offspringOf}
 use Rattle.shape.specs.declared.Offspring.the-variants.{Block}
 use Rattle.shape.specs.Offspring.{offspringList}
@@ -44,28 +45,43 @@ module _ (t : ℕ) where
 
   -- what the callees of each ask and tell
   abbrev d-calls : max-d-lts.Claims
-  d-calls =
-      (offspring-in-reads.Asked, offspring-in-reads.Learnt, max-block-reads.Asked, max-block-reads.Learnt, l-below, max-l.Post, larger-reads.Asked, larger-reads.Learnt)
+  d-calls = (
+    offspring-in-reads.Asked,
+    offspring-in-reads.Learnt,
+    max-block-reads.Asked,
+    max-block-reads.Learnt,
+    l-below,
+    max-l.Post,
+    larger-reads.Asked,
+    larger-reads.Learnt,
+  )
 
   abbrev l-calls : max-l-lts.Claims
   l-calls = (offspring-in-reads.Asked, offspring-in-reads.Learnt, d-below, max-d.Post, largest-of-reads.Asked, largest-of-reads.Learnt)
 
   -- the offspring that were found, and that they are nodes one level down
-  d-found : (c : max-d-lts.After-first d-calls d-at max-d.Post) → offspringList (c .before .before .before .args .z) (Block (c .first .given .0 .0)) ≡ offspringOf (c .before .before .before .args .z) (c .before .before .before .args .q)
+  abbrev Found : Size → ℕ → ℕ → Type 0
+  Found z q first = offspringList z (Block first) ≡ offspringOf z q
+
+  d-found : (c : max-d-lts.After-first d-calls d-at max-d.Post)
+      → Found (c .before .before .before .args .z) (c .before .before .before .args .q) (c .first .given .0 .0)
   d-found c = seen _ _ (c .before .before .offspring-in .ensures) (c .first .given .1)
 
-  d-nodes : (c : max-d-lts.After-first d-calls d-at max-d.Post) → NodeBlock (c .before .before .before .args .z) (c .first .given .0 .0) (c .before .before .before .args .k .0 - 1)
+  d-nodes : (c : max-d-lts.After-first d-calls d-at max-d.Post)
+      → NodeBlock (c .before .before .before .args .z) (c .first .given .0 .0) (c .before .before .before .args .k .0 - 1)
   d-nodes c = offspring-nodes (c .before .before .before .pre .1) _ (d-found c)
 
-  l-found : (c : max-l-lts.After-first l-calls l-at max-l.Post) → offspringList (c .before .before .before .args .z) (Block (c .first .given .0 .0)) ≡ offspringOf (c .before .before .before .args .z) (c .before .before .before .args .q)
+  l-found : (c : max-l-lts.After-first l-calls l-at max-l.Post)
+      → Found (c .before .before .before .args .z) (c .before .before .before .args .q) (c .first .given .0 .0)
   l-found c = seen _ _ (c .before .before .offspring-in .ensures) (c .first .given .1)
 
-  l-nodes : (c : max-l-lts.After-first l-calls l-at max-l.Post) → NodeBlock (c .before .before .before .args .z) (c .first .given .0 .0) (c .before .before .before .args .k .0 - 1)
+  l-nodes : (c : max-l-lts.After-first l-calls l-at max-l.Post)
+      → NodeBlock (c .before .before .before .args .z) (c .first .given .0 .0) (c .before .before .before .args .k .0 - 1)
   l-nodes c = offspring-nodes (c .before .before .before .pre .1) _ (l-found c)
 
   -- max_d is called with a level one less
-  d-falls : (c : max-l-lts.Start l-calls l-at max-l.Post) → (c .args .k .0 - 1) * 2 + 1 < t
-  d-falls c = omega (arith, c .pre .0, node-level (c .pre .1))
+  d-falls : (c : max-l-lts.After-first l-calls l-at max-l.Post) → (c .before .before .before .args .k .0 - 1) * 2 + 1 < t
+  d-falls c = omega (arith, c .before .before .before .pre .0, node-level (c .before .before .before .pre .1))
 
   d-offspring-in-requires : max-d-lts.Need-offspring-in-requires d-calls d-at max-d.Post
   d-offspring-in-requires c κs = c .pre .1
@@ -80,10 +96,15 @@ module _ (t : ℕ) where
   d-max-block-requires c κs = block-bound (d-nodes (c .before))
 
   d-returns : max-d-lts.Need-returns d-calls d-at max-d.Post
-  d-returns c = sym (max-zero _) ∙ d-block _ _ _ _ (d-found (c .before .before .before .before)) _ (node-level (c .before .before .before .before .before .before .before .pre .1)) (c .before .before .max-block .ensures) (l-empty (d-nodes (c .before .before .before .before)) (c .if1 .taken) _ _ (d-found (c .before .before .before .before)))
+  d-returns c =
+      let first = c .before .before .before .before in
+      sym (max-zero _)
+      ∙ d-block _ _ _ _ (d-found first) _ (node-level (c .before .before .before .before .before .before .before .pre .1))
+      (c .before .before .max-block .ensures)
+      (l-empty (d-nodes first) (c .if1 .taken) _ _ (d-found first))
 
   d-max-l-requires : max-d-lts.Need-max-l-requires d-calls d-at max-d.Post
-  d-max-l-requires c κs = (omega (arith, c .before .before .before .before .before .before .before .pre .0), c .before .before .before .before .before .before .before .pre .1)
+  d-max-l-requires c κs = let start = c .before .before .before .before .before .before .before in (omega (arith, start .pre .0), start .pre .1)
 
   d-larger-requires : max-d-lts.Need-larger-requires d-calls d-at max-d.Post
   d-larger-requires c κs = tt
@@ -92,7 +113,11 @@ module _ (t : ℕ) where
   d-returns-2 c = d-nothing _ _ _ (seen _ _ (c .before .before .offspring-in .ensures) (c .enum-told .given .1)) _
 
   d-returns-3 : max-d-lts.Need-returns-3 d-calls d-at max-d.Post
-  d-returns-3 c = c .larger .ensures ∙ d-block _ _ _ _ (d-found (c .before .before .before .before .before .before)) _ (node-level (c .before .before .before .before .before .before .before .before .before .pre .1)) (c .before .before .before .before .max-block .ensures) (c .before .max-l .ensures)
+  d-returns-3 c =
+      c .larger .ensures
+      ∙ d-block _ _ _ _ (d-found (c .before .before .before .before .before .before)) _
+      (node-level (c .before .before .before .before .before .before .before .before .before .pre .1))
+      (c .before .before .before .before .max-block .ensures) (c .before .max-l .ensures)
 
   l-offspring-in-requires : max-l-lts.Need-offspring-in-requires l-calls l-at max-l.Post
   l-offspring-in-requires c κs = c .pre .1
@@ -104,28 +129,29 @@ module _ (t : ℕ) where
   l-enum-known-first c = c .match .keys2
 
   l-sub-max-d : max-l-lts.Need-sub-max-d l-calls l-at max-l.Post
-  l-sub-max-d c = node-level (c .before .before .before .before .before .pre .1)
+  l-sub-max-d c = omega (arith, node-level (c .before .before .before .before .before .pre .1))
 
   l-add-below : max-l-lts.Need-add-below l-calls l-at max-l.Post
   l-add-below c = record { fits = omega (arith, block-bound (l-nodes (c .before .before .before))) }
 
   l-max-d-requires : max-l-lts.Need-max-d-requires l-calls l-at max-l.Post
-  l-max-d-requires c κs = (d-falls (c .before .before .before .before .before .before), l-nodes (c .before .before .before) .topLeft)
+  l-max-d-requires c κs = (d-falls (c .before .before .before), l-nodes (c .before .before .before) .topLeft)
 
   l-add-max-d : max-l-lts.Need-add-max-d l-calls l-at max-l.Post
   l-add-max-d c = record { fits = omega (arith, block-bound (l-nodes (c .before .before .before .before))) }
 
   l-max-d-requires-2 : max-l-lts.Need-max-d-requires-2 l-calls l-at max-l.Post
-  l-max-d-requires-2 c κs = (d-falls (c .before .before .before .before .before .before .before), l-nodes (c .before .before .before .before) .topRight)
+  l-max-d-requires-2 c κs = (d-falls (c .before .before .before .before), l-nodes (c .before .before .before .before) .topRight)
 
   l-max-d-requires-3 : max-l-lts.Need-max-d-requires-3 l-calls l-at max-l.Post
-  l-max-d-requires-3 c κs = (d-falls (c .before .before .before .before .before .before .before .before), l-nodes (c .before .before .before .before .before) .bottomLeft)
+  l-max-d-requires-3 c κs = (d-falls (c .before .before .before .before .before), l-nodes (c .before .before .before .before .before) .bottomLeft)
 
   l-add-max-d-2 : max-l-lts.Need-add-max-d-2 l-calls l-at max-l.Post
   l-add-max-d-2 c = record { fits = omega (arith, block-bound (l-nodes (c .before .before .before .before .before .before))) }
 
   l-max-d-requires-4 : max-l-lts.Need-max-d-requires-4 l-calls l-at max-l.Post
-  l-max-d-requires-4 c κs = (d-falls (c .before .before .before .before .before .before .before .before .before), l-nodes (c .before .before .before .before .before .before) .bottomRight)
+  l-max-d-requires-4 c κs =
+      (d-falls (c .before .before .before .before .before .before), l-nodes (c .before .before .before .before .before .before) .bottomRight)
 
   l-largest-of-requires : max-l-lts.Need-largest-of-requires l-calls l-at max-l.Post
   l-largest-of-requires c κs = tt
@@ -134,10 +160,17 @@ module _ (t : ℕ) where
   l-returns c = l-nothing _ _ _ (seen _ _ (c .before .before .offspring-in .ensures) (c .enum-told .given .1)) _
 
   l-returns-2 : max-l-lts.Need-returns-2 l-calls l-at max-l.Post
-  l-returns-2 c = c .largest-of .ensures ∙ l-block _ _ _ _ (l-found (c .before .before .before .before .before .before .before .before)) _ (c .before .before .before .before .max-d .ensures) (c .before .before .before .max-d2 .ensures) (c .before .before .max-d3 .ensures) (c .before .max-d4 .ensures)
+  l-returns-2 c =
+      c .largest-of .ensures
+      ∙ l-block _ _ _ _ (l-found (c .before .before .before .before .before .before .before .before)) _
+      (c .before .before .before .before .max-d .ensures) (c .before .before .before .max-d2 .ensures) (c .before .before .max-d3 .ensures)
+      (c .before .max-d4 .ensures)
 
 pub +max-d+max-l-spec : {M : Type 1} → statement M
 +max-d+max-l-spec =
     close μ-max-d μ-max-l
-    (λ t. max-d-lts.spec (d-calls t) (d-at t) max-d.Post (d-offspring-in-requires t) (d-enum-told t) (d-enum-known-first t) (d-max-block-requires t) (d-returns t) (d-max-l-requires t) (d-larger-requires t) (d-returns-2 t) (d-returns-3 t))
-    (λ t. max-l-lts.spec (l-calls t) (l-at t) max-l.Post (l-offspring-in-requires t) (l-enum-told t) (l-enum-known-first t) (l-sub-max-d t) (l-add-below t) (l-max-d-requires t) (l-add-max-d t) (l-max-d-requires-2 t) (l-max-d-requires-3 t) (l-add-max-d-2 t) (l-max-d-requires-4 t) (l-largest-of-requires t) (l-returns t) (l-returns-2 t))
+    (λ t. max-d-lts.spec (d-calls t) (d-at t) max-d.Post (d-offspring-in-requires t) (d-enum-told t) (d-enum-known-first t)
+    (d-max-block-requires t) (d-returns t) (d-max-l-requires t) (d-larger-requires t) (d-returns-2 t) (d-returns-3 t))
+    (λ t. max-l-lts.spec (l-calls t) (l-at t) max-l.Post (l-offspring-in-requires t) (l-enum-told t) (l-enum-known-first t)
+    (l-sub-max-d t) (l-add-below t) (l-max-d-requires t) (l-add-max-d t) (l-max-d-requires-2 t) (l-max-d-requires-3 t)
+    (l-add-max-d-2 t) (l-max-d-requires-4 t) (l-largest-of-requires t) (l-returns t) (l-returns-2 t))

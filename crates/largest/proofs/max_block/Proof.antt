@@ -30,7 +30,9 @@ largest-of-requires : tie.Need-largest-of-requires
 largest-of-requires c κs = tt
 
 returns : tie.Need-returns
-returns c = c .largest-of .ensures ∙ greatest-block _ _ _ (c .before .before .before .before .magnitude-at .ensures) (c .before .before .before .magnitude-at2 .ensures) (c .before .before .magnitude-at3 .ensures) (c .before .magnitude-at4 .ensures)
+returns c =
+    c .largest-of .ensures ∙ greatest-block _ _ _ (c .before .before .before .before .magnitude-at .ensures)
+    (c .before .before .before .magnitude-at2 .ensures) (c .before .before .magnitude-at3 .ensures) (c .before .magnitude-at4 .ensures)
 
 pub max-block-spec : {M : Type 1} → statement M
 max-block-spec =

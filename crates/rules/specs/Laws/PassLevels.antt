@@ -102,7 +102,7 @@ module _ {F : Family} (L : Lawful F) where
   pub opened-members : (P : ℕ → Type 0) (e : Entry) → Every P (members F e) → All P (opened F e)
   opened-members P e h = every-all P (opened F e) (λ q i. h q (omega (arith, set-splits F L (is q) e)))
 
-  members-apart : (P : ℕ → Type 0) (es : List Entry) → ((q : ℕ) → 1 ≤ sum (setWeight F (is q)) es → P q) → All (λ d. Every P (members F d)) es
+  pub members-apart : (P : ℕ → Type 0) (es : List Entry) → ((q : ℕ) → 1 ≤ sum (setWeight F (is q)) es → P q) → All (λ d. Every P (members F d)) es
   unfolding All sum
   members-apart P [] h = tt
   members-apart P (e ∷ es) h = ((λ q i. h q (omega arith)), members-apart P es (λ q i. h q (omega arith)))

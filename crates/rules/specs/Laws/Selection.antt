@@ -93,7 +93,7 @@ whole-same s p o l front rest =
           getD-append-add front (w ++ rest) i 0 ∙ List·getD-append w rest 0 i (omega arith) ∙ getD-take (p .end - p .place) (drop (p .place) s) i 0 j ∙ getD-drop (p .place) s i 0;
     }
 
-whole-length : (s : List ℕ) (p : Part) → p .place ≤ p .end → p .end ≤ length s → length (wholeOf s p) ≡ p .end - p .place
+pub whole-length : (s : List ℕ) (p : Part) → p .place ≤ p .end → p .end ≤ length s → length (wholeOf s p) ≡ p .end - p .place
 unfolding wholeOf
 whole-length s p o l = length-take-le (p .end - p .place) (drop (p .place) s) (omega (arith, length-drop (p .place) s))
 

@@ -20,7 +20,9 @@ magnitude-at-requires : tie.Need-magnitude-at-requires Inv-loop μ-loop
 magnitude-at-requires c κs = search needs
 
 returns : tie.Need-returns Inv-loop μ-loop
-returns c = over-found _ _ (c .before .before .loop-test .taken) (c .before .before .before .loop .inv .1) (c .before .magnitude-at .ensures) (c .if1 .taken)
+returns c =
+    over-found _ _ (c .before .before .loop-test .taken) (c .before .before .before .loop .inv .1) (c .before .magnitude-at .ensures)
+    (c .if1 .taken)
 
 add-q : tie.Need-add-q Inv-loop μ-loop
 add-q c = search needs

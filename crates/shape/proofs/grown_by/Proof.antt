@@ -28,7 +28,8 @@ signed-of-requires c κs =
 returns : tie.Need-returns
 returns c =
     let signed = c .signed-of in
-    grown-read _ (c .before .before .before .before .fits .v) _ _ _ (c .before .before .magnitude-of .ensures) (c .before .threshold-of .ensures) _ _ (c .before .before .before .is-negative .ensures)
+    grown-read _ (c .before .before .before .before .fits .v) _ _ _ (c .before .before .magnitude-of .ensures)
+    (c .before .threshold-of .ensures) _ _ (c .before .before .before .is-negative .ensures)
     (signed .ensures) (signed .ok)
 
 pub grown-by-spec : {M : Type 1} → statement M

@@ -29,7 +29,11 @@ loop-less : tie.Need-loop-less Inv-loop μ-loop
 loop-less c = search needs
 
 loop-again : tie.Need-loop-again Inv-loop μ-loop
-loop-again c = (omega arith, seen-onward _ _ _ _ _ (c .before .before .loop-test .taken) (c .before .before .before .loop .inv .1) (c .before .magnitude-at .ensures) (c .larger .ensures))
+loop-again c = (
+  omega arith,
+  seen-onward _ _ _ _ _ (c .before .before .loop-test .taken) (c .before .before .before .loop .inv .1) (c .before .magnitude-at .ensures)
+      (c .larger .ensures),
+)
 
 returns : tie.Need-returns Inv-loop μ-loop
 returns c = seen-all _ _ _ (c .loop-test .left) (c .before .loop .inv .1)

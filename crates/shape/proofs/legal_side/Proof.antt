@@ -1,9 +1,7 @@
 -- `shape::legal_side`: the bounds first, then the power of two, which fits.
-use Prim.Native.Nat.{_+_}
 use native.Mathlib.Omega.{arith}
-use lib.Pow.{pow-pos}
 use borrow.Author.Needs.{needs}
-use Rattle.shape.proofs.Sizes.{shifted, side-short, side-long, side-multiple}
+use Rattle.shape.proofs.Sizes.{shifted-some, side-short, side-long, side-multiple}
 use Rattle.shape.proofs.legal_side.Statement.{statement}
 use Rattle.shape.proofs.legal_side.Tie as tie
 
@@ -20,7 +18,7 @@ shl-result : tie.Need-shl-result
 shl-result c = search needs
 
 rem-result : tie.Need-rem-result
-rem-result c = let n = c .before .before .args .n in rw (shifted (n + 1) 64 (omega arith)) (pow-pos (n + 1))
+rem-result c = shifted-some _ 64 (omega arith)
 
 returns-3 : tie.Need-returns-3
 returns-3 c = side-multiple _ _ (c .before .before .pre) (c .before .if1 .left) (c .if2 .left)

@@ -20,10 +20,13 @@ legal-side-requires-2 c κs = search needs
 returns-3 : tie.Need-returns-3
 returns-3 c =
     c .legal-side2 .ensures
-    ∙ size-second _ (c .before .before .before .before .before .if1 .left) (c .before .before .before .if2 .left) (c .before .before .legal-side .ensures) (c .before .if3 .taken)
+    ∙ size-second _ (c .before .before .before .before .before .if1 .left) (c .before .before .before .if2 .left)
+    (c .before .before .legal-side .ensures) (c .before .if3 .taken)
 
 returns-4 : tie.Need-returns-4
-returns-4 c = size-first _ (c .before .before .before .before .if1 .left) (c .before .before .if2 .left) (c .before .legal-side .ensures) (c .if3 .left)
+returns-4 c =
+    size-first _ (c .before .before .before .before .if1 .left) (c .before .before .if2 .left) (c .before .legal-side .ensures)
+    (c .if3 .left)
 
 pub legal-size-spec : {M : Type 1} → statement M
 legal-size-spec =

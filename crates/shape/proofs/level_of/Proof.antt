@@ -28,7 +28,9 @@ lies-within-requires : tie.Need-lies-within-requires Inv-loop μ-loop
 lies-within-requires c κs = search needs
 
 returns : tie.Need-returns Inv-loop μ-loop
-returns c = level-found _ _ _ (c .before .before .loop-test .taken) (c .before .lies-within .ensures) (c .before .before .before .loop .inv .1) (c .if1 .taken)
+returns c =
+    level-found _ _ _ (c .before .before .loop-test .taken) (c .before .lies-within .ensures) (c .before .before .before .loop .inv .1)
+    (c .if1 .taken)
 
 sub-k : tie.Need-sub-k Inv-loop μ-loop
 sub-k c = search needs
@@ -37,7 +39,11 @@ loop-less : tie.Need-loop-less Inv-loop μ-loop
 loop-less c = search needs
 
 loop-again : tie.Need-loop-again Inv-loop μ-loop
-loop-again c = (omega arith, level-onward _ _ _ (c .before .before .loop-test .taken) (c .before .lies-within .ensures) (c .before .before .before .loop .inv .1) (c .if1 .left))
+loop-again c = (
+  omega arith,
+  level-onward _ _ _ (c .before .before .loop-test .taken) (c .before .lies-within .ensures) (c .before .before .before .loop .inv .1)
+      (c .if1 .left),
+)
 
 returns-2 : tie.Need-returns-2 Inv-loop μ-loop
 returns-2 c = level-none _ _ _ (c .loop-test .left) (c .before .loop .inv .1)

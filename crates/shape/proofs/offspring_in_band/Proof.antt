@@ -46,7 +46,8 @@ add-t9 c =
 returns-2 : tie.Need-returns-2
 returns-2 c =
     let s = c .before .before .before .before .before .before .before .before in
-    band-block _ (s .pre .0) _ (s .pre .1) (c .before .before .before .before .before .if1 .left) _ _ (c .before .before .before .folded .ensures .0) (c .before .folded2 .ensures .0)
+    band-block _ (s .pre .0) _ (s .pre .1) (c .before .before .before .before .before .if1 .left) _ _
+    (c .before .before .before .folded .ensures .0) (c .before .folded2 .ensures .0)
 
 pub offspring-in-band-spec : {M : Type 1} → statement M
 offspring-in-band-spec =

@@ -31,7 +31,9 @@ add-result : tie.Need-add-result Inv-loop μ-loop
 add-result c = search needs
 
 returns-2 : tie.Need-returns-2 Inv-loop μ-loop
-returns-2 c = planes-found _ _ _ (c .before .before .loop-test .taken) (c .before .threshold-of .ensures) (c .before .before .before .loop .inv .1) (c .before .before .before .before .if1 .left) (c .if2 .taken)
+returns-2 c =
+    planes-found _ _ _ (c .before .before .loop-test .taken) (c .before .threshold-of .ensures) (c .before .before .before .loop .inv .1)
+    (c .before .before .before .before .if1 .left) (c .if2 .taken)
 
 sub-e : tie.Need-sub-e Inv-loop μ-loop
 sub-e c = search needs
@@ -40,7 +42,11 @@ loop-less : tie.Need-loop-less Inv-loop μ-loop
 loop-less c = search needs
 
 loop-again : tie.Need-loop-again Inv-loop μ-loop
-loop-again c = (omega arith, planes-onward _ _ _ (c .before .before .loop-test .taken) (c .before .threshold-of .ensures) (c .before .before .before .loop .inv .1) (c .if2 .left))
+loop-again c = (
+  omega arith,
+  planes-onward _ _ _ (c .before .before .loop-test .taken) (c .before .threshold-of .ensures) (c .before .before .before .loop .inv .1)
+      (c .if2 .left),
+)
 
 returns-3 : tie.Need-returns-3 Inv-loop μ-loop
 returns-3 c = planes-one _ (c .before .before .if1 .left) _ (c .loop-test .left) (c .before .loop .inv .1)

@@ -11,7 +11,8 @@ threshold-of-requires : tie.Need-threshold-of-requires
 threshold-of-requires c κs = search needs
 
 signed-of-requires : tie.Need-signed-of-requires
-signed-of-requires c κs = omega (arith, c .threshold-of .ensures, pow-lt {i = c .before .before .args .plane .0} {j = 31} (c .before .before .pre))
+signed-of-requires c κs =
+    omega (arith, c .threshold-of .ensures, pow-lt {i = c .before .before .args .plane .0} {j = 31} (c .before .before .pre))
 
 write-at-requires : tie.Need-write-at-requires
 write-at-requires c κs = search needs

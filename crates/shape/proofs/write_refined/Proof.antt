@@ -27,7 +27,8 @@ returns c =
     let read = c .before .before .before .before .coefficient-at in
     let grown = c .before .before .grown-by in
     c .before .write-at .ensures
-    ∙ refined-written (a .pyramid .now) (a .q) _ _ _ _ (c .before .before .before .before .before .before .if1 .taken) (read .ok) (read .ensures) (grown .ensures) (grown .ok)
+    ∙ refined-written (a .pyramid .now) (a .q) _ _ _ _ (c .before .before .before .before .before .before .if1 .taken) (read .ok)
+    (read .ensures) (grown .ensures) (grown .ok)
 
 returns-2 : tie.Need-returns-2
 returns-2 c =

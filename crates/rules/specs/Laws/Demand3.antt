@@ -1,0 +1,117 @@
+-- Demand 3. Of the record that the coder writes, whatever parts arrive, by serving or by loss, the last of them cut perhaps: decoding with
+-- buffers of the stated sizes accepts, gives each coefficient its sign and its magnitude rounded toward zero to a multiple of 2^m, zero where
+-- that gives zero, and reports that m for each level, 0 beyond level N + 1. `Rounded`, in Demands, says this field by field.
+use mathlib.Core.Path.{_≡_, ap, sym, _∙_, subst}
+use mathlib.Core.List.{List}
+use mathlib.Core.Bool.{Bool, _&&_}
+use Prim.Native.Nat.{ℕ, _-_, _^_, _≤_, _<_}
+use lib.Dec.{leb, eqb}
+use lib.ListN.{length, getD}
+use lib.IntN.{ℤ, pos, natAbs}
+use borrow.Author.Tests.{eqb-true}
+use Rattle.rules.specs.declared.Size.{Size}
+use Rattle.rules.specs.declared.Refusal.the-variants as refusal
+use Rattle.rules.specs.Document.Notation.{greatest}
+use Rattle.rules.specs.Document.Pyramid.{legalSize, area, levelOf, magnitude, negative, mostPlanes}
+use Rattle.rules.specs.Document.Passes.{PartName}
+use Rattle.rules.specs.Document.Layout.{CodedPart, planesIn, partsOf, recordOf}
+use Rattle.rules.specs.Document.Calls.{Result, accepted, workFor, firstOver, fitted, coding, Portion, serving, Picture, planeIn, decoding}
+use Rattle.rules.specs.Laws.Sizes.{legal}
+use Rattle.rules.specs.Laws.Offspring.Level.{level-most, level-least}
+use Rattle.rules.specs.Laws.Planes.{planesOf-most, magnitude-under, range-greatest}
+use Rattle.rules.specs.Laws.Results.{unless-accepted, accepted-same}
+use Rattle.rules.specs.Laws.ReadBackPart.{headerOf}
+use Rattle.rules.specs.Laws.ReadBack.{recordBytes, beforeAll}
+use Rattle.rules.specs.Laws.Demands.{Codable, Stated, names, kept, asked, wholeIn, tailIn, arrived, Rounded, Near}
+use Rattle.rules.specs.Laws.Rounding.{rounded-near}
+use Rattle.rules.specs.Laws.Arrival.{ReadsAs, record-reads, arrived-reads, arrived-selection, selection-both, legal-order}
+use Rattle.rules.specs.Laws.RoundedRun.{rounded-read, coder-legal, kept-legal, rounded-arrived}
+use Rattle.rules.specs.Laws.ServedParts.{served-read}
+
+-- What coding accepts, and what it then writes.
+pub coding-codable : (pyramid : List ℤ) (z : Size) (room work : ℕ) (bytes : List ℕ) → coding pyramid z room work ≡ accepted bytes
+    → Codable z pyramid × (bytes ≡ recordOf z pyramid)
+unfolding coding fitted
+coding-codable pyramid z room work bytes e =
+    let a = unless-accepted (legalSize z) refusal.Size _ bytes e in
+    let b = unless-accepted (eqb (length pyramid) (area z)) refusal.Length _ bytes (a .1) in
+    let c = unless-accepted (leb (workFor z) work) refusal.Work _ bytes (b .1) in
+    let d = unless-accepted (eqb (firstOver pyramid) (length pyramid)) (refusal.Range (firstOver pyramid)) _ bytes (c .1) in
+    let f = unless-accepted (leb (length (recordOf z pyramid)) room) refusal.Room _ bytes (d .1) in (
+      record { legal-size = a .0; sized = eqb-true _ _ (b .0); in-range = eqb-true _ _ (d .0) },
+      sym (accepted-same (f .1)),
+    )
+
+module _ {z : Size} {pyramid : List ℤ} (c : Codable z pyramid) where
+  -- There are planes enough, and no more than a record may have: this is all that the theorem asks of their number.
+  pub planes-enough : (q : ℕ) → magnitude pyramid q < 2 ^ planesIn pyramid
+  planes-enough = magnitude-under pyramid (range-greatest pyramid (c .in-range))
+
+  pub planes-few : planesIn pyramid ≤ mostPlanes
+  unfolding planesIn
+  planes-few = planesOf-most (greatest natAbs pyramid) (range-greatest pyramid (c .in-range))
+
+  module _ (room work : ℕ) (sizes : Stated z room work) where
+    -- Any selection of the record's parts, cut anywhere behind the header.
+    pub demand3 : (keep : PartName → Bool) (n : ℕ)
+        → Rounded z (planesIn pyramid) pyramid (names (wholeIn n (kept keep (partsOf z pyramid)))) (tailIn n (kept keep (partsOf z pyramid)))
+        (decoding (arrived z (planesIn pyramid) (kept keep (partsOf z pyramid)) n) room work)
+    unfolding partsOf
+    demand3 keep n = rounded-arrived z (c .legal-size) (planesIn pyramid) planes-few pyramid planes-enough keep n room work sizes
+
+    -- Not cut.
+    pub demand3-selection : (keep : PartName → Bool)
+        → Rounded z (planesIn pyramid) pyramid (names (kept keep (partsOf z pyramid))) 0
+        (decoding (recordBytes z (planesIn pyramid) (kept keep (partsOf z pyramid))) room work)
+    unfolding partsOf
+    demand3-selection keep =
+        rounded-read z (c .legal-size) (planesIn pyramid) planes-few pyramid planes-enough keep
+        (record-reads z (planesIn pyramid) _ (c .legal-size) planes-few
+        (kept-legal z (c .legal-size) (planesIn pyramid) pyramid keep))
+        room work sizes
+
+    -- Served for level r and plane p, from what arrived.
+    pub demand3-served-on : (keep : PartName → Bool) (n r p out : ℕ) (x : Portion)
+        → serving (arrived z (planesIn pyramid) (kept keep (partsOf z pyramid)) n) r p out ≡ accepted x
+        → Rounded z (planesIn pyramid) pyramid (names (kept (asked r p) (wholeIn n (kept keep (partsOf z pyramid))))) 0
+        (decoding (x .bytes) room work)
+    unfolding partsOf
+    demand3-served-on keep n r p out x e =
+        let planes : ℕ = planesIn pyramid in
+        let ps : List CodedPart = kept keep (partsOf z pyramid) in
+        let ok = kept-legal z (c .legal-size) planes pyramid keep in
+        let some : (left : PartName → Bool) × (kept left (partsOf z pyramid) ≡ wholeIn n ps)
+        = arrived-selection keep n (beforeAll planes) (partsOf z pyramid) (legal-order (headerOf z planes) (beforeAll planes) ps ok) in
+        let both : kept (λ q. some .0 q && asked r p q) (partsOf z pyramid) ≡ kept (asked r p) (wholeIn n ps)
+        = selection-both (λ q. some .0 (q .name)) (λ q. asked r p (q .name)) (partsOf z pyramid) ∙ ap (kept (asked r p)) (some .1) in
+        let bytes : recordBytes z planes (kept (asked r p) (wholeIn n ps)) ≡ x .bytes
+        = ap (λ y. y .bytes) (served-read (arrived-reads z planes ps (c .legal-size) planes-few ok n) (c .legal-size) planes-few r p out x e) in
+        subst (λ y. Rounded z planes pyramid (names (kept (asked r p) (wholeIn n ps))) 0 (decoding y room work)) bytes
+        (subst (λ y. Rounded z planes pyramid (names y) 0 (decoding (recordBytes z planes y) room work)) both
+        (demand3-selection (λ q. some .0 q && asked r p q)))
+
+  -- In an assessor's words: what is printed is less than 2^m away from what was recorded, m being the plane reported for its level, of no greater
+  -- magnitude, and of the same sign unless it is 0.
+  pub printed-near : {planes : ℕ} {there : List PartName} {cut : ℕ} {result : Result Picture} (r : Rounded z planes pyramid there cut result)
+      → (q : ℕ) → q < area z
+      → Near (planeIn (r .picture .reached) (levelOf z q - 1)) (getD (r .picture .pyramid) q (pos 0)) (getD pyramid q (pos 0))
+  unfolding magnitude negative
+  printed-near r q l =
+      let m = r .reports (levelOf z q) (level-least z (legal z (c .legal-size)) q l) (level-most z q) in
+      rw (m, r .values q l) (rounded-near _ (getD pyramid q (pos 0)))
+
+-- Coded, served for level r and plane p, and decoded: the parts with level ≥ r and plane ≥ p are there.
+pub demand3-served : (pyramid : List ℤ) (z : Size) (out code-work r p served room work : ℕ) (bytes : List ℕ) (x : Portion)
+    → coding pyramid z out code-work ≡ accepted bytes → serving bytes r p served ≡ accepted x → Stated z room work
+    → Rounded z (planesIn pyramid) pyramid (names (kept (asked r p) (partsOf z pyramid))) 0 (decoding (x .bytes) room work)
+unfolding recordOf partsOf
+demand3-served pyramid z out code-work r p served room work bytes x coded e sizes =
+    let w = coding-codable pyramid z out code-work bytes coded in
+    let c : Codable z pyramid = w .0 in
+    let read : ReadsAs z (planesIn pyramid) (partsOf z pyramid) 0 (recordOf z pyramid)
+    = record-reads z (planesIn pyramid) (partsOf z pyramid) (c .legal-size) (planes-few c)
+    (coder-legal z (c .legal-size) (planesIn pyramid) pyramid) in
+    let same : recordBytes z (planesIn pyramid) (kept (asked r p) (partsOf z pyramid)) ≡ x .bytes
+    = ap (λ y. y .bytes) (served-read read (c .legal-size) (planes-few c) r p served x (ap (λ y. serving y r p served) (sym (w .1)) ∙ e)) in
+    subst (λ y. Rounded z (planesIn pyramid) pyramid (names (kept (asked r p) (partsOf z pyramid))) 0 (decoding y room work)) same
+    (demand3-selection c room work sizes (asked r p))
