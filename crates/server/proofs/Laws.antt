@@ -1,0 +1,247 @@
+-- Serving step by step: the request, one part kept, and what is left of the walk.
+use mathlib.Core.Path.{_≡_, refl, ap, ap₂, sym, _∙_, subst}
+use mathlib.Core.List.{List, [], _∷_, _++_, append-assoc, append-nil}
+use mathlib.Core.Bool.{Bool, true, false, cond, _&&_, and-false}
+use Prim.Native.Nat.{ℕ, _+_, _-_, _≤_, _<_}
+use native.Mathlib.Omega.{arith}
+use lib.Dec.{leb}
+use lib.ListN.{length, take, drop, replicate, length-append, length-replicate}
+use lib.Seq.{sets, length-sets, length-take-le}
+use borrow.Author.Tests.{le-leb, lt-leb}
+use Rattle.rules.specs.declared.Refusal.{Refusal}
+use Rattle.rules.specs.declared.Refusal.the-variants as refusal
+use Rattle.rules.specs.declared.Verdict.the-variants.{Accepted}
+use Rattle.rules.specs.declared.Served.{Served}
+use Rattle.rules.specs.declared.HeaderRead.{HeaderRead}
+use Rattle.rules.specs.declared.Header.{Header}
+use Rattle.rules.specs.declared.HeaderRead.the-variants as header
+use Rattle.rules.specs.declared.Part.{Part}
+use Rattle.rules.specs.declared.PartRead.{PartRead}
+use Rattle.rules.specs.declared.PartRead.the-variants as part
+use Rattle.rules.specs.declared.Plane.{Plane}
+use Rattle.rules.specs.declared.Level.{Level}
+use Rattle.rules.specs.Document.Notation.{flat, zeros}
+use Rattle.rules.specs.Document.Pyramid.{legalSize, levels}
+use Rattle.rules.specs.Document.Passes.{PartName}
+use Rattle.rules.specs.Document.Layout.{wholeOf, nameOf}
+use Rattle.rules.specs.Document.Numbers.{Ending, tail, fault, Reading, readHeader, readPart, readParts}
+use Rattle.rules.specs.Document.Calls.{refused, accepted, unless, onHeader, onEnding, legalAsk, keptOf, servedBytes, Portion, portioned, serving, filled, serveOut, serveAnswer, Serving}
+use Rattle.rules.specs.Laws.Reading.{HeaderStands, readHeader-stands, header-legal, header-within, PartStands, readPart-stands}
+use Rattle.rules.specs.Laws.Walk.{partsFrom, readParts-from, partsFrom-part, partsFrom-tail, partsFrom-fault}
+use Rattle.rules.specs.Laws.Output.{clipped, clipped-nothing, clipped-length, clipped-append, clipped-fits}
+use Rattle.rules.specs.Laws.Selection.{whole-length}
+use Rattle.server.specs.declared.Ended.{Ended}
+use Rattle.server.specs.declared.Ended.the-variants.{Whole, Fault}
+use Rattle.server.specs.Walk.{Refusing, Copies, Kept, Begun, endOf, result, Walked}
+
+-- The request, cause by cause.
+module _ (h : Header) (level : Level) (plane : Plane) where
+  pub ask-low : level .0 < 1 → false ≡ legalAsk h (level .0) (plane .0)
+  unfolding legalAsk
+  ask-low l = rw (lt-leb 1 (level .0) l)
+
+  pub ask-high : 1 ≤ level .0 → h .size .n < level .0 - 1 → false ≡ legalAsk h (level .0) (plane .0)
+  unfolding legalAsk
+  ask-high k l = rw (le-leb 1 (level .0) k, lt-leb (level .0) (levels (h .size)) (omega arith))
+
+  pub ask-plane : 1 ≤ level .0 → level .0 - 1 ≤ h .size .n → leb (plane .0) (h .planes) ≡ legalAsk h (level .0) (plane .0)
+  unfolding legalAsk
+  ask-plane k l = rw (le-leb 1 (level .0) k, le-leb (level .0) (levels (h .size)) (omega arith))
+
+-- One part.
+module _ (s : List ℕ) (p : Part) (level : Level) (plane : Plane) (out : List ℕ) (written : ℕ) where
+  kept-nothing : keptOf s (level .0) (plane .0) p ≡ [] → Kept s p level plane out written written out
+  kept-nothing e =
+      record {
+        counts = let f : written ≡ written + 0 = omega arith in f ∙ ap (λ (l : List ℕ). written + length l) (sym e);
+        copies = ap (λ (l : List ℕ). sets out written l) (sym e);
+      }
+
+  pub kept-coarse : p .level .0 < level .0 → Kept s p level plane out written written out
+  unfolding keptOf
+  kept-coarse l = kept-nothing (rw (lt-leb (level .0) (p .level .0) l))
+
+  pub kept-low : level .0 ≤ p .level .0 → p .plane .0 < plane .0 → Kept s p level plane out written written out
+  unfolding keptOf
+  kept-low k l = kept-nothing (rw (le-leb (level .0) (p .level .0) k, lt-leb (plane .0) (p .plane .0) l))
+
+  pub kept-whole : Copies s p written → level .0 ≤ p .level .0 → plane .0 ≤ p .plane .0 → (out′ : List ℕ)
+      → out′ ≡ sets out written (take (p .end - p .place) (drop (p .place) s)) → Kept s p level plane out written (written + (p .end - p .place)) out′
+  unfolding keptOf wholeOf
+  kept-whole c k l out′ e =
+      let f : keptOf s (level .0) (plane .0) p ≡ wholeOf s p = rw (le-leb (level .0) (p .level .0) k, le-leb (plane .0) (p .plane .0) l) in
+      record {
+        counts = ap (λ (n : ℕ). written + n) (sym (whole-length s p (c .ordered) (c .within)) ∙ ap length (sym f));
+        copies = e ∙ ap (λ (l : List ℕ). sets out written l) (sym f);
+      }
+
+kept-most : (s : List ℕ) (p : Part) (level : Level) (plane : Plane) → p .place ≤ p .end → p .end ≤ length s
+    → length (keptOf s (level .0) (plane .0) p) ≤ p .end - p .place
+unfolding keptOf
+kept-most s p level plane o l = go (leb (level .0) (p .level .0) && leb (plane .0) (p .plane .0))
+  where
+    go : (b : Bool) → length (cond b (wholeOf s p) []) ≤ p .end - p .place
+    go true = omega (arith, whole-length s p o l)
+    go false = omega arith
+
+ending-clash : (q : Refusal) (n : ℕ) → fault q ≡ tail n → _≡_ {A = ℕ} 0 1
+ending-clash q n e = cc
+
+-- The walk: what was written, and what is left to write.
+pub record Walking (s : List ℕ) (h : Header) (level : Level) (plane : Plane) (room : ℕ) (out : List ℕ) (before : PartName) (place written : ℕ) : Type 0 where
+  pub read : readHeader s ≡ header.Header h
+  pub bytes : List ℕ
+  pub count : length bytes ≡ written
+  pub holds : out ≡ clipped room bytes
+  pub left : bytes ++ flat (keptOf s (level .0) (plane .0)) (partsFrom h s before place .parts) ≡ result s h level plane
+  pub ends : partsFrom h s before place .ending ≡ readParts h s .ending
+  pub behind : written ≤ place
+  pub within : place ≤ length s
+
+module _ (s : List ℕ) (h : Header) (level : Level) (plane : Plane) where
+  abbrev kept : List Part → List ℕ
+  kept ps = flat (keptOf s (level .0) (plane .0)) ps
+
+  pub walking-begun : (out : List ℕ) → Begun s h out → Walking s h level plane (length out) out (record { plane = h .planes; level = 0 }) (h .end) (h .end)
+  unfolding servedBytes
+  walking-begun out b =
+      let w : h .end ≤ length s = header-within (readHeader-stands s h (b .read)) in
+      let e = readParts-from h s w in
+      record {
+        read = b .read;
+        bytes = take (h .end) s;
+        count = length-take-le (h .end) s w;
+        holds = b .copied;
+        left = ap (λ (x : Reading). take (h .end) s ++ kept (x .parts)) (sym e);
+        ends = ap (λ (x : Reading). x .ending) (sym e);
+        behind = omega arith;
+        within = w;
+      }
+
+  module _ (room : ℕ) (out : List ℕ) (before : PartName) (place written : ℕ) (w : Walking s h level plane room out before place written) where
+    pub walking-legal : legalSize (h .size) ≡ true
+    walking-legal = header-legal (readHeader-stands s h (w .read))
+
+    pub walking-copies : (p : Part) (r : PartRead) → r ≡ readPart h s before place → r ≡ part.Part p → Copies s p written
+    walking-copies p r e f =
+        let st = readPart-stands h s before place p (sym e ∙ f) in
+        record { behind = omega (arith, w .behind, st .placed); ordered = omega (arith, st .placed, st .after, st .end); within = st .within }
+
+    pub walking-on : (p : Part) (r : PartRead) → r ≡ readPart h s before place → r ≡ part.Part p → (more : ℕ) (out′ : List ℕ)
+        → Kept s p level plane out written more out′ → Walking s h level plane room out′ (nameOf p) (p .end) more
+    unfolding flat
+    walking-on p r e f more out′ k =
+        let st = readPart-stands h s before place p (sym e ∙ f) in
+        let c = walking-copies p r e f in
+        let x = partsFrom-part h s before place p (sym e ∙ f) in
+        let own = keptOf s (level .0) (plane .0) p in
+        record {
+          read = w .read;
+          bytes = w .bytes ++ own;
+          count = length-append (w .bytes) own ∙ ap (λ (n : ℕ). n + length own) (w .count) ∙ sym (k .counts);
+          holds = k .copies ∙ ap₂ (λ (l : List ℕ) (n : ℕ). sets l n own) (w .holds) (sym (w .count)) ∙ clipped-append room (w .bytes) own;
+          left = append-assoc (w .bytes) own _ ∙ ap (λ (y : Reading). w .bytes ++ kept (y .parts)) (sym x) ∙ w .left;
+          ends = ap (λ (y : Reading). y .ending) (sym x) ∙ w .ends;
+          behind = omega (arith, k .counts, kept-most s p level plane (c .ordered) (c .within), c .behind, c .ordered);
+          within = st .within;
+        }
+
+    pub walking-further : (p : Part) (r : PartRead) → r ≡ readPart h s before place → r ≡ part.Part p → length s - p .end < length s - place
+    walking-further p r e f =
+        let st = readPart-stands h s before place p (sym e ∙ f) in
+        omega (arith, st .after, st .end, st .within)
+
+    -- The walk's two ends, for whoever lent the output as `first`.
+    module _ (first : List ℕ) (lent : room ≡ length first) where
+      pub walking-same : length out ≡ length first
+      walking-same = ap length (w .holds) ∙ clipped-length room (w .bytes) ∙ lent
+
+      pub walking-whole : (r : PartRead) → r ≡ readPart h s before place → r ≡ part.Tail → Walked s h level plane first (Whole written (length s - place)) out
+      unfolding endOf flat
+      walking-whole r e f =
+          let x = partsFrom-tail h s before place (sym e ∙ f) in
+          let t : readParts h s .ending ≡ tail (length s - place) = sym (w .ends) ∙ ap (λ (y : Reading). y .ending) x in
+          let b : w .bytes ≡ result s h level plane = sym (append-nil (w .bytes)) ∙ ap (λ (y : Reading). w .bytes ++ kept (y .parts)) (sym x) ∙ w .left in
+          record {
+            ends = ap (λ (n : ℕ). Whole n (length s - place)) (sym (w .count) ∙ ap length b) ∙ ap (λ (y : Ending). endOf y (result s h level plane)) (sym t);
+            same = walking-same;
+            holds = λ n u. w .holds ∙ ap₂ clipped lent b;
+          }
+
+      pub walking-fault : (r : PartRead) (q : Refusal) → r ≡ readPart h s before place → r ≡ part.Refused q → Walked s h level plane first (Fault q) out
+      unfolding endOf
+      walking-fault r q e f =
+          let x = partsFrom-fault h s before place q (sym e ∙ f) in
+          let t : readParts h s .ending ≡ fault q = sym (w .ends) ∙ ap (λ (y : Reading). y .ending) x in
+          record {
+            ends = ap (λ (y : Ending). endOf y (result s h level plane)) (sym t);
+            same = walking-same;
+            holds = λ n u. absurd (let z : _≡_ {A = ℕ} 0 1 = ending-clash q n (sym t ∙ u) in omega arith);
+          }
+
+-- How a walk that ended so ended.
+ended-fault : (y : Ending) (bytes : List ℕ) (q : Refusal) → endOf y bytes ≡ Fault q → y ≡ fault q
+unfolding endOf
+ended-fault (tail t) bytes q e = absurd (let z : _≡_ {A = ℕ} 0 1 = cc in omega arith)
+ended-fault (fault r) bytes q e = cc
+
+ended-whole : (y : Ending) (bytes : List ℕ) (n t : ℕ) → endOf y bytes ≡ Whole n t → (y ≡ tail t) × (n ≡ length bytes)
+unfolding endOf
+ended-whole (tail u) bytes n t e = (cc, cc)
+ended-whole (fault r) bytes n t e = absurd (let z : _≡_ {A = ℕ} 0 1 = cc in omega arith)
+
+-- The call as a whole, for a header that was read and a request that was judged.
+module _ (s : List ℕ) (level : Level) (plane : Plane) (out : List ℕ) where
+  -- refused with r, the output cleared by whoever had it then, as long as it was lent
+  refusing : (r : Refusal) (a : Served) (then out′ : List ℕ) → length then ≡ length out → Refusing r then a out′
+      → serving s (level .0) (plane .0) (length out) ≡ refused r → Serving s (level .0) (plane .0) out a out′
+  unfolding serveAnswer serveOut
+  refusing r a then out′ l f e =
+      record { answers = f .answers ∙ ap serveAnswer (sym e); writes = f .clears ∙ ap zeros l ∙ ap (serveOut (length out)) (sym e) }
+
+  pub unheaded : (x : HeaderRead) (r : Refusal) (a : Served) (out′ : List ℕ) → x ≡ readHeader s → x ≡ header.Refused r → Refusing r out a out′
+      → Serving s (level .0) (plane .0) out a out′
+  unfolding serving onHeader
+  unheaded x r a out′ e f g = refusing r a out out′ refl g (rw (sym e ∙ f))
+
+  module _ (h : Header) (read : readHeader s ≡ header.Header h) where
+    pub unasked : (b : Bool) (a : Served) (out′ : List ℕ) → b ≡ legalAsk h (level .0) (plane .0) → b ≡ false → Refusing refusal.Ask out a out′
+        → Serving s (level .0) (plane .0) out a out′
+    unfolding serving onHeader unless
+    unasked b a out′ e f g = refusing refusal.Ask a out out′ refl g (rw (read, sym e ∙ f))
+
+    pub begun : (zeroed copied : List ℕ) → zeroed ≡ replicate (length out) 0 → copied ≡ sets zeroed 0 (take (h .end) (drop 0 s)) → Begun s h copied
+    begun zeroed copied e f =
+        let l : length copied ≡ length out = ap length (f ∙ ap (λ (x : List ℕ). sets x 0 (take (h .end) s)) e) ∙ length-sets (zeros (length out)) 0 (take (h .end) s) ∙ length-replicate (length out) 0 in
+        record {
+          read = read;
+          copied = f ∙ ap (λ (x : List ℕ). sets x 0 (take (h .end) s)) (e ∙ sym (clipped-nothing (length out))) ∙ clipped-append (length out) [] (take (h .end) s)
+              ∙ ap (λ (n : ℕ). clipped n (take (h .end) s)) (sym l);
+        }
+
+    module _ (b : Bool) (asked : b ≡ legalAsk h (level .0) (plane .0)) (legal-ask : b ≡ true) (copied out₁ : List ℕ) (lent : length copied ≡ length out)
+        (e : Ended) (w : Walked s h level plane copied e out₁) where
+      pub faulted : (q : Refusal) (a : Served) (out′ : List ℕ) → e ≡ Fault q → Refusing q out₁ a out′ → Serving s (level .0) (plane .0) out a out′
+      unfolding serving onHeader unless onEnding
+      faulted q a out′ f g =
+          let y : readParts h s .ending ≡ fault q = ended-fault _ (result s h level plane) q (sym (w .ends) ∙ f) in
+          refusing q a out₁ out′ (w .same ∙ lent) g (rw (read, sym asked ∙ legal-ask, y))
+
+      pub roomless : (n t : ℕ) (a : Served) (out′ : List ℕ) → e ≡ Whole n t → length out₁ < n → Refusing refusal.Room out₁ a out′ → Serving s (level .0) (plane .0) out a out′
+      unfolding serving onHeader unless onEnding portioned
+      roomless n t a out′ f l g =
+          let y = ended-whole _ (result s h level plane) n t (sym (w .ends) ∙ f) in
+          let m : length out < length (result s h level plane) = omega (arith, w .same, y .1) in
+          refusing refusal.Room a out₁ out′ (w .same ∙ lent) g (rw (read, sym asked ∙ legal-ask, y .0, lt-leb (length (result s h level plane)) (length out) m))
+
+      pub served : (n t : ℕ) → e ≡ Whole n t → n ≤ length out₁ → Serving s (level .0) (plane .0) out (record { verdict = Accepted; length = n; tail = t }) out₁
+      unfolding serving onHeader unless onEnding portioned serveAnswer serveOut
+      served n t f l =
+          let y = ended-whole _ (result s h level plane) n t (sym (w .ends) ∙ f) in
+          let m : length (result s h level plane) ≤ length out = omega (arith, w .same, y .1) in
+          let v : serving s (level .0) (plane .0) (length out) ≡ accepted (record { bytes = result s h level plane; tail = t })
+          = rw (read, sym asked ∙ legal-ask, y .0, le-leb (length (result s h level plane)) (length out) m) in
+          record {
+            answers = ap (λ (k : ℕ). record { verdict = Accepted; length = k; tail = t }) (y .1) ∙ ap serveAnswer (sym v);
+            writes = w .holds t (y .0) ∙ ap (λ (k : ℕ). clipped k (result s h level plane)) lent ∙ clipped-fits (length out) (result s h level plane) m ∙ ap (serveOut (length out)) (sym v);
+          }
