@@ -6,9 +6,10 @@
 test:
 	@tools/gate
 
-# The rules are proved, the cases that document 01 names among them.
+# Every crate is proved, and the archive for the C side is written.
 run:
 	@rt check
+	@rt staticlib portal
 
 fmt:
 	@rt fmt
