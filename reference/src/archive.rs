@@ -1,6 +1,7 @@
-//! The product's archive, libportal.a, linked under the feature `archive`.
+//! The product's archive, libportal.a, linked under the feature `archive`; under
+//! `archive-serve` only its call for serving.
 
-use crate::compare::Subject;
+use crate::compare::{Routine, Subject};
 
 // Takes no part in the program: it makes cargo notice a new archive.
 const _: &[u8] = include_bytes!(concat!(
@@ -13,6 +14,7 @@ const _: &[u8] = include_bytes!(concat!(
 
 #[link(name = "portal", kind = "static")]
 extern "C" {
+    #[cfg(feature = "archive")]
     fn afs_code(
         pyramid: *const i32,
         pyramid_len: usize,
@@ -38,6 +40,7 @@ extern "C" {
         answer_len: usize,
     ) -> u64;
 
+    #[cfg(feature = "archive")]
     fn afs_decode(
         record: *const u8,
         record_len: usize,
@@ -50,12 +53,22 @@ extern "C" {
     ) -> u64;
 }
 
-/// The archive's calls.
+/// The archive's calls, as many as are linked.
 pub struct Archive;
+
+#[cfg(feature = "archive")]
+const LINKED: &[Routine] = &Routine::EXPORTED;
+#[cfg(not(feature = "archive"))]
+const LINKED: &[Routine] = &[Routine::Serve];
 
 // In each call the pointers and lengths are those of slices that live through
 // it, and the borrow checker keeps them apart, as the calls ask.
 impl Subject for Archive {
+    fn routines(&self) -> &[Routine] {
+        LINKED
+    }
+
+    #[cfg(feature = "archive")]
     fn code(
         &self,
         pyramid: &[i32],
@@ -105,6 +118,7 @@ impl Subject for Archive {
         }
     }
 
+    #[cfg(feature = "archive")]
     fn decode(&self, record: &[u8], out: &mut [i32], work: &mut [u32], answer: &mut [u64]) -> u64 {
         unsafe {
             afs_decode(
@@ -118,5 +132,24 @@ impl Subject for Archive {
                 answer.len(),
             )
         }
+    }
+
+    #[cfg(not(feature = "archive"))]
+    fn code(
+        &self,
+        _: &[i32],
+        _: u64,
+        _: u64,
+        _: u64,
+        _: &mut [u8],
+        _: &mut [u32],
+        _: &mut [u64],
+    ) -> u64 {
+        unreachable!("only serving is linked")
+    }
+
+    #[cfg(not(feature = "archive"))]
+    fn decode(&self, _: &[u8], _: &mut [i32], _: &mut [u32], _: &mut [u64]) -> u64 {
+        unreachable!("only serving is linked")
     }
 }

@@ -38,7 +38,7 @@ pub mod server;
 pub mod size;
 pub mod slip;
 
-#[cfg(feature = "archive")]
+#[cfg(feature = "archive-serve")]
 pub mod archive;
 
 pub use coder::{code, CodeAnswer};

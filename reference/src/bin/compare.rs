@@ -1,15 +1,15 @@
 //! Compares the product with the reference on many seeded cases: the archive's
-//! exported calls (with the feature `archive`, else the reference's own
-//! portal), or what a part list program prints.
+//! exported calls (with the feature `archive`, or `archive-serve` for serving
+//! alone, else the reference's own portal), or what a part list program prints.
 
 use reference::compare::{run, run_partlist, Difference, Routine, Subject, Tally};
 use std::path::Path;
 use std::process::ExitCode;
 use std::time::{Duration, Instant};
 
-#[cfg(feature = "archive")]
+#[cfg(feature = "archive-serve")]
 const SUBJECT: (&str, &dyn Subject) = ("the archive", &reference::archive::Archive);
-#[cfg(not(feature = "archive"))]
+#[cfg(not(feature = "archive-serve"))]
 const SUBJECT: (&str, &dyn Subject) = ("the reference's own portal", &reference::compare::Own);
 
 const USAGE: &str = "usage: compare code|serve|decode COUNT [SEED]
@@ -36,9 +36,10 @@ fn compare(arguments: &[String]) -> Option<Result<Tally, Difference>> {
         let program = Path::new(program);
         return Some(run_partlist(program, count, seed, &mut progress(count)));
     }
-    let routine = Routine::exported(name)?;
-    let (count, seed) = count_and_seed(rest)?;
     let (whose, subject) = SUBJECT;
+    let mut routines = subject.routines().iter().copied();
+    let routine = routines.find(|routine| routine.name() == name)?;
+    let (count, seed) = count_and_seed(rest)?;
     eprintln!("{name} of {whose}, {count} cases, seed {seed}");
     Some(run(routine, count, seed, subject, &mut progress(count)))
 }

@@ -27,6 +27,11 @@ pub use tally::{Difference, Tally};
 
 /// What is compared with the library.
 pub trait Subject {
+    /// The routines that it has; no other is called.
+    fn routines(&self) -> &[Routine] {
+        &Routine::EXPORTED
+    }
+
     #[allow(clippy::too_many_arguments)]
     fn code(
         &self,
@@ -95,7 +100,7 @@ pub enum Routine {
 }
 
 impl Routine {
-    /// Those that a [`Subject`] has.
+    /// Those that a [`Subject`] can have.
     pub const EXPORTED: [Routine; 3] = [Routine::Code, Routine::Serve, Routine::Decode];
 
     pub fn name(self) -> &'static str {
@@ -105,12 +110,6 @@ impl Routine {
             Routine::Decode => "decode",
             Routine::Partlist => "partlist",
         }
-    }
-
-    /// The exported routine of this name.
-    pub fn exported(name: &str) -> Option<Routine> {
-        let mut exported = Routine::EXPORTED.iter().copied();
-        exported.find(|routine| routine.name() == name)
     }
 
     /// The numbers that the exported routine can give. Decoding has ROOM only

@@ -1,0 +1,56 @@
+-- The walk of a survey: how the bytes end does not change from place to place.
+use mathlib.Core.Path.{_≡_, refl, ap, sym, _∙_}
+use mathlib.Core.List.{List}
+use mathlib.Core.Bool.{true}
+use Prim.Native.Nat.{ℕ, _-_, _≤_, _<_}
+use native.Mathlib.Omega.{arith}
+use lib.ListN.{length}
+use Rattle.rules.specs.declared.Refusal.{Refusal}
+use Rattle.rules.specs.declared.Verdict.the-variants.{Accepted}
+use Rattle.rules.specs.declared.Header.{Header}
+use Rattle.rules.specs.declared.HeaderRead.{HeaderRead}
+use Rattle.rules.specs.declared.HeaderRead.the-variants as header
+use Rattle.rules.specs.declared.Part.{Part}
+use Rattle.rules.specs.declared.PartRead.{PartRead}
+use Rattle.rules.specs.declared.PartRead.the-variants as part
+use Rattle.rules.specs.Document.Pyramid.{legalSize}
+use Rattle.rules.specs.Document.Passes.{PartName}
+use Rattle.rules.specs.Document.Layout.{nameOf}
+use Rattle.rules.specs.Document.Numbers.{Ending, tail, fault, Reading, readHeader, readPart, readParts}
+use Rattle.rules.specs.Laws.Reading.{HeaderStands, readHeader-stands, header-legal, header-within, PartStands, readPart-stands}
+use Rattle.rules.specs.Laws.Walk.{partsFrom, readParts-from, partsFrom-part, partsFrom-tail, partsFrom-fault}
+use Rattle.survey.specs.declared.Survey.{Survey}
+use Rattle.survey.specs.Surveyed.{refusedWith, endedWith, headedWith, surveyOf}
+
+pub record Surveying (s : List ℕ) (h : Header) (before : PartName) (place : ℕ) : Type 0 where
+  pub read : readHeader s ≡ header.Header h
+  pub ends : partsFrom h s before place .ending ≡ readParts h s .ending
+  pub within : place ≤ length s
+
+module _ (s : List ℕ) (h : Header) where
+  pub surveying-begun : readHeader s ≡ header.Header h → Surveying s h (record { plane = h .planes; level = 0 }) (h .end)
+  surveying-begun e =
+      let w : h .end ≤ length s = header-within (readHeader-stands s h e) in
+      record { read = e; ends = ap (λ (x : Reading). x .ending) (sym (readParts-from h s w)); within = w }
+
+  module _ (before : PartName) (place : ℕ) (v : Surveying s h before place) (r : PartRead) (e : r ≡ readPart h s before place) where
+    pub surveying-on : (p : Part) → r ≡ part.Part p → Surveying s h (nameOf p) (p .end)
+    surveying-on p f =
+        let st = readPart-stands h s before place p (sym e ∙ f) in
+        record { read = v .read; ends = ap (λ (x : Reading). x .ending) (sym (partsFrom-part h s before place p (sym e ∙ f))) ∙ v .ends; within = st .within }
+
+    pub surveying-further : (p : Part) → r ≡ part.Part p → length s - p .end < length s - place
+    surveying-further p f = let st = readPart-stands h s before place p (sym e ∙ f) in omega (arith, st .after, st .end, st .within)
+
+    pub surveying-whole : r ≡ part.Tail → record { verdict = Accepted; header = h; tail = length s - place } ≡ endedWith h (readParts h s .ending)
+    surveying-whole f = ap (endedWith h) (ap (λ (x : Reading). x .ending) (sym (partsFrom-tail h s before place (sym e ∙ f))) ∙ v .ends)
+
+    pub surveying-fault : (q : Refusal) (a : Survey) → r ≡ part.Refused q → a ≡ refusedWith q → a ≡ endedWith h (readParts h s .ending)
+    surveying-fault q a f g = g ∙ ap (endedWith h) (ap (λ (x : Reading). x .ending) (sym (partsFrom-fault h s before place q (sym e ∙ f))) ∙ v .ends)
+
+pub surveying-legal : (s : List ℕ) (h : Header) (before : PartName) (place : ℕ) → Surveying s h before place → legalSize (h .size) ≡ true
+surveying-legal s h before place v = header-legal (readHeader-stands s h (v .read))
+
+pub surveyed : (s : List ℕ) (x y : HeaderRead) (a : Survey) → x ≡ readHeader s → x ≡ y → a ≡ headedWith s y → a ≡ surveyOf s
+unfolding surveyOf
+surveyed s x y a e f g = g ∙ ap (headedWith s) (sym f ∙ e)

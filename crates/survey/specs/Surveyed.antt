@@ -1,0 +1,24 @@
+-- What a survey says: the header and the tail of a record that serving accepts, or its refusal.
+use mathlib.Core.List.{List}
+use Prim.Native.Nat.{ℕ}
+use Rattle.rules.specs.declared.Refusal.{Refusal}
+use Rattle.rules.specs.declared.Verdict.the-variants.{Accepted, Refused}
+use Rattle.rules.specs.declared.Header.{Header}
+use Rattle.rules.specs.declared.HeaderRead.{HeaderRead}
+use Rattle.rules.specs.declared.HeaderRead.the-variants as header
+use Rattle.rules.specs.Document.Numbers.{Ending, tail, fault, readHeader, readParts}
+use Rattle.survey.specs.declared.Survey.{Survey}
+
+abbrev pub refusedWith : Refusal → Survey
+refusedWith r = record { verdict = Refused r; header = record { size = record { w = 0; h = 0; n = 0 }; planes = 0; end = 0 }; tail = 0 }
+
+abbrev pub endedWith : Header → Ending → Survey
+endedWith h (tail t) = record { verdict = Accepted; header = h; tail = t }
+endedWith h (fault r) = refusedWith r
+
+abbrev pub headedWith : List ℕ → HeaderRead → Survey
+headedWith s (header.Header h) = endedWith h (readParts h s .ending)
+headedWith s (header.Refused r) = refusedWith r
+
+unfoldable pub surveyOf : List ℕ → Survey
+surveyOf s = headedWith s (readHeader s)

@@ -1,0 +1,77 @@
+// What a record holds, judged as serving it whole judges it: what partlist decides before it prints.
+ghost use mathlib.Core.Path.{_≡_};
+ghost use Rattle.rules.specs.declared.HeaderRead.the-variants as header;
+ghost use Rattle.rules.specs.Document.Numbers.{readHeader, readParts};
+ghost use Rattle.survey.specs.Surveyed.{refusedWith, endedWith, surveyOf};
+use record::Name;
+use rules::Header;
+use rules::HeaderRead;
+use rules::Level;
+use rules::PartRead;
+use rules::Plane;
+use rules::Refusal;
+use rules::Size;
+use rules::Verdict;
+
+pub struct Survey {
+    pub verdict: Verdict,
+    pub header: Header,
+    pub tail: usize,
+}
+
+fn refused(r: Refusal) -> Survey
+    ensures { λ a. ⌜ a ≡ refusedWith r ⌝ }
+{
+    Survey {
+        verdict: Verdict::Refused(r),
+        header: Header {
+            size: Size { w: 0, h: 0, n: 0 },
+            planes: 0,
+            end: 0,
+        },
+        tail: 0,
+    }
+}
+
+fn walk(s: &[u8], h: Header) -> Survey
+    requires { ⌜ readHeader (now s) ≡ header.Header h ⌝ }
+    ensures { λ a. ⌜ a ≡ endedWith h (readParts h (now (s .entry)) .ending) ⌝ }
+{
+    let mut before = Name {
+        plane: Plane(h.planes),
+        level: Level(0),
+    };
+    let mut place = h.end;
+    loop {
+        let read = record::read_part(s, h, before, place);
+        match read {
+            PartRead::Tail => {
+                return Survey {
+                    verdict: Verdict::Accepted,
+                    header: h,
+                    tail: s.len() - place,
+                };
+            }
+            PartRead::Refused(r) => return refused(r),
+            PartRead::Part(p) => {
+                let own_plane = p.plane;
+                let own_level = p.level;
+                before = Name {
+                    plane: own_plane,
+                    level: own_level,
+                };
+                place = p.end;
+            }
+        }
+    }
+}
+
+pub fn survey_of(s: &[u8]) -> Survey
+    ensures { λ a. ⌜ a ≡ surveyOf (now (s .entry)) ⌝ }
+{
+    let read = record::read_header(s);
+    match read {
+        HeaderRead::Header(h) => walk(s, h),
+        HeaderRead::Refused(r) => refused(r),
+    }
+}

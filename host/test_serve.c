@@ -1,0 +1,436 @@
+/* Tests of afs_serve as a C program calls it: document 01's cases, each refusal with its place, and all memory lent, for every outcome. */
+#include "afshtruni.h"
+
+#include <stdbool.h>
+#include <stdio.h>
+#include <stdlib.h>
+#include <string.h>
+
+#define LENGTH_OF(array) (sizeof(array) / sizeof *(array))
+
+/* Each case is counted once, and tells the first thing that is wrong in it. */
+static unsigned passed, failed;
+static const char *label;
+static bool holds_so_far;
+
+static void begin_case(const char *name) {
+    label = name;
+    holds_so_far = true;
+}
+
+static void check(bool holds, const char *what) {
+    if (holds_so_far && !holds)
+        printf("FAILED: %s: %s\n", label, what);
+    holds_so_far = holds_so_far && holds;
+}
+
+static void end_case(void) {
+    if (holds_so_far)
+        passed++;
+    else
+        failed++;
+}
+
+/* Bytes made of text such as "01 7F", in memory that ends with them, so that a read beyond is noticed under valgrind. */
+typedef struct {
+    uint8_t *at;
+    size_t length;
+} Bytes;
+
+static void *memory_of(size_t size) {
+    void *memory = malloc(size > 0 ? size : 1);
+    if (memory == NULL) {
+        perror("malloc");
+        exit(2);
+    }
+    return memory;
+}
+
+static Bytes copy_of(const uint8_t *from, size_t length) {
+    Bytes bytes = {memory_of(length), length};
+    if (length > 0)
+        memcpy(bytes.at, from, length);
+    return bytes;
+}
+
+static Bytes bytes_of(const char *text) {
+    Bytes bytes = {memory_of(strlen(text) / 2), 0};
+    char *end;
+    for (; *text != '\0'; text = end + strspn(end, " ")) {
+        bytes.at[bytes.length++] = (uint8_t)strtoul(text, &end, 16);
+        if (end != text + 2) {
+            fprintf(stderr, "not a row of bytes: %s\n", text);
+            exit(2);
+        }
+    }
+    Bytes exact = copy_of(bytes.at, bytes.length);
+    free(bytes.at);
+    return exact;
+}
+
+/* A call and what must come of it; `result` is empty for a refusal. */
+typedef struct {
+    const Bytes *record;
+    uint64_t level, plane;
+    size_t room, answer_length;
+    uint64_t number, place, tail;
+    Bytes result;
+} Call;
+
+/* Output and answer are lent dirty, with a guard on both sides. */
+enum { GUARD = 8, DIRT = 0xA5 };
+
+static bool all_are(const void *memory, size_t length, uint8_t value) {
+    const uint8_t *bytes = memory;
+    for (size_t i = 0; i < length; i++)
+        if (bytes[i] != value)
+            return false;
+    return true;
+}
+
+static void check_guards(const void *memory, size_t length, const char *what) {
+    const uint8_t *bytes = memory;
+    check(all_are(bytes - GUARD, GUARD, DIRT) && all_are(bytes + length, GUARD, DIRT), what);
+}
+
+static void check_answer(const Call *call, uint64_t returned, const uint64_t *answer) {
+    size_t written = 0;
+    check(returned == call->number, "number returned");
+    if (call->answer_length >= AFS_SERVED_NUMBERS) {
+        check(answer[AFS_SERVED_NUMBER] == call->number, "number in the answer");
+        check(answer[AFS_SERVED_PLACE] == call->place, "place");
+        check(answer[AFS_SERVED_LENGTH] == call->result.length, "length");
+        check(answer[AFS_SERVED_TAIL] == call->tail, "tail length");
+        written = AFS_SERVED_NUMBERS;
+    }
+    check(all_are(answer + written, (call->answer_length - written) * sizeof *answer, 0), "rest of the answer not 0");
+    check_guards(answer, call->answer_length * sizeof *answer, "written beside the answer");
+}
+
+static void check_out(const Call *call, const uint8_t *out) {
+    const Bytes *result = &call->result;
+    if (result->length > 0)
+        check(memcmp(out, result->at, result->length) == 0, "bytes of the result");
+    check(all_are(out + result->length, call->room - result->length, 0), "output not 0 after the result");
+    check_guards(out, call->room, "written beside the output");
+}
+
+static void try_call(const Call *call) {
+    size_t answer_size = call->answer_length * sizeof(uint64_t);
+    uint8_t *out_memory = memory_of(call->room + 2 * GUARD), *out = out_memory + GUARD;
+    uint8_t *answer_memory = memory_of(answer_size + 2 * GUARD);
+    uint64_t *answer = (uint64_t *)(void *)(answer_memory + GUARD);
+    memset(out_memory, DIRT, call->room + 2 * GUARD);
+    memset(answer_memory, DIRT, answer_size + 2 * GUARD);
+    Bytes before = copy_of(call->record->at, call->record->length);
+
+    uint64_t returned =
+        afs_serve(call->record->at, call->record->length, call->level, call->plane, out, call->room, answer, call->answer_length);
+
+    check_answer(call, returned, answer);
+    check_out(call, out);
+    check(memcmp(before.at, call->record->at, before.length) == 0, "record written to");
+    free(before.at);
+    free(answer_memory);
+    free(out_memory);
+}
+
+/* The same with answers of other lengths: too short for the answer, and longer than it. */
+static void try_answers(Call call) {
+    for (call.answer_length = AFS_SERVED_NUMBERS; call.answer_length <= 7; call.answer_length++)
+        try_call(&call);
+    call.number = AFS_ROOM;
+    call.result.length = 0;
+    for (call.answer_length = 0; call.answer_length < AFS_SERVED_NUMBERS; call.answer_length++)
+        try_call(&call);
+}
+
+/* A refusal is the same whatever room there is. */
+static void try_refused(const Bytes *record, uint64_t level, uint64_t plane, uint64_t number, uint64_t place) {
+    Call call = {.record = record, .level = level, .plane = plane, .number = number, .place = place};
+    size_t rooms[] = {0, 1, record->length, record->length + 9};
+    for (size_t i = 0; i < LENGTH_OF(rooms); i++) {
+        call.room = rooms[i];
+        try_answers(call);
+    }
+}
+
+/* A result is written where it has room, and refused where a byte is missing; served again it is itself. */
+static void try_accepted(const Bytes *record, uint64_t level, uint64_t plane, const Bytes *result, uint64_t tail) {
+    Call call = {.record = record, .level = level, .plane = plane, .tail = tail, .result = *result};
+    size_t rooms[] = {result->length, result->length + 1, record->length + 9};
+    for (size_t i = 0; i < LENGTH_OF(rooms); i++) {
+        call.room = rooms[i];
+        try_answers(call);
+    }
+    Call again = call;
+    again.record = result;
+    again.tail = 0;
+    try_answers(again);
+    Call refused = {.record = record, .level = level, .plane = plane, .number = AFS_ROOM};
+    for (refused.room = 0; refused.room < result->length; refused.room++)
+        try_answers(refused);
+}
+
+/* Document 01's record in full, and its pieces. */
+#define HEADER "01 04 04 01 03 "
+#define PART_2_2 "02 02 05 80 "
+#define PART_2_1 "02 01 03 00 "
+#define PART_1_2 "01 02 05 40 "
+#define PART_1_1 "01 01 08 8C "
+#define PART_0_2 "00 02 05 C0 "
+#define PART_0_1 "00 01 0B 0C 20 "
+#define EXAMPLE HEADER PART_2_2 PART_2_1 PART_1_2 PART_1_1 PART_0_2 PART_0_1
+
+/* 8 x 8, N = 2, so levels 1 to 3; the bit counts there may be up to 256. */
+#define WIDER "01 08 08 02 02 "
+#define EIGHT "FF 00 55 AA 01 80 7F FE "
+#define BODY_256 EIGHT EIGHT EIGHT EIGHT
+
+typedef struct {
+    const char *name, *record;
+    uint64_t level, plane;
+    const char *result;
+    uint64_t tail;
+} Accepted;
+
+static const Accepted accepted[] = {
+    {"P8: 17 bytes", EXAMPLE, 2, 0, HEADER PART_2_2 PART_1_2 PART_0_2, 0},
+    {"P9: 21 bytes", EXAMPLE, 1, 1, HEADER PART_2_2 PART_2_1 PART_1_2 PART_1_1, 0},
+    {"whole", EXAMPLE, 1, 0, EXAMPLE, 0},
+    {"level 2, plane 1", EXAMPLE, 2, 1, HEADER PART_2_2 PART_1_2, 0},
+    {"level 2, plane 2", EXAMPLE, 2, 2, HEADER PART_2_2, 0},
+    {"plane = planes: header alone", EXAMPLE, 1, 3, HEADER, 0},
+    {"level N + 1, plane = planes", EXAMPLE, 2, 3, HEADER, 0},
+    {"P10's selection", HEADER PART_2_2 PART_2_1 PART_1_1 PART_0_2 PART_0_1, 1, 0,
+     HEADER PART_2_2 PART_2_1 PART_1_1 PART_0_2 PART_0_1, 0},
+    {"P11's selection", HEADER PART_2_2 PART_2_1 PART_1_2 PART_0_2 PART_0_1, 2, 0, HEADER PART_2_2 PART_1_2 PART_0_2, 0},
+    {"last part alone", HEADER PART_0_1, 1, 0, HEADER PART_0_1, 0},
+    {"bits that no coder wrote are not judged", HEADER "02 02 04 F0 02 01 00 ", 1, 0, HEADER "02 02 04 F0 02 01 00 ", 0},
+
+    {"P7: no planes", "01 04 04 01 00", 1, 0, "01 04 04 01 00", 0},
+    {"no planes, level 2", "01 04 04 01 00", 2, 0, "01 04 04 01 00", 0},
+    {"no planes, head cut", "01 04 04 01 00 00 01", 1, 0, "01 04 04 01 00", 2},
+    {"17 planes", "01 04 04 01 11 10 02 00", 1, 17, "01 04 04 01 11", 0},
+    {"plane 16 of 17", "01 04 04 01 11 10 02 00", 1, 16, "01 04 04 01 11 10 02 00", 0},
+    {"8 x 8, N = 1", "01 08 08 01 01", 1, 0, "01 08 08 01 01", 0},
+    {"4 x 512", "01 04 80 04 01 01", 1, 0, "01 04 80 04 01 01", 0},
+    {"64 x 64, N = 5", "01 40 40 05 01 00 06 00", 6, 0, "01 40 40 05 01 00 06 00", 0},
+    {"512 x 512, N = 5", "01 80 04 80 04 05 11 10 06 00 10 01 07 02", 6, 0, "01 80 04 80 04 05 11 10 06 00", 0},
+    {"512 x 512, bit count of 4 x 512 x 512, body cut", "01 80 04 80 04 05 11 10 06 80 80 40 00", 1, 0, "01 80 04 80 04 05 11", 6},
+
+    {"three levels, all", WIDER "01 03 02 40 01 02 00 01 01 80 02 " BODY_256 "00 03 01 80", 1, 0,
+     WIDER "01 03 02 40 01 02 00 01 01 80 02 " BODY_256 "00 03 01 80", 0},
+    {"three levels, two kept", WIDER "01 03 02 40 01 02 00 01 01 80 02 " BODY_256 "00 03 01 80", 2, 0,
+     WIDER "01 03 02 40 01 02 00 00 03 01 80", 0},
+    {"three levels, one kept", WIDER "01 03 02 40 01 02 00 01 01 80 02 " BODY_256 "00 03 01 80", 3, 1, WIDER "01 03 02 40", 0},
+
+    {"64 bits in 4 x 4", HEADER "00 01 40 " EIGHT, 1, 0, HEADER "00 01 40 " EIGHT, 0},
+    {"8 bits have no padding", HEADER "02 02 08 FF", 1, 0, HEADER "02 02 08 FF", 0},
+    {"0 bits have no body", HEADER "02 02 00 01 02 00", 1, 0, HEADER "02 02 00 01 02 00", 0},
+
+    {"tail: plane cut", HEADER "80", 1, 0, HEADER, 1},
+    {"tail: plane of three bytes cut", HEADER "80 80 80", 1, 0, HEADER, 3},
+    {"tail: plane alone", HEADER "02", 1, 0, HEADER, 1},
+    {"tail: level cut", HEADER "02 80 80 80", 1, 0, HEADER, 4},
+    {"tail: plane and level", HEADER "02 02", 1, 0, HEADER, 2},
+    {"tail: bit count cut", HEADER "02 02 80 80", 1, 0, HEADER, 4},
+    {"tail: no value judged before the third number", HEADER "7F 7F", 1, 0, HEADER, 2},
+    {"tail: no value judged where the third number is cut", HEADER "7F 7F FF FF FF", 1, 0, HEADER, 5},
+    {"tail: out of order, but cut", HEADER PART_1_2 "02 02", 1, 0, HEADER PART_1_2, 2},
+    {"tail: body missing", HEADER "02 02 05", 1, 0, HEADER, 3},
+    {"tail: 64 bits, body missing", HEADER "00 01 40", 1, 0, HEADER, 3},
+    {"tail: 64 bits, a byte missing", HEADER "00 01 40 00 00 00 00 00 00 00", 1, 0, HEADER, 10},
+    {"tail: padding set, but a byte before it missing", HEADER "02 02 0C FF", 1, 0, HEADER, 4},
+    {"tail: in a part that would be dropped", HEADER PART_2_2 "02 01 03", 2, 0, HEADER PART_2_2, 3},
+    {"tail: first 29 bytes, level 2", HEADER PART_2_2 PART_2_1 PART_1_2 PART_1_1 PART_0_2 "00 01 0B 0C", 2, 0,
+     HEADER PART_2_2 PART_1_2 PART_0_2, 4},
+    {"tail: after dropped parts", HEADER PART_2_2 PART_2_1 "01 02", 2, 2, HEADER PART_2_2, 2},
+};
+
+typedef struct {
+    const char *name, *record;
+    uint64_t level, plane, number, place;
+} Refused;
+
+static const Refused refused[] = {
+    {"empty", "", 1, 0, AFS_HEAD, 0},
+    {"no width", "01", 1, 0, AFS_HEAD, 1},
+    {"no height", "01 04", 1, 0, AFS_HEAD, 2},
+    {"no decompositions", "01 04 04", 1, 0, AFS_HEAD, 3},
+    {"no planes number", "01 04 04 01", 1, 0, AFS_HEAD, 4},
+    {"no planes number after long ones", "01 80 04 80 04 05", 1, 0, AFS_HEAD, 6},
+    {"version cut", "80", 1, 0, AFS_HEAD, 0},
+    {"width cut", "01 80", 1, 0, AFS_HEAD, 1},
+    {"height cut", "01 04 80 80", 1, 0, AFS_HEAD, 2},
+    {"decompositions cut", "01 04 04 80 80 80", 1, 0, AFS_HEAD, 3},
+    {"planes cut", "01 80 04 80 04 05 83", 1, 0, AFS_HEAD, 6},
+    {"version malformed", "81 00 04 04 01 03", 1, 0, AFS_HEAD, 0},
+    {"version malformed, nothing after it", "81 00", 1, 0, AFS_HEAD, 0},
+    {"version of more than four bytes", "80 80 80 80", 1, 0, AFS_HEAD, 0},
+    {"width malformed", "01 84 00 04 01 03", 1, 0, AFS_HEAD, 1},
+    {"height malformed", "01 04 84 80 80 00 01 03", 1, 0, AFS_HEAD, 2},
+    {"decompositions of more than four bytes", "01 04 04 FF FF FF FF 03", 1, 0, AFS_HEAD, 3},
+    {"planes malformed", "01 04 04 01 80 00", 1, 0, AFS_HEAD, 4},
+
+    {"version 129", "81 01", 1, 0, AFS_VERSION, 0},
+    {"version 0", "00 04 04 01 03", 1, 0, AFS_VERSION, 0},
+    {"version 2", "02 04 04 01 03", 1, 0, AFS_VERSION, 0},
+    {"version of four bytes", "FF FF FF 7F 04 04 01 03", 1, 0, AFS_VERSION, 0},
+    {"version before a malformed width", "02 80 00", 1, 0, AFS_VERSION, 0},
+    {"version before the end", "02", 1, 0, AFS_VERSION, 0},
+    {"version before sizes and ask", "02 00 00 00 63", 0, 99, AFS_VERSION, 0},
+
+    {"width 0", "01 00 04 01 03", 1, 0, AFS_SIZE, 0},
+    {"width 2", "01 02 04 01 03", 1, 0, AFS_SIZE, 0},
+    {"height 2", "01 04 02 01 03", 1, 0, AFS_SIZE, 0},
+    {"6 x 8, N = 1", "01 06 08 01 03", 1, 0, AFS_SIZE, 0},
+    {"8 x 6, N = 1", "01 08 06 01 03", 1, 0, AFS_SIZE, 0},
+    {"width 516", "01 84 04 04 01 03", 1, 0, AFS_SIZE, 0},
+    {"height 516", "01 04 84 04 01 03", 1, 0, AFS_SIZE, 0},
+    {"greatest width", "01 FF FF FF 7F 04 01 03", 1, 0, AFS_SIZE, 0},
+    {"greatest height", "01 04 FC FF FF 7F 01 03", 1, 0, AFS_SIZE, 0},
+    {"N = 0", "01 40 40 00 03", 1, 0, AFS_SIZE, 0},
+    {"N = 6", "01 80 01 80 01 06 03", 1, 0, AFS_SIZE, 0},
+    {"4 x 4, N = 2", "01 04 04 02 03", 1, 0, AFS_SIZE, 0},
+    {"greatest N", "01 04 04 FF FF FF 7F 03", 1, 0, AFS_SIZE, 0},
+    {"18 planes", "01 04 04 01 12", 1, 0, AFS_SIZE, 0},
+    {"most planes", "01 04 04 01 FF FF FF 7F", 1, 0, AFS_SIZE, 0},
+    {"HEAD before SIZE", "01 00 00 63", 1, 0, AFS_HEAD, 4},
+    {"SIZE before ASK", "01 00 04 01 03", 9, 99, AFS_SIZE, 0},
+    {"SIZE before PART", "01 04 04 01 12 80 00", 1, 0, AFS_SIZE, 0},
+
+    {"level 0", EXAMPLE, 0, 0, AFS_ASK, 0},
+    {"level N + 2", EXAMPLE, 3, 0, AFS_ASK, 0},
+    {"level 2^32 + 1", EXAMPLE, (UINT64_C(1) << 32) + 1, 0, AFS_ASK, 0},
+    {"level 257", EXAMPLE, 257, 0, AFS_ASK, 0},
+    {"greatest level", EXAMPLE, UINT64_MAX, 0, AFS_ASK, 0},
+    {"plane over planes", EXAMPLE, 1, 4, AFS_ASK, 0},
+    {"plane 2^32", EXAMPLE, 1, UINT64_C(1) << 32, AFS_ASK, 0},
+    {"greatest plane", EXAMPLE, 1, UINT64_MAX, AFS_ASK, 0},
+    {"plane 1 of no planes", "01 04 04 01 00", 1, 1, AFS_ASK, 0},
+    {"HEAD before ASK", "01 04 04 01", 0, 0, AFS_HEAD, 4},
+    {"ASK before PART", HEADER "80 00", 0, 0, AFS_ASK, 0},
+    {"ASK before PAD", HEADER "02 02 05 81", 1, 4, AFS_ASK, 0},
+
+    {"plane malformed", HEADER "80 00", 1, 0, AFS_PART, 5},
+    {"plane of more than four bytes", HEADER "80 80 80 80", 1, 0, AFS_PART, 5},
+    {"level malformed", HEADER "02 82 00", 1, 0, AFS_PART, 5},
+    {"bit count malformed", HEADER "02 02 85 00", 1, 0, AFS_PART, 5},
+    {"bit count of more than four bytes", HEADER "02 02 FF FF FF FF", 1, 0, AFS_PART, 5},
+    {"malformed in a later part", HEADER PART_2_2 PART_2_1 "01 80 00", 1, 0, AFS_PART, 13},
+    {"plane not under planes", HEADER "03 02 00", 1, 0, AFS_PART, 5},
+    {"greatest plane of a part", HEADER "FF FF FF 7F 02 00", 1, 0, AFS_PART, 5},
+    {"a part where there are no planes", "01 04 04 01 00 00 01 00", 1, 0, AFS_PART, 5},
+    {"level 0 of a part", HEADER "02 00 00", 1, 0, AFS_PART, 5},
+    {"level N + 2 of a part", HEADER "02 03 00", 1, 0, AFS_PART, 5},
+    {"greatest level of a part", HEADER "02 FF FF FF 7F 00", 1, 0, AFS_PART, 5},
+    {"level upward", HEADER PART_2_1 PART_2_2, 1, 0, AFS_PART, 9},
+    {"plane upward", HEADER PART_1_2 PART_2_1, 1, 0, AFS_PART, 9},
+    {"same part again", HEADER PART_2_2 PART_2_2, 1, 0, AFS_PART, 9},
+    {"same part again, 0 bits", HEADER "02 02 00 02 02 00", 1, 0, AFS_PART, 8},
+    {"last part again", EXAMPLE PART_0_1, 1, 0, AFS_PART, 30},
+    {"65 bits in 4 x 4", HEADER "00 01 41 " EIGHT "00", 1, 0, AFS_PART, 5},
+    {"65 bits in 4 x 4, body cut", HEADER "00 01 41", 1, 0, AFS_PART, 5},
+    {"most bits, body cut", HEADER "00 01 FF FF FF 7F", 1, 0, AFS_PART, 5},
+    {"257 bits in 8 x 8", WIDER "01 03 81 02 " BODY_256 "00", 1, 0, AFS_PART, 5},
+    {"4 x 512 x 512 bits and one", "01 80 04 80 04 05 11 10 06 81 80 40", 1, 0, AFS_PART, 7},
+    {"body cut, out of order", HEADER PART_1_2 "02 02 05", 1, 0, AFS_PART, 9},
+
+    {"first padding bit", HEADER "02 02 05 84", 1, 0, AFS_PAD, 5},
+    {"second padding bit", HEADER "02 02 05 82", 1, 0, AFS_PAD, 5},
+    {"last padding bit", HEADER "02 02 05 81", 1, 0, AFS_PAD, 5},
+    {"padding of a last byte", HEADER PART_2_2 PART_2_1 PART_1_2 PART_1_1 PART_0_2 "00 01 0B 0C 30", 1, 0, AFS_PAD, 25},
+    {"padding after one bit", HEADER "02 02 01 C0", 1, 0, AFS_PAD, 5},
+    {"padding after seven bits", HEADER "02 02 07 01", 1, 0, AFS_PAD, 5},
+    {"padding in a part that isn't usable", HEADER "02 01 03 10", 1, 0, AFS_PAD, 5},
+
+    {"first fault is PART", HEADER PART_2_2 PART_2_2 "02 01 03 01", 1, 0, AFS_PART, 9},
+    {"first fault is PAD", HEADER PART_2_2 "02 01 03 01 " PART_2_2, 1, 0, AFS_PAD, 9},
+    {"PART before PAD in a part", HEADER PART_1_2 "02 02 05 81", 1, 0, AFS_PART, 9},
+    {"fault before a tail", HEADER "02 02 05 81 02", 1, 0, AFS_PAD, 5},
+    {"PAD in a part dropped by its level", HEADER PART_2_2 "02 01 03 01", 2, 0, AFS_PAD, 9},
+    {"PAD in a part dropped by its plane", HEADER PART_2_2 "01 02 05 41", 1, 2, AFS_PAD, 9},
+    {"PAD where all parts are dropped", HEADER PART_2_2 PART_2_1 "00 01 0B 0C 21", 2, 3, AFS_PAD, 13},
+    {"PART in a part dropped by its level", HEADER PART_2_2 "02 01 41", 2, 0, AFS_PART, 9},
+    {"PART in a part dropped by its plane", HEADER PART_2_2 PART_1_1 "01 02 00", 1, 2, AFS_PART, 13},
+};
+
+static void test_tables(void) {
+    for (size_t i = 0; i < LENGTH_OF(accepted); i++) {
+        const Accepted *row = &accepted[i];
+        begin_case(row->name);
+        Bytes record = bytes_of(row->record), result = bytes_of(row->result);
+        try_accepted(&record, row->level, row->plane, &result, row->tail);
+        free(result.at);
+        free(record.at);
+        end_case();
+    }
+    for (size_t i = 0; i < LENGTH_OF(refused); i++) {
+        const Refused *row = &refused[i];
+        begin_case(row->name);
+        Bytes record = bytes_of(row->record);
+        try_refused(&record, row->level, row->plane, row->number, row->place);
+        free(record.at);
+        end_case();
+    }
+}
+
+/* The example cut at each byte: HEAD within the header, then a tail from where the last whole part ends. */
+static void test_cuts(void) {
+    static const size_t ends[] = {5, 9, 13, 17, 21, 25, 30};
+    Bytes example = bytes_of(EXAMPLE);
+    for (size_t length = 0, whole = 0; length <= example.length; length++) {
+        char name[32];
+        snprintf(name, sizeof name, "first %zu bytes", length);
+        begin_case(name);
+        Bytes cut = copy_of(example.at, length);
+        for (size_t i = 0; i < LENGTH_OF(ends); i++)
+            if (ends[i] == length)
+                whole = length;
+        Bytes result = copy_of(example.at, whole);
+        if (whole == 0)
+            try_refused(&cut, 1, 0, AFS_HEAD, length);
+        else
+            try_accepted(&cut, 1, 0, &result, length - whole);
+        free(result.at);
+        free(cut.at);
+        end_case();
+    }
+    free(example.at);
+}
+
+/* Where a length is 0 the pointer may be NULL. */
+static void try_null(const char *name, Bytes record, uint8_t *out, size_t room, uint64_t *answer, size_t answer_length, uint64_t number) {
+    begin_case(name);
+    if (room > 0)
+        memset(out, DIRT, room);
+    if (answer_length > 0)
+        memset(answer, DIRT, answer_length * sizeof *answer);
+    check(afs_serve(record.at, record.length, 1, 0, out, room, answer, answer_length) == number, "number returned");
+    check(all_are(out, room, 0), "output not all 0");
+    if (answer_length > 0)
+        check(answer[0] == number && all_are(answer + 1, (answer_length - 1) * sizeof *answer, 0), "answer");
+    end_case();
+}
+
+static void test_null(void) {
+    Bytes example = bytes_of(EXAMPLE), none = {NULL, 0};
+    uint8_t out[30];
+    uint64_t answer[AFS_SERVED_NUMBERS];
+    try_null("record NULL", none, out, 30, answer, AFS_SERVED_NUMBERS, AFS_HEAD);
+    try_null("output NULL", example, NULL, 0, answer, AFS_SERVED_NUMBERS, AFS_ROOM);
+    try_null("record and output NULL", none, NULL, 0, answer, AFS_SERVED_NUMBERS, AFS_HEAD);
+    try_null("answer NULL", example, out, 30, NULL, 0, AFS_ROOM);
+    try_null("all NULL", none, NULL, 0, NULL, 0, AFS_ROOM);
+    free(example.at);
+}
+
+int main(void) {
+    setvbuf(stdout, NULL, _IOLBF, BUFSIZ);
+    test_tables();
+    test_cuts();
+    test_null();
+    printf("%u passed, %u failed\n", passed, failed);
+    return failed == 0 ? EXIT_SUCCESS : EXIT_FAILURE;
+}
