@@ -1,0 +1,2 @@
+pub mod Seg
+pub mod Stretch

@@ -1,0 +1,50 @@
+-- A list that lies in a slice: `seg b m s` is the m numbers of s from place b on. Its laws say what a store does to it.
+use mathlib.Core.Path.{_≡_, refl, ap, sym, _∙_}
+use mathlib.Core.List.{List, [], _∷_, _++_}
+use Prim.Native.Nat.{ℕ, suc, _+_, _-_, _≤_, _<_}
+use native.Mathlib.Numerals.{add-one}
+use native.Mathlib.Omega.{arith}
+use lib.ListN.{length, take, drop, getD, set, length-take, length-drop}
+use lib.Seq.{drop-cons, drop-set-add, drop-set-lt, take-suc-set, take-set-le, take-add, drop-drop}
+
+unfoldable pub seg : ℕ → ℕ → List ℕ → List ℕ
+seg b m s = take m (drop b s)
+
+pub seg-none : (b : ℕ) (s : List ℕ) → seg b 0 s ≡ []
+unfolding seg
+seg-none b s = refl
+
+pub seg-length : (b m : ℕ) (s : List ℕ) → b + m ≤ length s → length (seg b m s) ≡ m
+unfolding seg
+seg-length b m s h = simp (length-take, length-drop) (omega arith)
+
+-- its first number and the others; its first numbers and the others
+pub seg-cons : (b m : ℕ) (s : List ℕ) → b < length s → 0 < m → seg b m s ≡ getD s b 0 ∷ seg (b + 1) (m - 1) s
+unfolding seg
+seg-cons b m s h p =
+    let e : m ≡ suc (m - 1) = omega arith in
+    ap (λ (k : ℕ). take k (drop b s)) e ∙ rw (drop-cons s b 0 h, add-one b)
+
+pub seg-add : (b a m : ℕ) (s : List ℕ) → seg b (a + m) s ≡ seg b a s ++ seg (b + a) m s
+unfolding seg
+seg-add b a m s = take-add a m (drop b s) ∙ ap (λ x. take a (drop b s) ++ take m x) (drop-drop a b s)
+
+-- a store before it, behind it, and at its end
+pub seg-below : (b m : ℕ) (s : List ℕ) (i a : ℕ) → i < b → seg b m (set s i a) ≡ seg b m s
+unfolding seg
+seg-below b m s i a h = rw (drop-set-lt b s i a h)
+
+pub seg-above : (b m : ℕ) (s : List ℕ) (i a : ℕ) → b + m ≤ i → seg b m (set s i a) ≡ seg b m s
+unfolding seg
+seg-above b m s i a h =
+    let e : i ≡ b + (i - b) = omega arith in
+    ap (λ (j : ℕ). take m (drop b (set s j a))) e ∙ ap (take m) (drop-set-add b s (i - b) a)
+    ∙ take-set-le m (drop b s) (i - b) a (omega arith)
+
+pub seg-snoc : (b m : ℕ) (s : List ℕ) (i a : ℕ) → i ≡ b + m → i < length s → seg b (m + 1) (set s i a) ≡ seg b m s ++ (a ∷ [])
+unfolding seg
+seg-snoc b m s i a e h =
+    ap (λ (j : ℕ). take (m + 1) (drop b (set s j a))) e
+    ∙ ap (take (m + 1)) (drop-set-add b s m a)
+    ∙ ap (λ (k : ℕ). take k (set (drop b s) m a)) (add-one m)
+    ∙ take-suc-set (drop b s) m a (omega (arith, length-drop b s))
