@@ -1,24 +1,24 @@
 -- Reading looks at the bytes of what it reads and no others: a number or a part that stands elsewhere, in other bytes, reads the same.
 use mathlib.Core.Path.{_≡_, refl, ap, ap₂, sym, _∙_, subst}
 use mathlib.Core.List.{List, [], _∷_, _++_}
-use mathlib.Core.Bool.{Bool, true, false, cond, _&&_}
-use Prim.Native.Nat.{ℕ, zero, suc, _+_, _-_, _*_, _≤_, _<_}
+use mathlib.Core.Bool.{true}
+use Prim.Native.Nat.{ℕ, zero, suc, _+_, _-_, _≤_, _<_}
 use native.Mathlib.Omega.{arith}
-use lib.Dec.{leb, ltb, eqb}
 use lib.ListN.{length, getD, take, drop, length-append, length-drop, List·getD-append}
 use lib.Seq.{ext-getD, getD-take, getD-drop, length-take-le}
-use borrow.Author.Tests.{leb-true, leb-false, lt-leb, le-leb}
-use Rattle.rules.specs.declared.Number.{Number}
-use Rattle.rules.specs.declared.Number.the-variants.{Value, TooManyBytes, LongForm, CutOff}
+use Rattle.rules.specs.declared.Number.the-variants.{Value}
 use Rattle.rules.specs.declared.Header.{Header}
 use Rattle.rules.specs.declared.HeaderRead.the-variants as header
 use Rattle.rules.specs.declared.Part.{Part}
-use Rattle.rules.specs.declared.PartRead.{PartRead}
 use Rattle.rules.specs.declared.PartRead.the-variants as part
-use Rattle.rules.specs.Document.Layout.{numberFrom, readNumber, version, bytesFor, padClear, wholeOf, bodyOf, nameOf}
+use Rattle.rules.specs.Document.Layout.{bitAt, readNumber, bytesFor, wholeOf, bodyOf, nameOf}
 use Rattle.rules.specs.Document.Passes.{PartName}
-use Rattle.rules.specs.Document.Numbers.{headNumber, judgedHeader, readSizes, readHeader, partNumber, legalHead, judgedPart, headed, readPart}
-use Rattle.rules.specs.Laws.Reading.{NumberStands, numberFrom-stands, readNumber-stands, HeaderStands, readHeader-stands, PartStands, readPart-stands}
+use Rattle.rules.specs.Document.Numbers.{readHeader, legalHead, readPart}
+use Rattle.rules.specs.Laws.Parts.{legal-head}
+use Rattle.rules.specs.Laws.Causes.{groupsWorth, NumberCase, VALUE, Numbers, none, next, HeaderCase, LEGAL, PartCase, WHOLE}
+use Rattle.rules.specs.Laws.NumberCases.{number-case, number-is}
+use Rattle.rules.specs.Laws.ReadCases.{header-case, header-is, part-case, part-is}
+use Rattle.rules.specs.Laws.Reading.{readNumber-stands}
 
 -- The n bytes of s at a and those of t at b are the same, and all there.
 pub record Same (s : List ℕ) (a : ℕ) (t : List ℕ) (b n : ℕ) : Type 0 where
@@ -56,45 +56,38 @@ same-part s a t b n c d e l m o =
     let x : a + (c - a) ≡ c = omega arith in
     subst (λ (i : ℕ). Same s i t (b + (c - a)) (d - c)) x (same-within s a t b n (c - a) (d - c) e (omega arith))
 
-same-first : (s : List ℕ) (a : ℕ) (t : List ℕ) (b n : ℕ) → Same s a t b n → 0 < n → getD t b 0 ≡ getD s a 0
-same-first s a t b n e l =
-    let x : b + 0 ≡ b = omega arith in
-    let y : a + 0 ≡ a = omega arith in
-    subst (λ (i : ℕ). getD t b 0 ≡ getD s i 0) y (subst (λ (i : ℕ). getD t i 0 ≡ getD s (a + 0) 0) x (e .bytes 0 l))
+-- A number: the same bytes go on, and are worth the same.
+groups-local : (s : List ℕ) (a : ℕ) (t : List ℕ) (b n i : ℕ) → Same s a t b n → i ≤ n → groupsWorth t b i ≡ groupsWorth s a i
+unfolding groupsWorth
+groups-local s a t b n zero m l = refl
+groups-local s a t b n (suc i) m l = rw (groups-local s a t b n i m (omega arith), m .bytes i (omega arith))
 
-numberFrom-local : (more : ℕ) (s : List ℕ) (a : ℕ) (t : List ℕ) (b worth v w end : ℕ) → numberFrom more s a worth v ≡ Value w end
-    → Same s a t b (end - a) → numberFrom more t b worth v ≡ Value w (b + (end - a))
-unfolding numberFrom
-numberFrom-local zero s a t b worth v w end e m = absurd (let z : _≡_ {A = ℕ} 0 1 = cc in omega arith)
-numberFrom-local (suc more) s a t b worth v w end e m =
-    let st = numberFrom-stands (suc more) s a worth v w end e in
-    let first : getD t b 0 ≡ getD s a 0 = same-first s a t b (end - a) m (omega (arith, st .after)) in
-    rw (lt-leb (length t) b (omega (arith, m .there, st .after)), first)
-    (go (leb (length s) a) (leb 128 (getD s a 0)) (ltb 1 worth && eqb (getD s a 0) 0) e
-    (λ f l. numberFrom-local more s (a + 1) t (b + 1) (worth * 128) (v + (getD s a 0 - 128) * worth) w end f
-    (same-within s a t b (end - a) 1 (end - (a + 1)) m (omega arith))))
-  where
-    go : (x y c : Bool)
-        → cond x CutOff (cond y (numberFrom more s (a + 1) (worth * 128) (v + (getD s a 0 - 128) * worth)) (cond c LongForm (Value (v + getD s a 0 * worth) (a + 1)))) ≡ Value w end
-        → ((f : numberFrom more s (a + 1) (worth * 128) (v + (getD s a 0 - 128) * worth) ≡ Value w end) → a + 1 < end
-        → numberFrom more t (b + 1) (worth * 128) (v + (getD s a 0 - 128) * worth) ≡ Value w (b + 1 + (end - (a + 1))))
-        → cond y (numberFrom more t (b + 1) (worth * 128) (v + (getD s a 0 - 128) * worth)) (cond c LongForm (Value (v + getD s a 0 * worth) (b + 1))) ≡ Value w (b + (end - a))
-    go true y c i r = absurd (let z : _≡_ {A = ℕ} 0 1 = cc in omega arith)
-    go false true c i r =
-        let l : a + 1 < end = numberFrom-stands more s (a + 1) (worth * 128) (v + (getD s a 0 - 128) * worth) w end i .after in
-        let q : b + 1 + (end - (a + 1)) ≡ b + (end - a) = omega arith in
-        r i l ∙ ap (Value w) q
-    go false false true i r = absurd (let z : _≡_ {A = ℕ} 0 1 = cc in omega arith)
-    go false false false i r =
-        let f : a + 1 ≡ end = cc in
-        let g : v + getD s a 0 * worth ≡ w = cc in
-        let q : b + 1 ≡ b + (end - a) = omega arith in
-        ap₂ Value g q
-
-pub readNumber-local : (s : List ℕ) (a : ℕ) (t : List ℕ) (b v end : ℕ) → readNumber s a ≡ Value v end → Same s a t b (end - a)
+readNumber-local : (s : List ℕ) (a : ℕ) (t : List ℕ) (b v end : ℕ) → readNumber s a ≡ Value v end → Same s a t b (end - a)
     → readNumber t b ≡ Value v (b + (end - a))
-unfolding readNumber
-readNumber-local s a t b v end e m = numberFrom-local 4 s a t b 1 0 v end e m
+readNumber-local s a t b v end e m = cases (subst (NumberCase s a) e (number-case s a)) m
+  where
+    cases : {v end : ℕ} → NumberCase s a (Value v end) → Same s a t b (end - a) → readNumber t b ≡ Value v (b + (end - a))
+    cases (VALUE i l g w k n) m =
+        let last : getD t (b + i) 0 ≡ getD s (a + i) 0 = m .bytes i (omega arith) in
+        let q : b + i + 1 ≡ b + (a + i + 1 - a) = omega arith in
+        number-is t b _
+        (VALUE i l (λ j o. rw (m .bytes j (omega arith)) (g j o)) (omega (arith, m .there)) (omega (arith, last)) (λ o z. n o (sym last ∙ z)))
+        ∙ ap₂ Value (rw (last, groups-local s a t b (a + i + 1 - a) i m (omega arith))) q
+
+-- Several numbers.
+numbers-forward : (s : List ℕ) {vs : List ℕ} {a e : ℕ} → Numbers s a vs e → a ≤ e
+numbers-forward s none = omega arith
+numbers-forward s (next r ns) = omega (arith, readNumber-stands s _ _ _ r .after, numbers-forward s ns)
+
+numbers-local : (s t : List ℕ) {vs : List ℕ} {a e : ℕ} (b : ℕ) → Numbers s a vs e → Same s a t b (e - a) → Numbers t b vs (b + (e - a))
+numbers-local s t b (none {a = a}) m = let q : b ≡ b + (a - a) = omega arith in subst (Numbers t b []) q none
+numbers-local s t b (next {a = a} {b = c} {e = e} {v = v} {vs = vs} r ns) m =
+    let l : a < c = readNumber-stands s a v c r .after in
+    let f : c ≤ e = numbers-forward s ns in
+    let q : b + (c - a) + (e - c) ≡ b + (e - a) = omega arith in
+    next (readNumber-local s a t b v c r (same-front s a t b (e - a) (c - a) m (omega arith)))
+    (subst (Numbers t (b + (c - a)) vs) q
+    (numbers-local s t (b + (c - a)) ns (same-part s a t b (e - a) c e m (omega arith) f (omega arith))))
 
 -- The same stretch as a list.
 pub same-stretch : (s : List ℕ) (a : ℕ) (t : List ℕ) (b n : ℕ) → Same s a t b n → a + n ≤ length s → take n (drop b t) ≡ take n (drop a s)
@@ -111,7 +104,7 @@ unfoldable pub movedTo : ℕ → Part → Part
 movedTo b p =
     record { plane = p .plane; level = p .level; bits = p .bits; place = b; body = b + (p .body - p .place); end = b + (p .end - p .place) }
 
-module _ (s : List ℕ) (t : List ℕ) (b : ℕ) (p : Part) (m : Same s (p .place) t b (p .end - p .place)) (in-order : p .place < p .body)
+module _ (s : List ℕ) (t : List ℕ) (b : ℕ) (p : Part) (m : Same s (p .place) t b (p .end - p .place)) (in-order : p .place ≤ p .body)
     (ends : p .end ≡ p .body + bytesFor (p .bits)) (inside : p .end ≤ length s) where
   pub movedTo-whole : wholeOf t (movedTo b p) ≡ wholeOf s p
   unfolding wholeOf movedTo
@@ -128,71 +121,37 @@ module _ (s : List ℕ) (t : List ℕ) (b : ℕ) (p : Part) (m : Same s (p .plac
       same-stretch s (p .place + (p .body - p .place)) t (b + (p .body - p .place)) (bytesFor (p .bits)) u (omega arith)
       ∙ ap (λ (n : ℕ). take (bytesFor (p .bits)) (drop n s)) e
 
-judgedPart-part′ : (h : Header) (t : List ℕ) (before : PartName) (x : Part) → legalHead h before (nameOf x) (x .bits) ≡ true → x .end ≤ length t
-    → padClear (bodyOf t x) (x .bits) ≡ true → judgedPart h t before x ≡ part.Part x
-unfolding judgedPart
-judgedPart-part′ h t before x l e c = rw (l, le-leb (x .end) (length t) e, c)
-
-module _ (h : Header) (s : List ℕ) (before : PartName) (place : ℕ) (p : Part) (e : readPart h s before place ≡ part.Part p) (t : List ℕ) (b : ℕ)
-    (earlier : PartName) (m : Same s place t b (p .end - place)) where
-  -- its three numbers, then what they make
-  readPart-judged : readPart h t earlier b ≡ judgedPart h t earlier (headed b (p .plane .0) (p .level .0) (p .bits) (b + (p .body - place)))
-  unfolding readPart partNumber
-  readPart-judged =
-      let st = readPart-stands h s before place p e in
-      let f = readNumber-stands s place (p .plane .0) (st .levelAt) (st .plane-read) in
-      let g = readNumber-stands s (st .levelAt) (p .level .0) (st .bitsAt) (st .level-read) in
-      let i = readNumber-stands s (st .bitsAt) (p .bits) (p .body) (st .bits-read) in
-      let x : b + (st .levelAt - place) + (st .bitsAt - st .levelAt) ≡ b + (st .bitsAt - place) = omega (arith, f .after, g .after) in
-      let y : b + (st .bitsAt - place) + (p .body - st .bitsAt) ≡ b + (p .body - place) = omega (arith, f .after, g .after, i .after) in
-      let c : Same s place t b (st .levelAt - place) = same-front s place t b (p .end - place) (st .levelAt - place) m (omega (arith, g .after, i .after, st .end)) in
-      let d : Same s (st .levelAt) t (b + (st .levelAt - place)) (st .bitsAt - st .levelAt)
-      = same-part s place t b (p .end - place) (st .levelAt) (st .bitsAt) m (omega (arith, f .after)) (omega (arith, g .after)) (omega (arith, i .after, st .end)) in
-      let j : Same s (st .bitsAt) t (b + (st .bitsAt - place)) (p .body - st .bitsAt)
-      = same-part s place t b (p .end - place) (st .bitsAt) (p .body) m (omega (arith, f .after, g .after)) (omega (arith, i .after)) (omega (arith, st .end)) in
-      rw (
-        readNumber-local s place t b (p .plane .0) (st .levelAt) (st .plane-read) c,
-        readNumber-local s (st .levelAt) t (b + (st .levelAt - place)) (p .level .0) (st .bitsAt) (st .level-read) d ∙ ap (Value (p .level .0)) x,
-        readNumber-local s (st .bitsAt) t (b + (st .bitsAt - place)) (p .bits) (p .body) (st .bits-read) j ∙ ap (Value (p .bits)) y,
-      )
-
-  pub readPart-local : legalHead h earlier (nameOf p) (p .bits) ≡ true → readPart h t earlier b ≡ part.Part (movedTo b p)
-  unfolding headed movedTo nameOf
-  readPart-local l =
-      let st = readPart-stands h s before place p e in
-      let n : Same s (p .place) t b (p .end - p .place) = subst (λ (i : ℕ). Same s i t b (p .end - i)) (sym (st .placed)) m in
-      let f : b + (p .body - place) ≡ b + (p .body - p .place) = omega (arith, st .placed) in
-      let g : b + (p .body - place) + bytesFor (p .bits) ≡ b + (p .end - p .place) = omega (arith, st .placed, st .end, st .after) in
-      let x : headed b (p .plane .0) (p .level .0) (p .bits) (b + (p .body - place)) ≡ movedTo b p
-      = ap₂ (λ (y z : ℕ). record { plane = p .plane; level = p .level; bits = p .bits; place = b; body = y; end = z }) f g in
-      readPart-judged ∙ ap (judgedPart h t earlier) x
-      ∙ judgedPart-part′ h t earlier (movedTo b p) l (omega (arith, n .there))
-      (ap (λ (y : List ℕ). padClear y (p .bits)) (movedTo-body s t b p n (omega (arith, st .after, st .placed)) (st .end) (st .within)) ∙ st .clear)
+pub readPart-local : (h : Header) (s : List ℕ) (before : PartName) (place : ℕ) (p : Part) → readPart h s before place ≡ part.Part p → (t : List ℕ)
+    (b : ℕ) (earlier : PartName) → Same s place t b (p .end - place) → legalHead h earlier (nameOf p) (p .bits) ≡ true
+    → readPart h t earlier b ≡ part.Part (movedTo b p)
+unfolding nameOf movedTo
+readPart-local h s before place p e t b earlier m l =
+    part-is h t earlier b _ (cases (subst (PartCase h s before place) e (part-case h s before place)) m l)
+  where
+    cases : {p : Part} → PartCase h s before place (part.Part p) → Same s place t b (p .end - place) → legalHead h earlier (nameOf p) (p .bits) ≡ true
+        → PartCase h t earlier b (part.Part (movedTo b p))
+    cases {p} (WHOLE r o w n) m l =
+        let here : place ≡ p .place = sym (r .placed) in
+        let ns : Numbers s (p .place) (p .plane .0 ∷ p .level .0 ∷ p .bits ∷ []) (p .body) = rw here at (r .numbers) in
+        let k : Same s (p .place) t b (p .end - p .place) = rw here at m in
+        let f : p .place ≤ p .body = numbers-forward s ns in
+        let same : bodyOf t (movedTo b p) ≡ bodyOf s p = movedTo-body s t b p k f (r .ends) w in
+        WHOLE {p = movedTo b p}
+        (record {
+          numbers = numbers-local s t b ns (same-front s (p .place) t b (p .end - p .place) (p .body - p .place) k (omega (arith, r .ends)));
+          placed = refl;
+          ends = omega (arith, r .ends);
+        })
+        (legal-head h earlier (nameOf p) (p .bits) l)
+        (omega (arith, k .there))
+        (λ q. n (record { which = q .which; behind = q .behind; inside = q .inside; is-set = ap (λ x. bitAt x (q .which)) (sym same) ∙ q .is-set }))
 
 -- A header at the front of other bytes.
 pub readHeader-local : (s : List ℕ) (h : Header) → readHeader s ≡ header.Header h → (t : List ℕ) → Same s 0 t 0 (h .end) → readHeader t ≡ header.Header h
-unfolding readHeader readSizes headNumber judgedHeader
-readHeader-local s h e t m =
-    let st = readHeader-stands s h e in
-    let a = readNumber-stands s 0 version (st .widthAt) (st .version-read) in
-    let b = readNumber-stands s (st .widthAt) (h .size .w) (st .heightAt) (st .width-read) in
-    let c = readNumber-stands s (st .heightAt) (h .size .h) (st .depthAt) (st .height-read) in
-    let d = readNumber-stands s (st .depthAt) (h .size .n) (st .planesAt) (st .depth-read) in
-    let f = readNumber-stands s (st .planesAt) (h .planes) (h .end) (st .planes-read) in
-    rw (
-      here 0 version (st .widthAt) (st .version-read) (omega (arith, b .after, c .after, d .after, f .after)),
-      here (st .widthAt) (h .size .w) (st .heightAt) (st .width-read) (omega (arith, c .after, d .after, f .after)),
-      here (st .heightAt) (h .size .h) (st .depthAt) (st .height-read) (omega (arith, d .after, f .after)),
-      here (st .depthAt) (h .size .n) (st .planesAt) (st .depth-read) (omega (arith, f .after)),
-      here (st .planesAt) (h .planes) (h .end) (st .planes-read) (omega arith),
-      st .judged,
-    )
+readHeader-local s h e t m = header-is t _ (cases (subst (HeaderCase s) e (header-case s)) m)
   where
-    here : (at v end : ℕ) → readNumber s at ≡ Value v end → end ≤ h .end → readNumber t at ≡ Value v end
-    here at v end r l =
-        let n = readNumber-stands s at v end r in
-        let x : 0 + (at - 0) ≡ at = omega arith in
-        let y : at + (end - at) ≡ end = omega (arith, n .after) in
-        readNumber-local s at t at v end r
-        (subst (λ (i : ℕ). Same s at t i (end - at)) x (same-part s 0 t 0 (h .end) at end m (omega arith) (omega (arith, n .after)) (omega arith)))
-        ∙ ap (Value v) y
+    cases : {h : Header} → HeaderCase s (header.Header h) → Same s 0 t 0 (h .end) → HeaderCase t (header.Header h)
+    cases {h} (LEGAL ns l) m =
+        let q : h .end - 0 ≡ h .end = omega arith in
+        let o : 0 + (h .end - 0) ≡ h .end = omega arith in
+        LEGAL (subst (Numbers t 0 _) o (numbers-local s t 0 ns (subst (Same s 0 t 0) (sym q) m))) l

@@ -163,6 +163,9 @@ pub after-after : (a b c : PartName) → After a b → After b c → After a c
 after-after a b c x y =
     record { downward = omega arith; in-plane = λ l. omega (arith, x .in-plane (omega arith), y .in-plane (omega arith)) }
 
+pub follows-follows : (a b c : PartName) → follows a b ≡ true → follows b c ≡ true → follows a c ≡ true
+follows-follows a b c x y = after-follows a c (after-after a b c (follows-after a b x) (follows-after b c y))
+
 -- In a list that is in order, what stands behind a part comes after it, and what stands before it comes before it.
 pub order-after : (before : PartName) (ps : List PartName) → InOrder before ps → All (After before) ps
 unfolding InOrder All
@@ -234,3 +237,8 @@ head-legal h before p bits l =
       l .in-order,
       le-leb bits (mostBits (h .size)) (l .bits-most),
     )
+
+-- A legal head stays legal behind an earlier part.
+pub legal-behind : {h : Header} {before earlier p : PartName} {bits : ℕ} → LegalHead h before p bits → follows earlier p ≡ true
+    → LegalHead h earlier p bits
+legal-behind l f = record { named = l .named; in-order = f; bits-most = l .bits-most }

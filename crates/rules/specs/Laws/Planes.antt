@@ -1,7 +1,8 @@
 -- How many planes there are: enough for every magnitude, and never more than a record may have.
-use mathlib.Core.Path.{_≡_, refl, ap}
+use mathlib.Core.Path.{_≡_, refl, ap, sym, subst}
 use mathlib.Core.List.{List}
 use mathlib.Core.Bool.{Bool, true, false, cond}
+use mathlib.Core.Logic.{_≢_}
 use Prim.Native.Nat.{ℕ, zero, suc, _≤_, _<_, _^_}
 use native.Mathlib.Omega.{arith}
 use native.Mathlib.Decide.{decLe, decLt}
@@ -9,12 +10,13 @@ use lib.Dec.{leb, ltb, eqb}
 use lib.ListN.{length, getD, List·getD-eq-default}
 use lib.IntN.{ℤ, pos, natAbs}
 use lib.Pow.{pow-mono, pow-lt}
-use borrow.Author.Tests.{leb-true, leb-false, eqb-true, ltb-true, lt-ltb}
-use Rattle.rules.specs.Document.Notation.{greatest, lowest}
+use borrow.Author.Tests.{leb-true, leb-false, eqb-true, ltb-true, ltb-false, lt-ltb, le-ltb}
+use Rattle.rules.specs.Document.Notation.{greatest}
 use Rattle.rules.specs.Document.Pyramid.{mostMagnitude, magnitude, mostPlanes, log2Up, planesOf}
 use Rattle.rules.specs.Document.Layout.{planesIn}
 use Rattle.rules.specs.Document.Calls.{firstOver}
-use Rattle.rules.specs.Laws.Tests.{lowest-within, lowest-passes, lowest-least}
+use Rattle.rules.specs.Laws.Tests.{lowest-within, lowest-passes, lowest-least, lowest-found}
+use Rattle.rules.specs.Laws.Causes.{InRange, FirstOver}
 use Rattle.rules.specs.Laws.Maxima.{greatest-at, greatest-each}
 
 -- The least exponent, of those up to e, whose power of two is not under m.
@@ -79,23 +81,43 @@ pub magnitude-under : (v : List ℤ) → greatest natAbs v ≤ mostMagnitude →
 unfolding planesIn
 magnitude-under v h q = omega (arith, magnitude-most v q, planesOf-above (greatest natAbs v) h)
 
+-- The first magnitude over the most there may be.
 abbrev over : List ℤ → ℕ → Bool
 over v q = ltb mostMagnitude (magnitude v q)
 
-pub range-greatest : (v : List ℤ) → firstOver v ≡ length v → greatest natAbs v ≤ mostMagnitude
-unfolding firstOver magnitude
-range-greatest v e = greatest-each natAbs v (pos 0) mostMagnitude (λ q l. cases q l (decLe (magnitude v q) mostMagnitude))
-  where
-    cases : (q : ℕ) → q < length v → Dec (magnitude v q ≤ mostMagnitude) → magnitude v q ≤ mostMagnitude
-    cases q l (yes h) = h
-    cases q l (no h) = absurd (omega (arith, lowest-least (over v) (length v) q (lt-ltb mostMagnitude (magnitude v q) (omega arith)), e))
+module _ (v : List ℤ) where
+  pub under-first : InRange v (firstOver v)
+  unfolding firstOver
+  under-first i l = cases (over v i) refl
+    where
+      cases : (b : Bool) → over v i ≡ b → magnitude v i ≤ mostMagnitude
+      cases true e = absurd (omega (arith, lowest-least (over v) (length v) i e))
+      cases false e = ltb-false mostMagnitude (magnitude v i) e
 
-pub greatest-range : (v : List ℤ) → greatest natAbs v ≤ mostMagnitude → firstOver v ≡ length v
-unfolding firstOver
-greatest-range v h = cases (decLt (lowest (over v) (length v)) (length v))
-  where
-    cases : Dec (lowest (over v) (length v) < length v) → lowest (over v) (length v) ≡ length v
-    cases (no l) = omega (arith, lowest-within (over v) (length v))
-    cases (yes l) =
-        let q : ℕ = lowest (over v) (length v) in
-        absurd (omega (arith, ltb-true mostMagnitude (magnitude v q) (lowest-passes (over v) (length v) l), magnitude-most v q))
+  pub first-over : firstOver v ≢ length v → FirstOver v (firstOver v)
+  unfolding firstOver
+  first-over n =
+      let l : firstOver v < length v = omega (arith, lowest-within (over v) (length v)) in
+      record { inside = l; over = ltb-true mostMagnitude _ (lowest-passes (over v) (length v) l); first = under-first }
+
+  none-before : (m : ℕ) → InRange v m → (i : ℕ) → i < m → over v i ≡ false
+  none-before m r i l = le-ltb mostMagnitude (magnitude v i) (r i l)
+
+  pub none-over : InRange v (length v) → firstOver v ≡ length v
+  unfolding firstOver
+  none-over r = sym (lowest-found (over v) (length v) (length v) (omega arith) (none-before (length v) r) (λ l. absurd (omega arith)))
+
+  pub over-first : (at : ℕ) → FirstOver v at → firstOver v ≡ at
+  unfolding firstOver
+  over-first at f =
+      sym (lowest-found (over v) (length v) at (omega (arith, f .inside)) (none-before at (f .first)) (λ l. lt-ltb mostMagnitude (magnitude v at) (f .over)))
+
+  pub range-greatest : firstOver v ≡ length v → greatest natAbs v ≤ mostMagnitude
+  unfolding magnitude
+  range-greatest e = greatest-each natAbs v (pos 0) mostMagnitude (subst (InRange v) e under-first)
+
+  pub range-most : firstOver v ≡ length v → (q : ℕ) → magnitude v q ≤ mostMagnitude
+  range-most e q = omega (arith, magnitude-most v q, range-greatest e)
+
+  pub greatest-range : greatest natAbs v ≤ mostMagnitude → firstOver v ≡ length v
+  greatest-range h = none-over (λ q l. omega (arith, magnitude-most v q))

@@ -16,9 +16,11 @@ use Rattle.rules.specs.Document.Passes.{State, after, PartName, partName
 use Rattle.rules.specs.Document.Layout.{packed, headerBytes, CodedPart, partBytes, codedParts, wholeOf, bodyOf, nameOf}
 use Rattle.rules.specs.Document.Numbers.{mostBits, follows, legalHead, headed, readPart, tail, Reading, goOn, readFrom, readParts}
 use Rattle.rules.specs.Laws.Count.{All}
-use Rattle.rules.specs.Laws.Parts.{at, Named, InOrder, LegalHead, names-in-order, names-named, follows-after, after-follows, after-after, legal-head, head-legal}
-use Rattle.rules.specs.Laws.ReadBackNumber.{left-behind}
-use Rattle.rules.specs.Laws.ReadBackPart.{headerOf, partAt, Small, legal-small, part-some, next-stands, part-body, part-whole, part-name, part-end, reads-part, reads-part-cut, reads-end}
+unfoldable pub use Rattle.rules.specs.Laws.Tests.{selection}
+use Rattle.rules.specs.Laws.Parts.{at, Named, InOrder, names-in-order, names-named, follows-follows, LegalHead, legal-head, head-legal, legal-behind}
+use Rattle.rules.specs.Laws.ReadBackNumber.{left-none, left-behind}
+use Rattle.rules.specs.Laws.Walk.{readPart-past}
+use Rattle.rules.specs.Laws.ReadBackPart.{headerOf, partAt, Small, legal-small, part-some, next-stands, part-body, part-whole, part-name, part-end, reads-part, reads-part-cut}
 
 -- The bytes of a header and parts behind it.
 abbrev pub recordBytes : Size → ℕ → List CodedPart → List ℕ
@@ -40,11 +42,6 @@ LegalParts h before (p ∷ ps) = (legalHead h before (p .name) (length (p .bits)
 unfoldable pub lastName : PartName → List CodedPart → PartName
 lastName before [] = before
 lastName before (p ∷ ps) = lastName (p .name) ps
-
--- those that pass a test
-unfoldable pub selection : (CodedPart → Bool) → List CodedPart → List CodedPart
-selection t [] = []
-selection t (p ∷ ps) = cond (t p) (p ∷ selection t ps) (selection t ps)
 
 nothing-more : (s rest : List ℕ) (place : ℕ) → drop place s ≡ rest
     → _≡_ {A = Reading} (record { parts = []; ending = tail (length s - place) }) (record { parts = []; ending = tail (length rest) })
@@ -107,7 +104,7 @@ module _ (z : Size) (planes : ℕ) (ok : legalSize z ≡ true) (l : planes ≤ m
       ≡ record { parts = partsAt (length (headerBytes z planes)) ps; ending = tail 0 }
   reads-record =
       ap (λ x. readParts (headerOf z planes) (headerBytes z planes ++ x)) (sym (append-nil (flat partBytes ps)))
-      ∙ reads-with [] (reads-end (headerOf z planes) _ (lastName (beforeAll planes) ps) _ (behind []))
+      ∙ reads-with [] (readPart-past (headerOf z planes) _ (lastName (beforeAll planes) ps) _ (left-none _ _ (behind [])))
 
   -- What is there of one more part is a tail.
   pub reads-tail : (q : CodedPart) (c : ℕ) → legalHead (headerOf z planes) (lastName (beforeAll planes) ps) (q .name) (length (q .bits)) ≡ true
@@ -200,9 +197,7 @@ unfolding LegalParts
 legal-earlier h a b [] f ok = tt
 legal-earlier h a b (p ∷ ps) f ok =
     let l : LegalHead h b (p .name) (length (p .bits)) = legal-head h b (p .name) (length (p .bits)) (ok .0) in
-    let o : follows a (p .name) ≡ true
-    = after-follows _ _ (after-after a b (p .name) (follows-after a b f) (follows-after b (p .name) (l .in-order))) in
-    (head-legal h a (p .name) (length (p .bits)) (record { named = l .named; in-order = o; bits-most = l .bits-most }), ok .1)
+    (head-legal h a (p .name) (length (p .bits)) (legal-behind l (follows-follows a b (p .name) f (l .in-order))), ok .1)
 
 pub selection-legal : (h : Header) (t : CodedPart → Bool) (before : PartName) (ps : List CodedPart) → LegalParts h before ps
     → LegalParts h before (selection t ps)

@@ -86,7 +86,7 @@ packed-byte bits j = cases (decLt j (bytesFor (length bits)))
         omega (arith, List·getD-eq-default (packFrom bits 0 (bytesFor (length bits))) 0 {n = j} (omega (arith, pack-length bits 0 (bytesFor (length bits)))))
 
 -- past the end a bit is 0
-bit-past : (body : List ℕ) (i : ℕ) → length body ≤ i / 8 → bitAt body i ≡ false
+pub bit-past : (body : List ℕ) (i : ℕ) → length body ≤ i / 8 → bitAt body i ≡ false
 unfolding bitAt
 bit-past body i h =
     ap (λ x. eqb (x / 2 ^ (7 - i % 8) % 2) 1) (List·getD-eq-default body 0 {n = i / 8} h) ∙ ap (λ x. eqb (x % 2) 1) (zero-div (2 ^ (7 - i % 8)))
@@ -132,7 +132,7 @@ first-bit body i zero j h = absurd (omega arith)
 first-bit body i (suc m) zero h = ap (bitAt body) (omega arith)
 first-bit body i (suc m) (suc j) h = first-bit body (suc i) m j (omega arith) ∙ ap (bitAt body) (omega arith)
 
-pad-clear : (body : List ℕ) (i m j : ℕ) → clearFrom body i m ≡ true → i ≤ j → j < i + m → bitAt body j ≡ false
+pub pad-clear : (body : List ℕ) (i m j : ℕ) → clearFrom body i m ≡ true → i ≤ j → j < i + m → bitAt body j ≡ false
 unfolding clearFrom
 pad-clear body i zero j h a b = absurd (omega arith)
 pad-clear body i (suc m) j h a b = cases (decLt i j) (pad-clear body (suc i) m j (both-right (not (bitAt body i)) _ h))

@@ -1,17 +1,18 @@
--- A number reads back: its value and the place behind it, whatever follows; and a number that is cut is cut off.
-use mathlib.Core.Path.{_≡_, refl, ap, ap₂, sym, _∙_}
+-- Numbers read back: their values and the place behind them, whatever follows; and where they are cut, one of them is cut off.
+use mathlib.Core.Path.{_≡_, ap, ap₂, sym, _∙_, subst}
 use mathlib.Core.List.{List, [], _∷_, _++_, append-assoc}
-use mathlib.Core.Bool.{Bool, true, false, cond, _&&_}
 use Prim.Native.Nat.{ℕ, zero, suc, _+_, _-_, _*_, _/_, _%_, _^_, _≤_, _<_}
 use native.Mathlib.Omega.{arith}
-use native.Mathlib.Nat.{mul-assoc, mul-comm, add-mul, pow-suc}
-use lib.Dec.{ltb, eqb}
-use lib.ListN.{length, getD, take, drop, length-drop}
-use lib.Seq.{getD-drop, drop-drop, drop-append-seam}
-use borrow.Author.Tests.{le-leb, lt-leb, ltb-true, ltb-false, ne-eqb}
+use native.Mathlib.Nat.{mul-assoc, mul-comm, add-mul}
+use native.Mathlib.Decide.{decLt}
+use lib.ListN.{length, getD, take, drop, length-drop, length-append}
+use lib.Seq.{getD-drop, drop-drop, drop-append-seam, take-append-le, take-append-add}
 use Rattle.rules.specs.declared.Number.the-variants.{Value, CutOff}
 use Rattle.rules.specs.Document.Notation.{flat}
 use Rattle.rules.specs.Document.Layout.{groups, numberBytes, numberFrom, readNumber}
+use Rattle.rules.specs.Laws.Count.{All}
+use Rattle.rules.specs.Laws.NumberBytes.{tooLarge, groups-last, groups-next, by-groups, numberFrom-cut, numberFrom-last, numberFrom-next, shortest-form}
+use Rattle.rules.specs.Laws.Causes.{Numbers, none, next}
 
 -- What is left of s from a place on: its first element, and what is behind.
 module _ {X : Type 0} (s : List X) (at : ℕ) where
@@ -28,25 +29,16 @@ module _ {X : Type 0} (s : List X) (at : ℕ) where
   left-behind xs ys e = sym (drop-drop (length xs) at s) ∙ ap (drop (length xs)) e ∙ drop-append-seam xs ys
 
 -- One byte of a number: the last one, or one with its top bit set.
-module _ (more : ℕ) (s : List ℕ) (at worth v : ℕ) where
-  pub number-cut : drop at s ≡ [] → numberFrom (suc more) s at worth v ≡ CutOff
-  unfolding numberFrom
-  number-cut e = rw (le-leb (length s) at (left-none s at e))
+module _ (more : ℕ) (s : List ℕ) (at worth v b : ℕ) (rest : List ℕ) (e : drop at s ≡ b ∷ rest) where
+  number-last : b < 128 → (1 < worth → 1 ≤ b) → numberFrom (suc more) s at worth v ≡ Value (v + b * worth) (at + 1)
+  number-last l h =
+      let f : getD s at 0 ≡ b = left-first s at 0 b rest e in
+      numberFrom-last more s at worth v (left-some s at b rest e) (omega arith) ∙ rw (f, shortest-form worth b h)
 
-  pub number-last : (b : ℕ) (rest : List ℕ) → drop at s ≡ b ∷ rest → b < 128 → (1 < worth → 1 ≤ b)
-      → numberFrom (suc more) s at worth v ≡ Value (v + b * worth) (at + 1)
-  unfolding numberFrom
-  number-last b rest e l h =
-      rw (lt-leb (length s) at (left-some s at b rest e), left-first s at 0 b rest e, lt-leb 128 b l, last (ltb 1 worth) refl)
-    where
-      last : (t : Bool) → ltb 1 worth ≡ t → ltb 1 worth && eqb b 0 ≡ false
-      last true f = rw (f, ne-eqb b 0 (λ z. omega (arith, h (ltb-true 1 worth f))))
-      last false f = rw f
-
-  pub number-more : (b : ℕ) (rest : List ℕ) → drop at s ≡ b ∷ rest → 128 ≤ b
-      → numberFrom (suc more) s at worth v ≡ numberFrom more s (at + 1) (worth * 128) (v + (b - 128) * worth)
-  unfolding numberFrom
-  number-more b rest e l = rw (lt-leb (length s) at (left-some s at b rest e), left-first s at 0 b rest e, le-leb 128 b l)
+  number-more : 128 ≤ b → numberFrom (suc more) s at worth v ≡ numberFrom more s (at + 1) (worth * 128) (v + (b - 128) * worth)
+  number-more l =
+      let f : getD s at 0 ≡ b = left-first s at 0 b rest e in
+      numberFrom-next more s at worth v (left-some s at b rest e) (omega arith) ∙ rw f
 
 worth-whole : (v worth : ℕ) → v % 128 * worth + v / 128 * (worth * 128) ≡ v * worth
 worth-whole v worth =
@@ -56,34 +48,28 @@ worth-whole v worth =
 from-groups : (more : ℕ) (s : List ℕ) (at worth acc v : ℕ) (rest : List ℕ) → v < 128 ^ suc more → (1 < worth → 1 ≤ v)
     → drop at s ≡ groups more v ++ rest
     → numberFrom (suc more) s at worth acc ≡ Value (acc + v * worth) (at + length (groups more v))
-unfolding groups
-from-groups zero s at worth acc v rest small h e = number-last zero s at worth acc v rest e small h
-from-groups (suc more) s at worth acc v rest small h e = cases (ltb v 128) refl e (from-groups more)
+from-groups more s at worth acc v rest small = by-groups Read last next more v small s at worth acc rest
   where
-    b : ℕ
-    b = v % 128 + 128
+    Read : ℕ → ℕ → Type 0
+    Read more v =
+        (s : List ℕ) (at worth acc : ℕ) (rest : List ℕ) → (1 < worth → 1 ≤ v) → drop at s ≡ groups more v ++ rest
+        → numberFrom (suc more) s at worth acc ≡ Value (acc + v * worth) (at + length (groups more v))
 
-    clear : b - 128 ≡ v % 128
-    clear = omega arith
+    last : (more v : ℕ) → v < 128 → Read more v
+    last more v l s at worth acc rest h e = rw (groups-last more v l) (number-last more s at worth acc v rest (e ∙ rw (groups-last more v l)) l h)
 
-    cases : (t : Bool) → ltb v 128 ≡ t → drop at s ≡ cond t (v ∷ []) (b ∷ groups more (v / 128)) ++ rest
-        → ((s : List ℕ) (at worth acc v : ℕ) (rest : List ℕ) → v < 128 ^ suc more → (1 < worth → 1 ≤ v) → drop at s ≡ groups more v ++ rest
-        → numberFrom (suc more) s at worth acc ≡ Value (acc + v * worth) (at + length (groups more v)))
-        → numberFrom (suc (suc more)) s at worth acc ≡ Value (acc + v * worth) (at + length (cond t (v ∷ []) (b ∷ groups more (v / 128))))
-    cases true t e r = number-last (suc more) s at worth acc v rest e (ltb-true v 128 t) h
-    cases false t e r =
-        let l : 128 ≤ v = ltb-false v 128 t in
-        let d : drop (at + 1) s ≡ groups more (v / 128) ++ rest = left-behind s at (b ∷ []) (groups more (v / 128) ++ rest) e in
-        let q : v / 128 < 128 ^ suc more = omega (arith, pow-suc 128 (suc more)) in
-        number-more (suc more) s at worth acc b (groups more (v / 128) ++ rest) e (omega arith)
-        ∙ r s (at + 1) (worth * 128) (acc + (b - 128) * worth) (v / 128) rest q (λ x. omega arith) d
+    next : (more v : ℕ) → 128 ≤ v → Read more (v / 128) → Read (suc more) v
+    next more v l higher s at worth acc rest h e =
+        let b : ℕ = v % 128 + 128 in
+        let f : drop at s ≡ b ∷ (groups more (v / 128) ++ rest) = e ∙ rw (groups-next more v l) in
+        let d : drop (at + 1) s ≡ groups more (v / 128) ++ rest = left-behind s at (b ∷ []) (groups more (v / 128) ++ rest) f in
+        let clear : b - 128 ≡ v % 128 = omega arith in
+        rw (groups-next more v l)
+        (number-more (suc more) s at worth acc b (groups more (v / 128) ++ rest) f (omega arith)
+        ∙ higher s (at + 1) (worth * 128) (acc + (b - 128) * worth) rest (λ x. omega arith) d
         ∙ ap₂ Value
         (ap (λ x. acc + x * worth + v / 128 * (worth * 128)) clear ∙ omega (arith, worth-whole v worth))
-        (omega arith)
-
--- Numbers of at most four groups.
-abbrev pub tooLarge : ℕ
-tooLarge = 2 ^ 28
+        (omega arith))
 
 pub reads-number : (s : List ℕ) (at v : ℕ) (rest : List ℕ) → v < tooLarge → drop at s ≡ numberBytes v ++ rest
     → readNumber s at ≡ Value v (at + length (numberBytes v))
@@ -92,53 +78,88 @@ reads-number s at v rest small e =
     from-groups 3 s at 1 0 v rest small (λ x. absurd (omega arith)) e ∙ ap (λ x. Value x (at + length (groups 3 v))) (omega arith)
 
 -- A number that ends before its last byte.
-from-cut : (more : ℕ) (s : List ℕ) (at worth acc v c : ℕ) → c < length (groups more v) → drop at s ≡ take c (groups more v)
+from-cut : (more : ℕ) (s : List ℕ) (at worth acc v c : ℕ) → v < 128 ^ suc more → c < length (groups more v) → drop at s ≡ take c (groups more v)
     → numberFrom (suc more) s at worth acc ≡ CutOff
-unfolding groups
-from-cut zero s at worth acc v zero h e = number-cut zero s at worth acc e
-from-cut zero s at worth acc v (suc c) h e = absurd (omega arith)
-from-cut (suc more) s at worth acc v zero h e = number-cut (suc more) s at worth acc e
-from-cut (suc more) s at worth acc v (suc c) h e = cases (ltb v 128) h e (λ at worth acc. from-cut more s at worth acc (v / 128) c)
+from-cut more s at worth acc v c small = by-groups Cut last next more v small s at worth acc c
   where
-    b : ℕ
-    b = v % 128 + 128
+    Cut : ℕ → ℕ → Type 0
+    Cut more v =
+        (s : List ℕ) (at worth acc c : ℕ) → c < length (groups more v) → drop at s ≡ take c (groups more v)
+        → numberFrom (suc more) s at worth acc ≡ CutOff
 
-    cases : (t : Bool) → suc c < length (cond t (v ∷ []) (b ∷ groups more (v / 128)))
-        → drop at s ≡ take (suc c) (cond t (v ∷ []) (b ∷ groups more (v / 128)))
-        → ((at worth acc : ℕ) → c < length (groups more (v / 128)) → drop at s ≡ take c (groups more (v / 128)) → numberFrom (suc more) s at worth acc ≡ CutOff)
-        → numberFrom (suc (suc more)) s at worth acc ≡ CutOff
-    cases true h e r = absurd (omega arith)
-    cases false h e r =
-        number-more (suc more) s at worth acc b (take c (groups more (v / 128))) e (omega arith)
-        ∙ r (at + 1) (worth * 128) (acc + (b - 128) * worth) (omega arith) (left-behind s at (b ∷ []) (take c (groups more (v / 128))) e)
+    none : (more : ℕ) (s : List ℕ) (at worth acc : ℕ) → drop at s ≡ [] → numberFrom (suc more) s at worth acc ≡ CutOff
+    none more s at worth acc e = numberFrom-cut more s at worth acc (left-none s at e)
 
-pub reads-cut : (s : List ℕ) (at v c : ℕ) → c < length (numberBytes v) → drop at s ≡ take c (numberBytes v) → readNumber s at ≡ CutOff
+    last : (more v : ℕ) → v < 128 → Cut more v
+    last more v l s at worth acc zero h e = none more s at worth acc e
+    last more v l s at worth acc (suc c) h e = absurd (omega (arith, ap length (groups-last more v l)))
+
+    next : (more v : ℕ) → 128 ≤ v → Cut more (v / 128) → Cut (suc more) v
+    next more v l higher s at worth acc zero h e = none (suc more) s at worth acc e
+    next more v l higher s at worth acc (suc c) h e =
+        let b : ℕ = v % 128 + 128 in
+        let f : drop at s ≡ b ∷ take c (groups more (v / 128)) = e ∙ rw (groups-next more v l) in
+        number-more (suc more) s at worth acc b (take c (groups more (v / 128))) f (omega arith)
+        ∙ higher s (at + 1) (worth * 128) (acc + (b - 128) * worth) c (omega (arith, ap length (groups-next more v l)))
+        (left-behind s at (b ∷ []) (take c (groups more (v / 128))) f)
+
+reads-cut : (s : List ℕ) (at v c : ℕ) → v < tooLarge → c < length (numberBytes v) → drop at s ≡ take c (numberBytes v)
+    → readNumber s at ≡ CutOff
 unfolding readNumber numberBytes
-reads-cut s at v c h e = from-cut 3 s at 1 0 v c h e
+reads-cut s at v c small h e = from-cut 3 s at 1 0 v c small h e
 
--- Several numbers: the first is read, and the others stand behind it.
-pub reads-first : (s : List ℕ) (at v : ℕ) (vs rest : List ℕ) → v < tooLarge → drop at s ≡ flat numberBytes (v ∷ vs) ++ rest
-    → readNumber s at ≡ Value v (at + length (numberBytes v))
-unfolding flat
-reads-first s at v vs rest small e =
-    reads-number s at v (flat numberBytes vs ++ rest) small (e ∙ append-assoc (numberBytes v) (flat numberBytes vs) rest)
+-- Several numbers, one behind the other.
+abbrev pub AllSmall : List ℕ → Type 0
+AllSmall vs = All (λ v. v < tooLarge) vs
 
-pub reads-others : (s : List ℕ) (at v : ℕ) (vs rest : List ℕ) → drop at s ≡ flat numberBytes (v ∷ vs) ++ rest
-    → drop (at + length (numberBytes v)) s ≡ flat numberBytes vs ++ rest
-unfolding flat
-reads-others s at v vs rest e =
-    left-behind s at (numberBytes v) (flat numberBytes vs ++ rest) (e ∙ append-assoc (numberBytes v) (flat numberBytes vs) rest)
+pub numbers-read : (s : List ℕ) (at : ℕ) (vs rest : List ℕ) → AllSmall vs → drop at s ≡ flat numberBytes vs ++ rest
+    → Numbers s at vs (at + length (flat numberBytes vs))
+unfolding All flat
+numbers-read s at [] rest small e = let q : at ≡ at + 0 = omega arith in subst (Numbers s at []) q none
+numbers-read s at (v ∷ vs) rest small e =
+    let n : ℕ = length (numberBytes v) in
+    let f : drop at s ≡ numberBytes v ++ (flat numberBytes vs ++ rest) = e ∙ append-assoc (numberBytes v) (flat numberBytes vs) rest in
+    let q : at + n + length (flat numberBytes vs) ≡ at + length (numberBytes v ++ flat numberBytes vs)
+    = omega (arith, length-append (numberBytes v) (flat numberBytes vs)) in
+    next (reads-number s at v (flat numberBytes vs ++ rest) (small .0) f)
+    (subst (Numbers s (at + n) vs) q
+    (numbers-read s (at + n) vs rest (small .1) (left-behind s at (numberBytes v) (flat numberBytes vs ++ rest) f)))
 
-pub number-some : (v : ℕ) → 1 ≤ length (numberBytes v)
-unfolding numberBytes groups
-number-some v = cases (ltb v 128)
+-- Cut off before the end, with more behind them: inside one of the numbers, or behind them all.
+pub data Cut (s : List ℕ) (at : ℕ) (vs more : List ℕ) : Type 0 where
+  inside : {ws : List ℕ} {e : ℕ} → Numbers s at ws e → length ws < length vs → readNumber s e ≡ CutOff → Cut s at vs more
+  behind : (d : ℕ) → d < length more → drop at s ≡ flat numberBytes vs ++ take d more → Cut s at vs more
+
+pub numbers-cut : (s : List ℕ) (at : ℕ) (vs more : List ℕ) (c : ℕ) → AllSmall vs → c < length (flat numberBytes vs ++ more)
+    → drop at s ≡ take c (flat numberBytes vs ++ more) → Cut s at vs more
+unfolding All flat
+numbers-cut s at [] more c small short e = behind c short e
+numbers-cut s at (v ∷ vs) more c small short e =
+    cases (decLt c n) (λ at′ d. numbers-cut s at′ vs more d (small .1))
   where
-    cases : (t : Bool) → 1 ≤ length (cond t (v ∷ []) ((v % 128 + 128) ∷ groups 2 (v / 128)))
-    cases true = omega arith
-    cases false = omega arith
+    n : ℕ
+    n = length (numberBytes v)
 
--- A number between whatever stands before it and behind it.
-pub reads-written : (before after : List ℕ) (v : ℕ) → v < tooLarge
-    → readNumber (before ++ (numberBytes v ++ after)) (length before) ≡ Value v (length before + length (numberBytes v))
-reads-written before after v small =
-    reads-number (before ++ (numberBytes v ++ after)) (length before) v after small (drop-append-seam before (numberBytes v ++ after))
+    rest : List ℕ
+    rest = flat numberBytes vs ++ more
+
+    joined : (numberBytes v ++ flat numberBytes vs) ++ more ≡ numberBytes v ++ rest
+    joined = append-assoc (numberBytes v) (flat numberBytes vs) more
+
+    later : readNumber s at ≡ Value v (at + n) → (d : ℕ) → drop at s ≡ numberBytes v ++ take d rest → Cut s (at + n) vs more
+        → Cut s at (v ∷ vs) more
+    later r d f (inside ns l z) = inside (next r ns) (omega arith) z
+    later r d f (behind k l g) =
+        let same : take d rest ≡ flat numberBytes vs ++ take k more = sym (left-behind s at (numberBytes v) (take d rest) f) ∙ g in
+        behind k l (f ∙ ap (λ x. numberBytes v ++ x) same ∙ sym (append-assoc (numberBytes v) (flat numberBytes vs) (take k more)))
+
+    cases : Dec (c < n) → ((at′ d : ℕ) → d < length rest → drop at′ s ≡ take d rest → Cut s at′ vs more) → Cut s at (v ∷ vs) more
+    cases (yes l) r =
+        inside none (omega arith) (reads-cut s at v c (small .0) l (e ∙ ap (take c) joined ∙ take-append-le c (numberBytes v) rest (omega arith)))
+    cases (no l) r =
+        let d : ℕ = c - n in
+        let q : n + d ≡ c = omega arith in
+        let f : drop at s ≡ numberBytes v ++ take d rest
+        = e ∙ ap (take c) joined ∙ ap (λ i. take i (numberBytes v ++ rest)) (sym q) ∙ take-append-add (numberBytes v) rest d in
+        later (reads-number s at v (take d rest) (small .0) f) d f
+        (r (at + n) d (omega (arith, ap length joined, length-append (numberBytes v) rest)) (left-behind s at (numberBytes v) (take d rest) f))

@@ -1,4 +1,4 @@
--- A call that was accepted passed each of its tests; one that was refused failed the first that names its refusal.
+-- What comes of a test, a header and an ending, for whatever is claimed of a result; and a call that was accepted passed each of them.
 use mathlib.Core.Path.{_≡_, refl}
 use mathlib.Core.Bool.{Bool, true, false}
 use Prim.Native.Nat.{ℕ}
@@ -9,6 +9,24 @@ use Rattle.rules.specs.declared.HeaderRead.{HeaderRead}
 use Rattle.rules.specs.declared.HeaderRead.the-variants as header
 use Rattle.rules.specs.Document.Numbers.{Ending, tail, fault}
 use Rattle.rules.specs.Document.Calls.{Result, refused, accepted, unless, onHeader, onEnding}
+
+module _ {X : Type 0} (P : Result X → Type 0) where
+  pub unless-case : (b : Bool) (r : Refusal) (x : Result X) → (b ≡ false → P (refused r)) → (b ≡ true → P x) → P (unless b r x)
+  unfolding unless
+  unless-case true r x bad on = on refl
+  unless-case false r x bad on = bad refl
+
+  pub onHeader-case : (y : HeaderRead) (go : Header → Result X) → ((r : Refusal) → y ≡ header.Refused r → P (refused r))
+      → ((h : Header) → y ≡ header.Header h → P (go h)) → P (onHeader y go)
+  unfolding onHeader
+  onHeader-case (header.Header h) go bad on = on h refl
+  onHeader-case (header.Refused r) go bad on = bad r refl
+
+  pub onEnding-case : (y : Ending) (go : ℕ → Result X) → ((r : Refusal) → y ≡ fault r → P (refused r)) → ((t : ℕ) → y ≡ tail t → P (go t))
+      → P (onEnding y go)
+  unfolding onEnding
+  onEnding-case (tail t) go bad on = on t refl
+  onEnding-case (fault r) go bad on = bad r refl
 
 module _ {X : Type 0} where
   pub accepted-same : {x y : X} → accepted x ≡ accepted y → x ≡ y

@@ -1,8 +1,8 @@
 -- Serving: what is served is a record with exactly the parts named and no tail; a record without a tail, served whole, is itself.
-use mathlib.Core.Path.{_≡_, refl, ap, ap₂, sym, _∙_, subst, subst₂}
+use mathlib.Core.Path.{_≡_, refl, ap, sym, _∙_, subst, subst₂}
 use mathlib.Core.List.{List, [], _∷_, _++_, append-assoc, append-nil}
 use mathlib.Core.Bool.{Bool, true, false, cond, _&&_}
-use Prim.Native.Nat.{ℕ, zero, suc, _+_, _-_, _≤_, _<_}
+use Prim.Native.Nat.{ℕ, zero, suc, _+_, _-_, _≤_}
 use native.Mathlib.Omega.{arith}
 use lib.Dec.{leb}
 use borrow.Author.Tests.{le-leb}
@@ -10,7 +10,6 @@ use lib.ListN.{length, take, drop, take-append-drop, drop-of-length-le}
 use lib.Seq.{length-take-le, drop-drop}
 use Rattle.rules.specs.declared.Refusal.the-variants as refusal
 use Rattle.rules.specs.declared.Header.{Header}
-use Rattle.rules.specs.declared.HeaderRead.{HeaderRead}
 use Rattle.rules.specs.declared.HeaderRead.the-variants as header
 use Rattle.rules.specs.declared.Part.{Part}
 use Rattle.rules.specs.Document.Notation.{flat}
@@ -19,14 +18,15 @@ use Rattle.rules.specs.Document.Passes.{PartName}
 use Rattle.rules.specs.Document.Layout.{wholeOf, nameOf}
 use Rattle.rules.specs.declared.PartRead.{PartRead}
 use Rattle.rules.specs.declared.PartRead.the-variants as part
-use Rattle.rules.specs.Document.Numbers.{Ending, tail, fault, Reading, readHeader, readPart, goOn, readFrom, readParts}
-use Rattle.rules.specs.Document.Calls.{Result, refused, accepted, unless, onHeader, onEnding, legalAsk, keptOf, servedBytes, Portion, portioned, serving}
-use Rattle.rules.specs.Laws.Reading.{HeaderStands, readHeader-stands, header-within, PartStands, readPart-stands}
-use Rattle.rules.specs.Laws.Tests.{both}
+use Rattle.rules.specs.Document.Numbers.{tail, Reading, readHeader, readPart, goOn, readFrom, readParts}
+use Rattle.rules.specs.Document.Calls.{accepted, unless, onHeader, onEnding, legalAsk, keptOf, servedBytes, Portion, portioned, serving}
+use Rattle.rules.specs.Laws.Reading.{readHeader-stands, header-within, readPart-stands}
+use Rattle.rules.specs.Laws.Tests.{selection, both}
 use Rattle.rules.specs.Laws.Results.{unless-accepted, onHeader-accepted, onEnding-accepted, accepted-same}
 use Rattle.rules.specs.Laws.Walk.{partsFrom, readParts-from}
 use Rattle.rules.specs.Laws.Local.{Same, same-taken, readHeader-local}
-use Rattle.rules.specs.Laws.Selection.{chosen, placedFrom, Chain, readParts-chain, legalHead-level, chosen-read}
+use Rattle.rules.specs.Laws.Selection.{placedFrom, selection-read}
+use Rattle.rules.specs.Laws.WholeParts.{WholeParts, readParts-whole}
 
 -- the parts with level ≥ r and plane ≥ p
 abbrev pub wanted : ℕ → ℕ → Part → Bool
@@ -38,15 +38,15 @@ pub record IsServed (s : List ℕ) (r p : ℕ) (x : Portion) : Type 0 where
   pub read : readHeader s ≡ header.Header head
   pub asked : legalAsk head r p ≡ true
   pub ending : readParts head s .ending ≡ tail (x .tail)
-  pub bytes : x .bytes ≡ take (head .end) s ++ flat (wholeOf s) (chosen (wanted r p) (readParts head s .parts))
+  pub bytes : x .bytes ≡ take (head .end) s ++ flat (wholeOf s) (selection (wanted r p) (readParts head s .parts))
 
-flat-chosen : (s : List ℕ) (r p : ℕ) (ps : List Part) → flat (keptOf s r p) ps ≡ flat (wholeOf s) (chosen (wanted r p) ps)
-unfolding flat keptOf chosen
-flat-chosen s r p [] = refl
-flat-chosen s r p (x ∷ ps) = go (wanted r p x) (flat-chosen s r p ps)
+flat-selection : (s : List ℕ) (r p : ℕ) (ps : List Part) → flat (keptOf s r p) ps ≡ flat (wholeOf s) (selection (wanted r p) ps)
+unfolding flat keptOf selection
+flat-selection s r p [] = refl
+flat-selection s r p (x ∷ ps) = go (wanted r p x) (flat-selection s r p ps)
   where
-    go : (b : Bool) → flat (keptOf s r p) ps ≡ flat (wholeOf s) (chosen (wanted r p) ps)
-        → cond b (wholeOf s x) [] ++ flat (keptOf s r p) ps ≡ flat (wholeOf s) (cond b (x ∷ chosen (wanted r p) ps) (chosen (wanted r p) ps))
+    go : (b : Bool) → flat (keptOf s r p) ps ≡ flat (wholeOf s) (selection (wanted r p) ps)
+        → cond b (wholeOf s x) [] ++ flat (keptOf s r p) ps ≡ flat (wholeOf s) (cond b (x ∷ selection (wanted r p) ps) (selection (wanted r p) ps))
     go true e = ap (λ (l : List ℕ). wholeOf s x ++ l) e
     go false e = e
 
@@ -59,12 +59,12 @@ serving-served s r p room x e =
     let b = unless-accepted _ refusal.Room _ x (t .2) in
     let y : record { bytes = servedBytes (h .0) s r p (readParts (h .0) s .parts); tail = t .0 } ≡ x = accepted-same (b .1) in
     subst (IsServed s r p) y
-    (record { head = h .0; read = h .1; asked = a .0; ending = t .1; bytes = ap (λ (l : List ℕ). take (h .0 .end) s ++ l) (flat-chosen s r p (readParts (h .0) s .parts)) })
+    (record { head = h .0; read = h .1; asked = a .0; ending = t .1; bytes = ap (λ (l : List ℕ). take (h .0 .end) s ++ l) (flat-selection s r p (readParts (h .0) s .parts)) })
 
 -- What was served reads as the parts named, one behind the other, and nothing else.
 module _ (s : List ℕ) (r p : ℕ) (x : Portion) (v : IsServed s r p x) where
   abbrev named : List Part
-  named = chosen (wanted r p) (readParts (v .head) s .parts)
+  named = selection (wanted r p) (readParts (v .head) s .parts)
 
   within : v .head .end ≤ length s
   within = header-within (readHeader-stands s (v .head) (v .read))
@@ -80,7 +80,7 @@ module _ (s : List ℕ) (r p : ℕ) (x : Portion) (v : IsServed s r p x) where
       let n : length f ≡ v .head .end = length-take-le (v .head .end) s within in
       let first : PartName = record { plane = v .head .planes; level = 0 } in
       let c : partsFrom (v .head) (f ++ flat (wholeOf s) named) first (length f) ≡ record { parts = placedFrom (length f) named; ending = tail 0 }
-      = chosen-read (v .head) s (wanted r p) (readParts (v .head) s .parts) first first (v .head .end) (readParts-chain (v .head) s) (λ y t. t) f in
+      = selection-read (v .head) s (wanted r p) (readParts (v .head) s .parts) first first (v .head .end) (readParts-whole (v .head) s) (λ y t. t) f in
       readParts-from (v .head) (x .bytes) (header-within (readHeader-stands (x .bytes) (v .head) served-header))
       ∙ subst₂ (λ (l : List ℕ) (k : ℕ). partsFrom (v .head) l first k ≡ record { parts = placedFrom k named; ending = tail 0 }) (sym (v .bytes)) n c
 
@@ -132,14 +132,14 @@ module _ (h : Header) (s : List ℕ) where
       ∙ take-append-drop (h .end) s
 
 -- Served for r = 1 and p = 0, every part is kept.
-chosen-all : (h : Header) (s : List ℕ) (before : PartName) (place : ℕ) (ps : List Part) → Chain h s before place ps → chosen (wanted 1 0) ps ≡ ps
-unfolding Chain chosen nameOf
-chosen-all h s before place [] c = refl
-chosen-all h s before place (p ∷ ps) c =
+selection-all : (h : Header) (s : List ℕ) (before : PartName) (place : ℕ) (ps : List Part) → WholeParts h s before place ps → selection (wanted 1 0) ps ≡ ps
+unfolding WholeParts selection nameOf
+selection-all h s before place [] c = refl
+selection-all h s before place (p ∷ ps) c =
     let st = readPart-stands h s before place p (c .0) in
-    let k : leb 1 (p .level .0) ≡ true = legalHead-level h before (nameOf p) (p .bits) (st .legal) in
+    let k : leb 1 (p .level .0) ≡ true = le-leb 1 (p .level .0) (st .legal .named .from1) in
     let n : leb 0 (p .plane .0) ≡ true = le-leb 0 (p .plane .0) (omega arith) in
-    rw (k, n) (ap (λ (l : List Part). p ∷ l) (chosen-all h s (nameOf p) (p .end) ps (c .1)))
+    rw (k, n) (ap (λ (l : List Part). p ∷ l) (selection-all h s (nameOf p) (p .end) ps (c .1)))
 
 asks-all : (h : Header) → legalAsk h 1 0 ≡ true
 unfolding legalAsk
@@ -148,10 +148,10 @@ asks-all h = both _ _ (both _ _ (le-leb 1 1 (omega arith)) (le-leb 1 (levels (h 
 serves-all : (s : List ℕ) (h : Header) → h .end ≤ length s → readParts h s .ending ≡ tail 0 → servedBytes h s 1 0 (readParts h s .parts) ≡ s
 unfolding servedBytes
 serves-all s h l e =
-    let c = chosen-all h s (record { plane = h .planes; level = 0 }) (h .end) (readParts h s .parts) (readParts-chain h s) in
+    let c = selection-all h s (record { plane = h .planes; level = 0 }) (h .end) (readParts h s .parts) (readParts-whole h s) in
     let d : drop (length s - 0) s ≡ [] = drop-of-length-le s {i = length s - 0} (omega arith) in
     ap (λ (x : List ℕ). take (h .end) s ++ x)
-    (flat-chosen s 1 0 (readParts h s .parts) ∙ ap (flat (wholeOf s)) c ∙ sym (append-nil _) ∙ ap (λ (x : List ℕ). flat (wholeOf s) (readParts h s .parts) ++ x) (sym d))
+    (flat-selection s 1 0 (readParts h s .parts) ∙ ap (flat (wholeOf s)) c ∙ sym (append-nil _) ∙ ap (λ (x : List ℕ). flat (wholeOf s) (readParts h s .parts) ++ x) (sym d))
     ∙ record-bytes h s 0 l e
 
 -- A record without a tail, served whole, is itself.

@@ -4,6 +4,7 @@
 --   levelStart z k    coefficients of the levels over k: where level k starts when they are laid out coarsest first
 --   levelEnd z k      and where it ends
 --   levelSize z k     n_k
+--   sumTo f k         f 1 up to f k, added
 use mathlib.Core.Path.{_≡_, ap, ap₂, sym, _∙_}
 use mathlib.Core.Bool.{true, cond, _&&_, and-eq-true-iff}
 use Prim.Native.Nat.{ℕ, zero, suc, _+_, _-_, _*_, _/_, _%_, _^_, _≤_}
@@ -12,9 +13,13 @@ use native.Mathlib.Nat.{mul-assoc, pow-suc, div-add-mod', add-sub-of-le, div-one
 use native.Mathlib.Decide.{decLe}
 use lib.Pow.{pow-add, shl-shr, shr-shr, shr-le}
 use lib.Dec.{leb, eqb}
-use borrow.Author.Tests.{leb-true, eqb-true, le-leb, lt-leb}
+use borrow.Author.Tests.{leb-true, eqb-true, le-leb, lt-leb, eq-eqb}
 use Rattle.rules.specs.declared.Size.{Size}
 use Rattle.rules.specs.Document.Pyramid.{leastSide, greatestSide, mostDecompositions, legalSide, legalSize, area, levels}
+
+unfoldable pub sumTo : (ℕ → ℕ) → ℕ → ℕ
+sumTo f zero = 0
+sumTo f (suc k) = f (suc k) + sumTo f k
 
 module _ (z : Size) where
   unfoldable pub span : ℕ → ℕ
@@ -29,10 +34,12 @@ module _ (z : Size) where
   unfoldable pub levelSize : ℕ → ℕ
   levelSize k = levelEnd k - levelStart k
 
--- A side that halves exactly, down to the LL band and once more.
+-- "Width W and height H are 4 to 512, both multiples of 2^(N+1); N, the decomposition count, is 1 to 5." So a side halves exactly, down to
+-- the LL band and once more.
 pub record Side (n x : ℕ) : Type 0 where
   pub least : leastSide ≤ x
   pub most : x ≤ greatestSide
+  pub multiple : x % 2 ^ (n + 1) ≡ 0
   pub half : (k : ℕ) → k ≤ n → x / 2 ^ k ≡ 2 * (x / 2 ^ suc k)
 
 pub record Legal (z : Size) : Type 0 where
@@ -59,7 +66,8 @@ unfolding legalSide
 legal-side n x h =
     let a : (leb leastSide x && leb x greatestSide ≡ true) × (eqb (x % 2 ^ (n + 1)) 0 ≡ true) = and-eq-true-iff _ _ .0 h in
     let b : (leb leastSide x ≡ true) × (leb x greatestSide ≡ true) = and-eq-true-iff _ _ .0 (a .0) in
-    record { least = leb-true _ _ (b .0); most = leb-true _ _ (b .1); half = multiple-halves n x (eqb-true _ _ (a .1)) }
+    let m : x % 2 ^ (n + 1) ≡ 0 = eqb-true _ _ (a .1) in
+    record { least = leb-true _ _ (b .0); most = leb-true _ _ (b .1); multiple = m; half = multiple-halves n x m }
 
 pub legal : (z : Size) → legalSize z ≡ true → Legal z
 unfolding legalSize
@@ -68,6 +76,23 @@ legal z h =
     let b : _ = and-eq-true-iff (leb 1 (z .n) && leb (z .n) mostDecompositions) _ .0 (a .0) in
     let c : _ = and-eq-true-iff (leb 1 (z .n)) _ .0 (b .0) in
     record { some = leb-true _ _ (c .0); few = leb-true _ _ (c .1); width = legal-side _ _ (b .1); height = legal-side _ _ (a .1) }
+
+side-legal : (n x : ℕ) → Side n x → legalSide n x ≡ true
+unfolding legalSide
+side-legal n x S = rw (le-leb leastSide x (S .least), le-leb x greatestSide (S .most), eq-eqb (x % 2 ^ (n + 1)) 0 (S .multiple))
+
+pub size-legal : (z : Size) → Legal z → legalSize z ≡ true
+unfolding legalSize
+size-legal z Z =
+    rw (
+      le-leb 1 (z .n) (Z .some),
+      le-leb (z .n) mostDecompositions (Z .few),
+      side-legal (z .n) (z .w) (Z .width),
+      side-legal (z .n) (z .h) (Z .height),
+    )
+
+pub area-bound : (z : Size) → legalSize z ≡ true → area z ≤ greatestSide * greatestSide
+area-bound z e = let Z : Legal z = legal z e in mul-le-mul (Z .width .most) (Z .height .most)
 
 -- half
 pub side-falls : (x j k : ℕ) → j ≤ k → x / 2 ^ k ≤ x / 2 ^ j
@@ -148,3 +173,13 @@ module _ (z : Size) (Z : Legal z) where
           let e : levelSize z k ≡ 4 * (3 * span z (suc k)) = omega (arith, levelSize-fine k h a, span-quarter k a) in
           rw e (mul-mod-right 4 (3 * span z (suc k)))
       go (no a) = let e : k ≡ levels z = omega arith in rw e (omega (arith, levelSize-top, span-quarter (z .n) (omega arith)))
+
+  -- all levels together
+  sizes-up-to : (k : ℕ) → k ≤ z .n → sumTo (levelSize z) k + span z k ≡ area z
+  unfolding sumTo
+  sizes-up-to zero h = omega (arith, span-whole z)
+  sizes-up-to (suc k) h = omega (arith, sizes-up-to k (omega arith), levelSize-fine (suc k) (omega arith) h, span-quarter k (omega arith))
+
+  pub sizes-sum : sumTo (levelSize z) (levels z) ≡ area z
+  unfolding sumTo
+  sizes-sum = omega (arith, sizes-up-to (z .n) (omega arith), levelSize-top)

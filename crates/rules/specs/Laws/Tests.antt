@@ -1,11 +1,16 @@
 -- Tests: what it tells that one holds, and when two agree.
-use mathlib.Core.Path.{_≡_, refl, sym, _∙_}
+use mathlib.Core.Path.{_≡_, refl, ap, sym, _∙_}
 use mathlib.Core.List.{List, [], _∷_, _++_}
 use mathlib.Core.Bool.{Bool, true, false, cond, _&&_, _||_, true≢false, and-assoc, or-assoc}
 use mathlib.Core.Logic.{_⊎_, inl, inr}
 use Prim.Native.Nat.{ℕ, zero, suc, _≤_, _<_}
 use native.Mathlib.Omega.{arith}
 use Rattle.rules.specs.Document.Notation.{any, every, lowest}
+
+-- those that pass a test, in order
+unfoldable pub selection : {X : Type 0} → (X → Bool) → List X → List X
+selection t [] = []
+selection t (x ∷ xs) = cond (t x) (x ∷ selection t xs) (selection t xs)
 
 -- What `cc` makes of two constructors that differ, for any goal.
 pub clash : {X : Type 0} → _≡_ {A = ℕ} 0 1 → X
@@ -88,3 +93,12 @@ unfolding lowest
 lowest-same t u zero h = refl
 lowest-same t u (suc m) h =
     rw (h 0 (omega arith), lowest-same (λ n. t (suc n)) (λ n. u (suc n)) m (λ n l. h (suc n) (omega arith)))
+
+-- what a search from 0 finds
+pub lowest-found : (t : ℕ → Bool) (m i : ℕ) → i ≤ m → ((k : ℕ) → k < i → t k ≡ false) → (i < m → t i ≡ true) → i ≡ lowest t m
+unfolding lowest
+lowest-found t zero i h before here = omega arith
+lowest-found t (suc m) zero h before here = rw (here (omega arith))
+lowest-found t (suc m) (suc i) h before here =
+    rw (before 0 (omega arith))
+    (ap suc (lowest-found (λ k. t (suc k)) m i (omega arith) (λ k l. before (suc k) (omega arith)) (λ l. here (omega arith))))

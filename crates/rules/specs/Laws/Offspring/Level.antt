@@ -16,11 +16,11 @@ abbrev pub Within : Size → ℕ → ℕ → Type 0
 Within z k q = (row z q < z .h / 2 ^ k) × (column z q < z .w / 2 ^ k)
 
 module _ (z : Size) where
-  within-true : (k q : ℕ) → within z k q ≡ true → Within z k q
+  pub within-true : (k q : ℕ) → within z k q ≡ true → Within z k q
   unfolding within
   within-true k q h = let a : _ = and-eq-true-iff (ltb (row z q) (z .h / 2 ^ k)) _ .0 h in (ltb-true _ _ (a .0), ltb-true _ _ (a .1))
 
-  true-within : (k q : ℕ) → Within z k q → within z k q ≡ true
+  pub true-within : (k q : ℕ) → Within z k q → within z k q ≡ true
   unfolding within
   true-within k q h = and-eq-true-iff _ _ .1 (lt-ltb _ _ (h .0), lt-ltb _ _ (h .1))
 
