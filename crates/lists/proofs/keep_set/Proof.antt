@@ -4,44 +4,32 @@ use Rattle.lists.specs.Stretch.{setRoom, lspFrom, lisFrom, movedFrom}
 use borrow.Author.Needs.{needs}
 use Rattle.lists.proofs.keep_set.Statement.{statement}
 use Rattle.lists.proofs.keep_set.Tie as tie
-use Rattle.lists.proofs.keep_set.Reads as reads
-use Rattle.lists.proofs.keep_set.Lts as lts
-use Rattle.lists.proofs.lis_from.Reads as lis-from-reads
-use Rattle.lists.proofs.number_of.Reads as number-of-reads
 
--- src/lib.rt:134:14
 lis-from-requires : tie.Need-lis-from-requires
 lis-from-requires c κs = search needs
 
--- src/lib.rt:134:14
 add-at : tie.Need-add-at
 unfolding lspFrom lisFrom movedFrom setRoom
 add-at c = search needs
 
--- src/lib.rt:135:13
 number-of-requires : tie.Need-number-of-requires
 number-of-requires c κs = search needs
 
--- src/lib.rt:135:5
 mul-s : tie.Need-mul-s
 unfolding lspFrom lisFrom movedFrom setRoom
 mul-s c = search needs
 
--- src/lib.rt:135:5
 slice-write-s : tie.Need-slice-write-s
 unfolding lspFrom lisFrom movedFrom setRoom
 slice-write-s c = search needs
 
--- src/lib.rt:137:14
 add-r : tie.Need-add-r
 unfolding lspFrom lisFrom movedFrom setRoom
 add-r c = search needs
 
--- src/lib.rt:130:1
 same-length : tie.Need-same-length
 same-length c = search needs
 
--- src/lib.rt:130:1
 returns : tie.Need-returns
 returns c = keep-set-law _ _ _ (c .before .before .before .before .before .pre .0) _ _ (c .before .number-of .ensures) _ (omega arith) (c .before .before .before .before .before .pre .2)
 

@@ -3,22 +3,16 @@ use native.Mathlib.Omega.{arith}
 use borrow.Author.Needs.{needs}
 use Rattle.lists.proofs.lip_at.Statement.{statement}
 use Rattle.lists.proofs.lip_at.Tie as tie
-use Rattle.lists.proofs.lip_at.Reads as reads
-use Rattle.lists.proofs.lip_at.Lts as lts
 
--- src/lib.rt:72:5
 mul-result : tie.Need-mul-result
 mul-result c = search needs
 
--- src/lib.rt:72:5
 shared-slice-read-result : tie.Need-shared-slice-read-result
 shared-slice-read-result c = search needs
 
--- src/lib.rt:72:5
 cast-result : tie.Need-cast-result
 cast-result c = omega (arith, c .shared-slice-known .given (c .before .args .i))
 
--- src/lib.rt:68:1
 returns : tie.Need-returns
 returns c = (waiting-next _ _ (search needs), omega (arith, c .shared-slice-known .given (c .before .args .i)))
 

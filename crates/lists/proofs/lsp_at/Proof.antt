@@ -5,34 +5,25 @@ use native.Mathlib.Omega.{arith}
 use borrow.Author.Needs.{needs}
 use Rattle.lists.proofs.lsp_at.Statement.{statement}
 use Rattle.lists.proofs.lsp_at.Tie as tie
-use Rattle.lists.proofs.lsp_at.Reads as reads
-use Rattle.lists.proofs.lsp_at.Lts as lts
-use Rattle.lists.proofs.lsp_from.Reads as lsp-from-reads
 
--- src/lib.rt:80:14
 lsp-from-requires : tie.Need-lsp-from-requires
 lsp-from-requires c κs = search needs
 
--- src/lib.rt:80:14
 add-at : tie.Need-add-at
 unfolding lspFrom lisFrom movedFrom setRoom
 add-at c = search needs
 
--- src/lib.rt:81:5
 mul-result : tie.Need-mul-result
 unfolding lspFrom lisFrom movedFrom setRoom
 mul-result c = search needs
 
--- src/lib.rt:81:5
 shared-slice-read-result : tie.Need-shared-slice-read-result
 unfolding lspFrom lisFrom movedFrom setRoom
 shared-slice-read-result c = search needs
 
--- src/lib.rt:81:5
 cast-result : tie.Need-cast-result
 cast-result c = omega (arith, c .shared-slice-known2 .given (c .before .lsp-from .result + c .before .before .before .args .i))
 
--- src/lib.rt:76:1
 returns : tie.Need-returns
 unfolding lspFrom lisFrom movedFrom setRoom
 returns c = known-more _ _ _ _ (omega arith) (search needs)

@@ -4,44 +4,32 @@ use Rattle.lists.specs.Stretch.{setRoom, lspFrom, lisFrom, movedFrom}
 use borrow.Author.Needs.{needs}
 use Rattle.lists.proofs.move_set.Statement.{statement}
 use Rattle.lists.proofs.move_set.Tie as tie
-use Rattle.lists.proofs.move_set.Reads as reads
-use Rattle.lists.proofs.move_set.Lts as lts
-use Rattle.lists.proofs.moved_from.Reads as moved-from-reads
-use Rattle.lists.proofs.number_of.Reads as number-of-reads
 
--- src/lib.rt:146:14
 moved-from-requires : tie.Need-moved-from-requires
 moved-from-requires c κs = search needs
 
--- src/lib.rt:146:14
 add-at : tie.Need-add-at
 unfolding lspFrom lisFrom movedFrom setRoom
 add-at c = search needs
 
--- src/lib.rt:147:13
 number-of-requires : tie.Need-number-of-requires
 number-of-requires c κs = search needs
 
--- src/lib.rt:147:5
 mul-s : tie.Need-mul-s
 unfolding lspFrom lisFrom movedFrom setRoom
 mul-s c = search needs
 
--- src/lib.rt:147:5
 slice-write-s : tie.Need-slice-write-s
 unfolding lspFrom lisFrom movedFrom setRoom
 slice-write-s c = search needs
 
--- src/lib.rt:149:15
 add-r : tie.Need-add-r
 unfolding lspFrom lisFrom movedFrom setRoom
 add-r c = search needs
 
--- src/lib.rt:142:1
 same-length : tie.Need-same-length
 same-length c = search needs
 
--- src/lib.rt:142:1
 returns : tie.Need-returns
 returns c = move-set-law _ _ _ (c .before .before .before .before .before .pre .0) _ _ (c .before .number-of .ensures) _ (omega arith) (c .before .before .before .before .before .pre .2)
 

@@ -5,42 +5,31 @@ use Rattle.lists.specs.Stretch.{entryOf, indexOf}
 use borrow.Author.Needs.{needs}
 use Rattle.lists.proofs.number_of.Statement.{statement}
 use Rattle.lists.proofs.number_of.Tie as tie
-use Rattle.lists.proofs.number_of.Reads as reads
-use Rattle.lists.proofs.number_of.Lts as lts
 
--- src/lib.rt:52:20
 enum-known-e : tie.Need-enum-known-e
 enum-known-e c = search needs
 
--- src/lib.rt:52:27
 mul-result : tie.Need-mul-result
 mul-result c = omega (arith, ap indexOf (c .before .e .given .1))
 
--- src/lib.rt:52:26
 cast-result : tie.Need-cast-result
 cast-result c = omega (arith, ap indexOf (c .before .e .given .1))
 
--- src/lib.rt:53:20
 enum-known-e-2 : tie.Need-enum-known-e-2
 enum-known-e-2 c = search needs
 
--- src/lib.rt:53:27
 mul-result-2 : tie.Need-mul-result-2
 mul-result-2 c = omega (arith, ap indexOf (c .before .e2 .given .1))
 
--- src/lib.rt:53:27
 add-result : tie.Need-add-result
 add-result c = omega (arith, ap indexOf (c .before .e2 .given .1))
 
--- src/lib.rt:53:26
 cast-result-2 : tie.Need-cast-result-2
 cast-result-2 c = omega (arith, ap indexOf (c .before .e2 .given .1))
 
--- src/lib.rt:47:1
 returns : tie.Need-returns
 returns c = entry-A _ ∙ sym (ap entryOf (c .before .e .given .1))
 
--- src/lib.rt:47:1
 returns-2 : tie.Need-returns-2
 returns-2 c = entry-B _ ∙ sym (ap entryOf (c .before .e2 .given .1))
 

@@ -4,43 +4,32 @@ use native.Mathlib.Omega.{arith}
 use borrow.Author.Needs.{needs}
 use Rattle.lists.proofs.push_lsp.Statement.{statement}
 use Rattle.lists.proofs.push_lsp.Tie as tie
-use Rattle.lists.proofs.push_lsp.Reads as reads
-use Rattle.lists.proofs.push_lsp.Lts as lts
-use Rattle.lists.proofs.lsp_from.Reads as lsp-from-reads
 
--- src/lib.rt:101:14
 lsp-from-requires : tie.Need-lsp-from-requires
 lsp-from-requires c κs = search needs
 
--- src/lib.rt:101:14
 add-at : tie.Need-add-at
 unfolding lspFrom lisFrom movedFrom setRoom
 add-at c = search needs
 
--- src/lib.rt:102:13
 cast-s : tie.Need-cast-s
 cast-s c = search needs
 
--- src/lib.rt:102:5
 mul-s : tie.Need-mul-s
 unfolding lspFrom lisFrom movedFrom setRoom
 mul-s c = search needs
 
--- src/lib.rt:102:5
 slice-write-s : tie.Need-slice-write-s
 unfolding lspFrom lisFrom movedFrom setRoom
 slice-write-s c = search needs
 
--- src/lib.rt:104:13
 add-r : tie.Need-add-r
 unfolding lspFrom lisFrom movedFrom setRoom
 add-r c = search needs
 
--- src/lib.rt:97:1
 same-length : tie.Need-same-length
 same-length c = search needs
 
--- src/lib.rt:97:1
 returns : tie.Need-returns
 unfolding lspFrom lisFrom movedFrom setRoom
 returns c = push-lsp-law _ _ _ (c .before .before .before .before .pre .0) _ _ (omega arith) (c .before .before .before .before .pre .1)

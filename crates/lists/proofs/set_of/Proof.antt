@@ -4,18 +4,13 @@ use native.Mathlib.Omega.{arith}
 use borrow.Author.Needs.{needs}
 use Rattle.lists.proofs.set_of.Statement.{statement}
 use Rattle.lists.proofs.set_of.Tie as tie
-use Rattle.lists.proofs.set_of.Reads as reads
-use Rattle.lists.proofs.set_of.Lts as lts
 
--- src/lib.rt:60:13
 cast-p : tie.Need-cast-p
 cast-p c = search needs
 
--- src/lib.rt:62:9
 returns : tie.Need-returns
 returns c = (sym (entry-even _ (c .if1 .taken)), omega arith)
 
--- src/lib.rt:57:1
 returns-2 : tie.Need-returns-2
 returns-2 c = (sym (entry-odd _ (c .if1 .left)), omega arith)
 

@@ -1,0 +1,171 @@
+-- Step 1, and the offspring of an opened set: what the test of a coefficient makes of lists and side, and several tests in order.
+use mathlib.Core.Path.{_≡_, refl, sym, ap, ap₂, _∙_, subst}
+use mathlib.Core.Bool.{Bool, true, false, cond}
+use mathlib.Core.List.{List, [], _∷_, _++_}
+use Prim.Native.Nat.{ℕ, _+_, _*_, _≤_, _<_}
+use native.Mathlib.Omega.{arith}
+use lib.ListN.{length, length-append}
+use lib.IntN.{ℤ}
+use Rattle.bits.specs.declared.BitPosition.{BitPosition}
+use Rattle.bits.specs.declared.BitRead.{BitRead}
+use Rattle.rules.specs.Document.Passes.{Entry, significant?, negative?, Event, toLip, toLsp, stays, moves, Side, Course, listing, written}
+use Rattle.rules.specs.Laws.PassSteps.{signNoted, tried, triedAll, tried-insignificant, tried-significant, tried-toLip, tried-toLsp, triedAll-append}
+use Rattle.lists.specs.declared.Fill.{Fill}
+use Rattle.lists.specs.Stretch.{waiting, Held, held, Fits, LipPushed, LspPushed, waiting-add, waiting-none, waiting-length}
+use Rattle.passes.specs.declared.Run.{Run}
+use Rattle.passes.specs.declared.Stand.{Stand}
+use Rattle.passes.specs.Exchange.{Chan, chan, noted, side, Replied}
+use Rattle.passes.specs.Steps.{courseOf, course, Tested}
+
+one-tried : {S : Type 0} (C : Side S) (p : ℕ) (s : S) → triedAll C (p ∷ []) s ≡ tried C p s
+unfolding triedAll
+one-tried C p s = refl
+
+either : {X : Type 0} (b : Bool) (x : X) → cond b x x ≡ x
+either true x = refl
+either false x = refl
+
+-- what is noted of what stays as it is: nothing
+pub quiet-toLip : (run : Run) (p : ℕ) (d : List ℤ) → noted run (toLip p) d ≡ d
+unfolding noted written
+quiet-toLip run p d = either (run .reads) d
+
+pub quiet-stays : (run : Run) (e : Entry) (d : List ℤ) → noted run (stays e) d ≡ d
+unfolding noted written
+quiet-stays run e d = either (run .reads) d
+
+pub quiet-moves : (run : Run) (e : Entry) (d : List ℤ) → noted run (moves e) d ≡ d
+unfolding noted written
+quiet-moves run e d = either (run .reads) d
+
+module _ (run : Run) (pyramid : List ℤ) (body : List ℕ) where
+  pub notes : (e : Event) (out : List ℕ) (d : List ℤ) (t : ℕ) → side run pyramid body .note e (chan out d t) ≡ chan out (noted run e d) t
+  unfolding side
+  notes e out d t = refl
+
+  abbrev C : Side Chan
+  C = side run pyramid body
+
+  module _ (p n : ℕ) (s out : List ℕ) (d : List ℤ) (w : Stand) (found : BitRead) (out₁ : List ℕ)
+      (R : Replied (side run pyramid body) (significant? p) out (w .at) found out₁) where
+    abbrev x : Chan
+    x = chan out d (w .at .at)
+
+    insignificant-side : found .bit ≡ false → tried C p x ≡ chan out₁ d (found .next .at)
+    insignificant-side h =
+        tried-insignificant C p x (R .bit d ∙ h) ∙ ap (C .note (toLip p)) (R .next d) ∙ notes (toLip p) out₁ d (found .next .at)
+        ∙ ap (λ y. chan out₁ y (found .next .at)) (quiet-toLip run p d)
+
+    pub tested-insignificant : {s′ : List ℕ} {f : Fill} → found .bit ≡ false → LipPushed n s (w .fill) p s′ f
+        → Tested C (p ∷ []) n s out d w s′ out₁ d (record { fill = f; at = found .next })
+    tested-insignificant h L =
+        record {
+          makes =
+              ap₂ courseOf (L .holds) (sym (insignificant-side h))
+              ∙ sym (tried-toLip C p (course n s out d w) (R .bit d ∙ h)) ∙ sym (one-tried (listing C) p (course n s out d w));
+          todo = ap (λ y. y .todo) (L .holds);
+          fits = L .fits;
+          ahead = λ i m a b. L .ahead i m (omega arith) b;
+          known = L .known;
+          visited = ap (λ y. y .visited) (L .fill);
+          left = ap (λ y. y .left) (L .fill);
+          kept = ap (λ y. y .kept) (L .fill);
+          moved = ap (λ y. y .moved) (L .fill);
+          both = omega (arith, ap (λ y. y .lip) (L .fill), ap (λ y. y .lsp) (L .fill));
+          lip = omega (arith, ap (λ y. y .lip) (L .fill));
+          lsp = omega (arith, ap (λ y. y .lsp) (L .fill));
+          place = omega (arith, R .place);
+        }
+
+    module _ (sign : BitRead) (out₂ : List ℕ) (d′ : List ℤ) (Q : Replied (side run pyramid body) (negative? p) out₁ (found .next) sign out₂)
+        (h : found .bit ≡ true) (e : d′ ≡ noted run (toLsp p (sign .bit)) d) where
+      significant-side : tried C p x ≡ chan out₂ d′ (sign .next .at)
+      unfolding signNoted
+      significant-side =
+          tried-significant C p x (R .bit d ∙ h)
+          ∙ ap (λ y. signNoted C p (C .reply (negative? p) y)) (R .next d)
+          ∙ ap₂ (λ b y. C .note (toLsp p b) y) (Q .bit d) (Q .next d)
+          ∙ notes (toLsp p (sign .bit)) out₂ d (sign .next .at)
+          ∙ ap (λ y. chan out₂ y (sign .next .at)) (sym e)
+
+      pub tested-significant : {s′ : List ℕ} {f : Fill} → LspPushed n s (w .fill) p s′ f → Tested C (p ∷ []) n s out d w s′ out₂ d′ (record { fill = f; at = sign .next })
+      tested-significant L =
+          record {
+            makes =
+                ap₂ courseOf (L .holds) (sym significant-side)
+                ∙ sym (tried-toLsp C p (course n s out d w) (R .bit d ∙ h)) ∙ sym (one-tried (listing C) p (course n s out d w));
+            todo = ap (λ y. y .todo) (L .holds);
+            fits = L .fits;
+            ahead = λ i m a b. L .ahead i m (omega arith) b;
+            known = L .known;
+            visited = ap (λ y. y .visited) (L .fill);
+            left = ap (λ y. y .left) (L .fill);
+            kept = ap (λ y. y .kept) (L .fill);
+            moved = ap (λ y. y .moved) (L .fill);
+            both = omega (arith, ap (λ y. y .lip) (L .fill), ap (λ y. y .lsp) (L .fill));
+            lip = omega (arith, ap (λ y. y .lip) (L .fill));
+            lsp = omega (arith, ap (λ y. y .lsp) (L .fill));
+            place = omega (arith, R .place, Q .place);
+          }
+
+-- none, and one after another
+pub tested-none : (C : Side Chan) (n : ℕ) (s out : List ℕ) (d : List ℤ) (w : Stand) → Fits n s (w .fill) → Tested C [] n s out d w s out d w
+unfolding triedAll
+tested-none C n s out d w h =
+    record {
+      makes = refl;
+      todo = refl;
+      fits = h;
+      ahead = λ i m a b. refl;
+      known = λ m a. refl;
+      visited = refl;
+      left = refl;
+      kept = refl;
+      moved = refl;
+      both = omega arith;
+      lip = omega arith;
+      lsp = omega arith;
+      place = omega arith;
+    }
+
+pub tested-on : {C : Side Chan} {ps qs : List ℕ} {n : ℕ} {s out s₁ out₁ s₂ out₂ : List ℕ} {d d₁ d₂ : List ℤ} {w w₁ w₂ : Stand}
+    → Tested C ps n s out d w s₁ out₁ d₁ w₁ → Tested C qs n s₁ out₁ d₁ w₁ s₂ out₂ d₂ w₂ → Tested C (ps ++ qs) n s out d w s₂ out₂ d₂ w₂
+tested-on {C} {ps} {qs} {n} {s} {out} {d = d} {w = w} a b =
+    let l : length (ps ++ qs) ≡ length ps + length qs = length-append ps qs in
+    record {
+      makes = b .makes ∙ ap (triedAll (listing C) qs) (a .makes) ∙ sym (triedAll-append (listing C) ps qs (course n s out d w));
+      todo = b .todo ∙ a .todo;
+      fits = b .fits;
+      ahead = λ i m g h. b .ahead i m (omega (arith, a .both, a .lsp)) h ∙ a .ahead i m (omega arith) h;
+      known = λ m g. b .known m (omega (arith, a .lsp)) ∙ a .known m g;
+      visited = b .visited ∙ a .visited;
+      left = b .left ∙ a .left;
+      kept = b .kept ∙ a .kept;
+      moved = b .moved ∙ a .moved;
+      both = omega (arith, a .both, b .both);
+      lip = omega (arith, a .lip, b .lip);
+      lsp = omega (arith, a .lsp, b .lsp);
+      place = omega (arith, a .place, b .place);
+    }
+
+-- the loop over LIP: the next coefficient is the one that stood there at the beginning
+module _ {C : Side Chan} {n i : ℕ} {s out : List ℕ} {d : List ℤ} {w : Stand} {s₁ out₁ : List ℕ} {d₁ : List ℤ} {w₁ : Stand}
+    (T : Tested C (waiting 0 i s) n s out d w s₁ out₁ d₁ w₁) (none : w .fill .lip ≤ 0) (more : i < n) (room : 4 * n ≤ length s) where
+  pub lip-length : length (waiting 0 i s) ≡ i
+  lip-length = waiting-length 0 i s (omega arith)
+
+  pub lip-next : {p : ℕ} {s₂ out₂ : List ℕ} {d₂ : List ℤ} {w₂ : Stand} → waiting i 1 s₁ ≡ p ∷ [] → Tested C (p ∷ []) n s₁ out₁ d₁ w₁ s₂ out₂ d₂ w₂
+      → Tested C (waiting 0 (i + 1) s) n s out d w s₂ out₂ d₂ w₂
+  lip-next {p} {s₂} {out₂} {d₂} {w₂} e U =
+      let l = lip-length in
+      let a : waiting 0 i s ++ (p ∷ []) ≡ waiting 0 (i + 1) s =
+      sym (waiting-add i 1 s ∙ ap (λ x. waiting 0 i s ++ x) (sym (T .ahead i 1 (omega arith) (omega arith)) ∙ e)) in
+      subst (λ ps. Tested C ps n s out d w s₂ out₂ d₂ w₂) a (tested-on T U)
+
+pub lip-none : (C : Side Chan) (n : ℕ) (s out : List ℕ) (d : List ℤ) (w : Stand) → Fits n s (w .fill)
+    → Tested C (waiting 0 0 s) n s out d w s out d w
+lip-none C n s out d w h = subst (λ ps. Tested C ps n s out d w s out d w) (sym (waiting-none 0 s)) (tested-none C n s out d w h)
+
+pub lip-done : {C : Side Chan} {n i m : ℕ} {s out : List ℕ} {d : List ℤ} {w : Stand} {s₁ out₁ : List ℕ} {d₁ : List ℤ} {w₁ : Stand} → i ≡ m
+    → Tested C (waiting 0 i s) n s out d w s₁ out₁ d₁ w₁ → Tested C (waiting 0 m s) n s out d w s₁ out₁ d₁ w₁
+lip-done {C} {n} {s = s} {out} {d} {w} {s₁} {out₁} {d₁} {w₁} e T = subst (λ (x : ℕ). Tested C (waiting 0 x s) n s out d w s₁ out₁ d₁ w₁) e T

@@ -1,0 +1,37 @@
+use Rattle.passes.proofs.Leaves.{replied-read, replied-said, says-set}
+use borrow.Author.Needs.{needs}
+use Rattle.passes.proofs.ask_set.Statement.{statement}
+use Rattle.passes.proofs.ask_set.Tie as tie
+
+read-requires : tie.Need-read-requires
+read-requires c κs = search needs
+
+returns : tie.Need-returns
+returns c = replied-read _ (c .before .before .before .before .args .pyramid .now) (c .before .before .before .before .args .body .now) _ _ _ _ (c .before .if1 .taken) (c .read .ensures .0) (c .read .ensures .1)
+
+threshold-of-requires : tie.Need-threshold-of-requires
+threshold-of-requires c κs = search needs
+
+largest-in-requires : tie.Need-largest-in-requires
+largest-in-requires c κs = search needs
+
+say-requires : tie.Need-say-requires
+say-requires c κs = search needs
+
+same-length : tie.Need-same-length
+same-length c = search needs
+
+returns-2 : tie.Need-returns-2
+returns-2 c = replied-said _ (c .before .before .before .before .before .before .before .before .before .args .pyramid .now) (c .before .before .before .before .before .before .before .before .before .args .body .now) _ (c .before .before .before .before .before .before .before .before .before .args .at) _ _ (c .before .before .before .before .before .before .if1 .left) (says-set _ _ (c .before .before .before .before .before .before .before .before .before .args .body .now) (c .before .before .before .before .before .before .before .before .before .args .out .now) (c .before .before .before .before .before .before .before .before .before .args .at) _ (c .before .before .before .before .threshold-of .ensures) (c .before .before .before .largest-in .ensures)) (c .before .before .say .ensures .0) (c .before .before .say .ensures .1) (c .before .before .say .ensures .2)
+
+pub ask-set-spec : {M : Type 1} → statement M
+ask-set-spec =
+    tie.close
+    (tie.spec
+    read-requires
+    returns
+    threshold-of-requires
+    largest-in-requires
+    say-requires
+    same-length
+    returns-2)

@@ -1,0 +1,50 @@
+-- The side of the conversation that the code is: the decoder reads a body and writes coefficients; the coder answers from coefficients and sets
+-- bits.
+use mathlib.Core.Path.{_≡_}
+use mathlib.Core.Bool.{Bool, cond}
+use mathlib.Core.List.{List}
+use Prim.Native.Nat.{ℕ, _+_}
+use lib.IntN.{ℤ}
+use Rattle.bits.specs.declared.BitPosition.{BitPosition}
+use Rattle.bits.specs.declared.BitRead.{BitRead}
+use Rattle.bits.specs.Bits.{setBit}
+use Rattle.rules.specs.Document.Pyramid.{Family, family, magnitude, negative}
+use Rattle.rules.specs.Document.Passes.{Question, Event, Side, truth, written}
+use Rattle.rules.specs.Document.Layout.{bitAt}
+use Rattle.passes.specs.declared.Run.{Run}
+
+-- the bytes of the output, the coefficients written, and the place of the next bit
+pub record Chan : Type 0 where
+  pub bytes : List ℕ
+  pub pyramid : List ℤ
+  pub at : ℕ
+
+abbrev pub chan : List ℕ → List ℤ → ℕ → Chan
+chan bytes pyramid at = record { bytes = bytes; pyramid = pyramid; at = at }
+
+abbrev pub familyOf : Run → Family
+familyOf run = family (run .z)
+
+-- what becomes of the coefficients: the decoder writes what is found and what is refined, the coder writes nothing
+unfoldable pub noted : Run → Event → List ℤ → List ℤ
+noted run e d = cond (run .reads) (written (run .plane .0) e d) d
+
+module _ (run : Run) (pyramid : List ℤ) (body : List ℕ) where
+  unfoldable pub answer : Question → Bool
+  answer = truth (familyOf run) (magnitude pyramid) (negative pyramid) (run .plane .0)
+
+  unfoldable pub side : Side Chan
+  side =
+      record {
+        reply = λ q x. record {
+          bit = cond (run .reads) (bitAt body (x .at)) (answer q);
+          next = chan (cond (run .reads) (x .bytes) (setBit (x .bytes) (x .at) (answer q))) (x .pyramid) (x .at + 1);
+        };
+        note = λ e x. chan (x .bytes) (noted run e (x .pyramid)) (x .at);
+      }
+
+-- A question was asked at a place; the coefficients are what they were.
+pub record Replied (C : Side Chan) (q : Question) (out : List ℕ) (at : BitPosition) (r : BitRead) (out′ : List ℕ) : Type 0 where
+  pub bit : (d : List ℤ) → C .reply q (chan out d (at .at)) .bit ≡ r .bit
+  pub next : (d : List ℤ) → C .reply q (chan out d (at .at)) .next ≡ chan out′ d (r .next .at)
+  pub place : r .next .at ≡ at .at + 1
