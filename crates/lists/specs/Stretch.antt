@@ -1,5 +1,5 @@
 -- What a level's stretch holds: LIP, LSP, LIS and the sets that moved out, each from a place of its own; and what the list operations leave.
-use mathlib.Core.Path.{_≡_, ap, _∙_}
+use mathlib.Core.Path.{_≡_, refl, ap, ap₂, _∙_}
 use mathlib.Core.List.{List, [], _∷_, _++_, map}
 use mathlib.Core.Bool.{Bool, cond}
 use Prim.Native.Nat.{ℕ, _+_, _-_, _*_, _/_, _%_, _≤_, _<_, _^_}
@@ -169,9 +169,13 @@ todo-length n s f h =
     let b = h .visits in
     length-map (seg (n + n + f .visited) (f .left) s) entry ∙ seg-length (n + n + f .visited) (f .left) s (omega arith)
 
+sets-none : (b m : ℕ) (s : List ℕ) → m ≡ 0 → sets b m s ≡ []
+unfolding sets
+sets-none b m s e = ap (λ (x : ℕ). map entry (seg b x s)) e ∙ ap (map entry) (seg-none b s)
+
 pub todo-none : (n : ℕ) (s : List ℕ) (f : Fill) → f .left ≡ 0 → held n s f .todo ≡ []
-unfolding held sets
-todo-none n s f e = ap (λ x. map entry (seg (lisFrom n + f .visited) x s)) e ∙ ap (map entry) (seg-none (lisFrom n + f .visited) s)
+unfolding held
+todo-none n s f e = sets-none (lisFrom n + f .visited) (f .left) s e
 
 pub waiting-add : (i m : ℕ) (s : List ℕ) → waiting 0 (i + m) s ≡ waiting 0 i s ++ waiting i m s
 unfolding waiting
@@ -192,3 +196,24 @@ known-add n i m s = seg-add (lspFrom n) i m s
 pub known-none : (n : ℕ) (s : List ℕ) → known n 0 s ≡ []
 unfolding known
 known-none n s = seg-none (lspFrom n) s
+
+pub held-waiting : (n : ℕ) (s : List ℕ) (f : Fill) → held n s f .lip ≡ waiting 0 (f .lip) s
+unfolding held
+held-waiting n s f = refl
+
+pub held-known : (n : ℕ) (s : List ℕ) (f : Fill) → held n s f .lsp ≡ known n (f .lsp) s
+unfolding held
+held-known n s f = refl
+
+-- What is held at the beginning of a pass, once LIP counts as empty.
+abbrev pub emptied : Fill → Fill
+emptied f = record { lip = 0; lsp = f .lsp; kept = f .kept; visited = f .visited; left = f .left; moved = f .moved }
+
+pub held-fresh : (n : ℕ) (s : List ℕ) (f : Fill) → f .kept ≡ 0 → f .moved ≡ 0
+    → held n s (emptied f) ≡ record { lip = []; lsp = held n s f .lsp; kept = []; todo = held n s f .todo; moved = [] }
+unfolding held
+held-fresh n s f a b =
+    let same : List ℕ → List Entry → List Entry → Held
+        = λ x y z. record { lip = x; lsp = known n (f .lsp) s; kept = y; todo = sets (lisFrom n + f .visited) (f .left) s; moved = z } in
+    ap (λ x. same x (sets (lisFrom n) (f .kept) s) (sets (movedFrom n) (f .moved) s)) (waiting-none 0 s)
+    ∙ ap₂ (same []) (sets-none (lisFrom n) (f .kept) s a) (sets-none (movedFrom n) (f .moved) s b)

@@ -1,3 +1,6 @@
 pub mod Leaves
 pub mod Tests
 pub mod Sets
+pub mod Visits
+pub mod Refining
+pub mod Pass

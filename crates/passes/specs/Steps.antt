@@ -6,8 +6,9 @@ use Prim.Native.Nat.{ℕ, suc, _+_, _*_, _≤_, _<_, _^_}
 use lib.Dec.{leb, ltb}
 use lib.ListN.{length}
 use lib.IntN.{ℤ}
-use Rattle.rules.specs.Document.Pyramid.{Family, legalSize, levels, mostPlanes}
-use Rattle.rules.specs.Document.Passes.{Entry, typeA, typeB, inLevel, opened, added, Side, Course, listing}
+use Rattle.rules.specs.Document.Pyramid.{Family, legalSize, levels, mostPlanes, magnitude}
+use Rattle.rules.specs.Document.Passes.{Entry, typeA, typeB, inLevel, opened, added, Lists, Side, Course, listing, passed}
+use Rattle.rules.specs.Laws.Count.{sum, is}
 use Rattle.rules.specs.Laws.PassSteps.{triedAll, visitedAll}
 use Rattle.rules.specs.Laws.PassLevels.{Met}
 use Rattle.rules.specs.Laws.Slots.{Room}
@@ -140,3 +141,31 @@ pub record Visited (C : Side Chan) (run : Run) (s out : List ℕ) (d : List ℤ)
   pub ready : Ready run s′ r
   pub known : (m : ℕ) → m ≤ w .fill .lsp → known (run .n) m s′ ≡ known (run .n) m s
   pub lsp : w .fill .lsp ≤ r .fill .lsp
+
+-- No coefficient outgrows a bound, though those of ks are still to be refined, each once.
+pub record Growth (plane bound : ℕ) (d : List ℤ) (ks : List ℕ) : Type 0 where
+  pub small : (q : ℕ) → magnitude d q + 2 ^ plane * sum (is q) ks < bound
+  pub once : (q : ℕ) → sum (is q) ks ≤ 1
+
+-- the lists of the level as a pass finds them
+abbrev pub listsOf : Run → List ℕ → Stand → Lists
+listsOf run s w =
+    record { lip = held (run .n) s (w .fill) .lip; lis = held (run .n) s (w .fill) .todo; lsp = held (run .n) s (w .fill) .lsp }
+
+-- Before a pass: there is room for it, nothing of LIS was visited, and no coefficient is too large to be refined.
+pub record Fresh (run : Run) (s : List ℕ) (d : List ℤ) (w : Stand) : Type 0 where
+  pub proper : Proper run
+  pub fits : Fits (run .n) s (w .fill)
+  pub room : Room (familyOf run) (run .level .0) (run .n) (w .fill .lsp) 0 (held (run .n) s (w .fill) .lip) (held (run .n) s (w .fill) .todo)
+  pub queue : Queued run 0 (held (run .n) s (w .fill) .todo)
+  pub olds : run .olds ≤ w .fill .left
+  pub kept : w .fill .kept ≡ 0
+  pub visited : w .fill .visited ≡ 0
+  pub moved : w .fill .moved ≡ 0
+  pub place : w .at .at ≡ run .from .at
+  pub growth : Growth (run .plane .0) (2 ^ 30) d (held (run .n) s (w .fill) .lsp)
+
+-- A pass was run.
+pub record Ran (C : Side Chan) (run : Run) (s out : List ℕ) (d : List ℤ) (w : Stand) (s′ out′ : List ℕ) (d′ : List ℤ) (r : Stand) : Type 0 where
+  pub makes : course (run .n) s′ out′ d′ r ≡ passed (familyOf run) (run .level .0) C (listsOf run s w) (chan out d (w .at .at))
+  pub fits : Fits (run .n) s′ (r .fill)

@@ -11,10 +11,11 @@ ghost use Rattle.bits.specs.Bits.{setBit};
 ghost use Rattle.shape.specs.Offspring.{offspringList};
 ghost use Rattle.shape.specs.Nodes.{Node};
 ghost use Rattle.rules.specs.Laws.PassLevels.{Met};
-ghost use Rattle.rules.specs.Laws.PassSteps.{sharpened};
-ghost use Rattle.lists.specs.Stretch.{setRoom, entryOf, indexOf, waiting, held, Fits};
+ghost use Rattle.rules.specs.Laws.PassSteps.{sharpened, sharpenedAll};
+ghost use Rattle.lists.specs.Stretch.{setRoom, entryOf, indexOf, waiting, known, held, Fits};
 ghost use Rattle.passes.specs.Exchange.{chan, familyOf, side, noted, Replied};
-ghost use Rattle.passes.specs.Steps.{Tested, Proper, Added, Opened, Opening, hasMember, Ready, InHand, Weighed, Visited};
+ghost use Rattle.passes.specs.Steps.{Tested, Proper, Added, Opened, Opening, hasMember, Ready, InHand, Weighed, Visited, Growth, Fresh, Ran};
+
 use bits::BitPosition;
 use bits::BitRead;
 use lists::Fill;
@@ -64,35 +65,17 @@ fn say(out: &mut [u8], at: BitPosition, bit: bool) -> BitRead
     BitRead { bit, next }
 }
 
-fn ask_significant(
-    run: Run,
-    pyramid: &[i32],
-    body: &[u8],
-    out: &mut [u8],
-    at: BitPosition,
-    p: usize,
-) -> BitRead
+fn ask_significant(run: Run, pyramid: &[i32], body: &[u8], out: &mut [u8], at: BitPosition, p: usize) -> BitRead
     requires { ⌜ (at .at < 2 ^ 62) × (run .plane .0 < mostPlanes) ⌝ }
     ensures { λ r. ⌜ Replied (side run (now (pyramid .entry)) (now (body .entry))) (significant? p) (now (out .entry)) at r (now (out .exit)) ⌝ }
 {
     if run.reads {
         return at.read(body);
     }
-    say(
-        out,
-        at,
-        shape::threshold_of(run.plane) <= shape::magnitude_at(pyramid, p),
-    )
+    say(out, at, shape::threshold_of(run.plane) <= shape::magnitude_at(pyramid, p))
 }
 
-fn ask_negative(
-    run: Run,
-    pyramid: &[i32],
-    body: &[u8],
-    out: &mut [u8],
-    at: BitPosition,
-    p: usize,
-) -> BitRead
+fn ask_negative(run: Run, pyramid: &[i32], body: &[u8], out: &mut [u8], at: BitPosition, p: usize) -> BitRead
     requires { ⌜ at .at < 2 ^ 62 ⌝ }
     ensures { λ r. ⌜ Replied (side run (now (pyramid .entry)) (now (body .entry))) (negative? p) (now (out .entry)) at r (now (out .exit)) ⌝ }
 {
@@ -102,14 +85,7 @@ fn ask_negative(
     say(out, at, shape::negative_at(pyramid, p))
 }
 
-fn ask_bit(
-    run: Run,
-    pyramid: &[i32],
-    body: &[u8],
-    out: &mut [u8],
-    at: BitPosition,
-    p: usize,
-) -> BitRead
+fn ask_bit(run: Run, pyramid: &[i32], body: &[u8], out: &mut [u8], at: BitPosition, p: usize) -> BitRead
     requires { ⌜ (at .at < 2 ^ 62) × (run .plane .0 < mostPlanes) ⌝ }
     ensures { λ r. ⌜ Replied (side run (now (pyramid .entry)) (now (body .entry))) (bit? p) (now (out .entry)) at r (now (out .exit)) ⌝ }
 {
@@ -141,16 +117,7 @@ fn note_refined(run: Run, d: &mut [i32], p: usize, bit: bool)
 }
 
 // A coefficient is tested: its bits, and its place at the end of LSP or of LIP.
-fn test(
-    run: Run,
-    pyramid: &[i32],
-    body: &[u8],
-    s: &mut [u32],
-    w: Stand,
-    out: &mut [u8],
-    d: &mut [i32],
-    p: usize,
-) -> Stand
+fn test(run: Run, pyramid: &[i32], body: &[u8], s: &mut [u32], w: Stand, out: &mut [u8], d: &mut [i32], p: usize) -> Stand
     requires { ⌜ (run .plane .0 < mostPlanes) × Fits (run .n) (now s) (w .fill) × (w .fill .lip + w .fill .lsp < run .n) × (w .at .at + 2 < 2 ^ 62) × (p < 2 ^ 32) ⌝ }
     ensures { λ r. ⌜ Tested (side run (now (pyramid .entry)) (now (body .entry))) (p ∷ []) (run .n) (now (s .entry)) (now (out .entry)) (now (d .entry)) w
         (now (s .exit)) (now (out .exit)) (now (d .exit)) r ⌝ }
@@ -169,17 +136,7 @@ fn test(
 }
 
 // Two coefficients, in order.
-fn test_two(
-    run: Run,
-    pyramid: &[i32],
-    body: &[u8],
-    s: &mut [u32],
-    w: Stand,
-    out: &mut [u8],
-    d: &mut [i32],
-    p: usize,
-    q: usize,
-) -> Stand
+fn test_two(run: Run, pyramid: &[i32], body: &[u8], s: &mut [u32], w: Stand, out: &mut [u8], d: &mut [i32], p: usize, q: usize) -> Stand
     requires { ⌜ (run .plane .0 < mostPlanes) × Fits (run .n) (now s) (w .fill) × (w .fill .lip + w .fill .lsp + 2 ≤ run .n) × (w .at .at + 4 < 2 ^ 62) × (p < 2 ^ 32) × (q < 2 ^ 32) ⌝ }
     ensures { λ r. ⌜ Tested (side run (now (pyramid .entry)) (now (body .entry))) (p ∷ q ∷ []) (run .n) (now (s .entry)) (now (out .entry)) (now (d .entry)) w
         (now (s .exit)) (now (out .exit)) (now (d .exit)) r ⌝ }
@@ -189,16 +146,7 @@ fn test_two(
 }
 
 // The four offspring of the block that begins at an index.
-fn test_block(
-    run: Run,
-    pyramid: &[i32],
-    body: &[u8],
-    s: &mut [u32],
-    w: Stand,
-    out: &mut [u8],
-    d: &mut [i32],
-    first: usize,
-) -> Stand
+fn test_block(run: Run, pyramid: &[i32], body: &[u8], s: &mut [u32], w: Stand, out: &mut [u8], d: &mut [i32], first: usize) -> Stand
     requires { ⌜ (run .plane .0 < mostPlanes) × Fits (run .n) (now s) (w .fill) × (w .fill .lip + w .fill .lsp + 4 ≤ run .n) × (w .at .at + 8 < 2 ^ 62) × (first + run .z .w + 1 < greatestSide * greatestSide) ⌝ }
     ensures { λ r. ⌜ Tested (side run (now (pyramid .entry)) (now (body .entry))) (offspringList (run .z) (Offspring.Block first)) (run .n) (now (s .entry)) (now (out .entry)) (now (d .entry)) w
         (now (s .exit)) (now (out .exit)) (now (d .exit)) r ⌝ }
@@ -209,16 +157,7 @@ fn test_block(
 }
 
 // Step 1: each of the m entries of LIP; those that stay are put back to its front.
-fn test_lip(
-    run: Run,
-    pyramid: &[i32],
-    body: &[u8],
-    s: &mut [u32],
-    w: Stand,
-    out: &mut [u8],
-    d: &mut [i32],
-    m: usize,
-) -> Stand
+fn test_lip(run: Run, pyramid: &[i32], body: &[u8], s: &mut [u32], w: Stand, out: &mut [u8], d: &mut [i32], m: usize) -> Stand
     requires { ⌜ (run .plane .0 < mostPlanes) × Fits (run .n) (now s) (w .fill) × (w .fill .lip ≤ 0) × (m + w .fill .lsp ≤ run .n) × (w .at .at + 2 * m < 2 ^ 62) ⌝ }
     ensures { λ r. ⌜ Tested (side run (now (pyramid .entry)) (now (body .entry))) (waiting 0 m (now (s .entry))) (run .n) (now (s .entry)) (now (out .entry)) (now (d .entry)) w
         (now (s .exit)) (now (out .exit)) (now (d .exit)) r ⌝ }
@@ -257,16 +196,7 @@ fn first_of(z: Size, p: usize, k: Level) -> usize
 }
 
 // A set of type A whose bit is 1: its offspring are tested, and it goes to the end of LIS as type B if L is not empty.
-fn open_a(
-    run: Run,
-    pyramid: &[i32],
-    body: &[u8],
-    s: &mut [u32],
-    w: Stand,
-    out: &mut [u8],
-    d: &mut [i32],
-    p: usize,
-) -> Stand
+fn open_a(run: Run, pyramid: &[i32], body: &[u8], s: &mut [u32], w: Stand, out: &mut [u8], d: &mut [i32], p: usize) -> Stand
     requires { ⌜ Opening run (typeA p) (now s) w ⌝ }
     ensures { λ r. ⌜ Opened (side run (now (pyramid .entry)) (now (body .entry))) (familyOf run) (typeA p) (run .n) (now (s .entry)) (now (out .entry)) (now (d .entry)) w
         (now (s .exit)) (now (out .exit)) (now (d .exit)) r ⌝ }
@@ -293,16 +223,7 @@ fn open_b(run: Run, s: &mut [u32], w: Stand, p: usize) -> Stand
 }
 
 // A set whose bit is 1.
-fn open_set(
-    run: Run,
-    pyramid: &[i32],
-    body: &[u8],
-    s: &mut [u32],
-    w: Stand,
-    out: &mut [u8],
-    d: &mut [i32],
-    e: Set,
-) -> Stand
+fn open_set(run: Run, pyramid: &[i32], body: &[u8], s: &mut [u32], w: Stand, out: &mut [u8], d: &mut [i32], e: Set) -> Stand
     requires { ⌜ Opening run (entryOf e) (now s) w ⌝ }
     ensures { λ r. ⌜ Opened (side run (now (pyramid .entry)) (now (body .entry))) (familyOf run) (entryOf e) (run .n) (now (s .entry)) (now (out .entry)) (now (d .entry)) w
         (now (s .exit)) (now (out .exit)) (now (d .exit)) r ⌝ }
@@ -324,25 +245,14 @@ fn largest_in(run: Run, pyramid: &[i32], e: Set) -> u32
     }
 }
 
-fn ask_set(
-    run: Run,
-    pyramid: &[i32],
-    body: &[u8],
-    out: &mut [u8],
-    at: BitPosition,
-    e: Set,
-) -> BitRead
+fn ask_set(run: Run, pyramid: &[i32], body: &[u8], out: &mut [u8], at: BitPosition, e: Set) -> BitRead
     requires { ⌜ (at .at < 2 ^ 62) × Proper run × Met (familyOf run) (run .level .0) (entryOf e) ⌝ }
     ensures { λ r. ⌜ Replied (side run (now (pyramid .entry)) (now (body .entry))) (set? (entryOf e)) (now (out .entry)) at r (now (out .exit)) ⌝ }
 {
     if run.reads {
         return at.read(body);
     }
-    say(
-        out,
-        at,
-        shape::threshold_of(run.plane) <= largest_in(run, pyramid, e),
-    )
+    say(out, at, shape::threshold_of(run.plane) <= largest_in(run, pyramid, e))
 }
 
 // Whether a set has a member in the level: the roots of level N+1 have none there. Elsewhere each of type A has, and each of type B that was in
@@ -360,16 +270,7 @@ fn has_member(run: Run, visited: usize, e: Set) -> bool
 }
 
 // The bit of a set that has members in the level: it stays in its place, or is opened.
-fn weigh(
-    run: Run,
-    pyramid: &[i32],
-    body: &[u8],
-    s: &mut [u32],
-    w: Stand,
-    out: &mut [u8],
-    d: &mut [i32],
-    e: Set,
-) -> Stand
+fn weigh(run: Run, pyramid: &[i32], body: &[u8], s: &mut [u32], w: Stand, out: &mut [u8], d: &mut [i32], e: Set) -> Stand
     requires { ⌜ Proper run × InHand run (entryOf e) (now s) w × (indexOf e < 2 ^ 31) ⌝ }
     ensures { λ r. ⌜ Weighed (side run (now (pyramid .entry)) (now (body .entry))) run (entryOf e) (now (s .entry)) (now (out .entry)) (now (d .entry)) w
         (now (s .exit)) (now (out .exit)) (now (d .exit)) r ⌝ }
@@ -382,4 +283,81 @@ fn weigh(
     }
     let kept = lists::keep_set(s, run.n, fill, e);
     Stand { fill: kept, at }
+}
+
+// One entry of LIS: moved out of the level if it has no member there, else weighed.
+fn visit_set(run: Run, pyramid: &[i32], body: &[u8], s: &mut [u32], w: Stand, out: &mut [u8], d: &mut [i32]) -> Stand
+    requires { ⌜ Proper run × Ready run (now s) w × (0 < w .fill .left) ⌝ }
+    ensures { λ r. ⌜ Visited (side run (now (pyramid .entry)) (now (body .entry))) run (now (s .entry)) (now (out .entry)) (now (d .entry)) w
+        (now (s .exit)) (now (out .exit)) (now (d .exit)) r × (r .fill .visited ≡ w .fill .visited + 1) ⌝ }
+{
+    let e = lists::next_set(s, run.n, w.fill);
+    let fill = lists::past_set(w.fill);
+    let at = w.at;
+    if has_member(run, w.fill.visited, e) {
+        return weigh(run, pyramid, body, s, Stand { fill, at }, out, d, e);
+    }
+    let gone = lists::move_set(s, run.n, fill, e);
+    Stand { fill: gone, at }
+}
+
+// Step 2: each entry of LIS, those added to its end meanwhile included.
+fn visit_lis(run: Run, pyramid: &[i32], body: &[u8], s: &mut [u32], w: Stand, out: &mut [u8], d: &mut [i32]) -> Stand
+    requires { ⌜ Proper run × Ready run (now s) w ⌝ }
+    ensures { λ r. ⌜ Visited (side run (now (pyramid .entry)) (now (body .entry))) run (now (s .entry)) (now (out .entry)) (now (d .entry)) w
+        (now (s .exit)) (now (out .exit)) (now (d .exit)) r × (r .fill .left ≤ 0) ⌝ }
+{
+    let mut r = w;
+    while 0 < r.fill.left {
+        r = visit_set(run, pyramid, body, s, r, out, d);
+    }
+    r
+}
+
+// The refinement of a coefficient.
+fn refine(run: Run, pyramid: &[i32], body: &[u8], out: &mut [u8], d: &mut [i32], at: BitPosition, p: usize) -> BitPosition
+    requires { ⌜ (at .at < 2 ^ 62) × (run .plane .0 < mostPlanes) × (magnitude (now d) p < 2 ^ 30) ⌝ }
+    ensures { λ r. ⌜ (chan (now (out .exit)) (now (d .exit)) (r .at) ≡ sharpened (side run (now (pyramid .entry)) (now (body .entry))) p (chan (now (out .entry)) (now (d .entry)) (at .at)))
+        × (r .at ≡ at .at + 1) ⌝ }
+{
+    let bit = ask_bit(run, pyramid, body, out, at, p);
+    note_refined(run, d, p, bit.bit);
+    bit.next
+}
+
+// Step 3: each of the m entries of LSP that came in at an earlier plane.
+fn refine_lsp(run: Run, pyramid: &[i32], body: &[u8], s: &[u32], m: usize, out: &mut [u8], d: &mut [i32], at: BitPosition) -> BitPosition
+    requires { ⌜ (run .plane .0 < mostPlanes) × (4 * run .n ≤ length (now s)) × (m ≤ run .n) × (at .at + m < 2 ^ 62) × Growth (run .plane .0) (2 ^ 30) (now d) (known (run .n) m (now s)) ⌝ }
+    ensures { λ r. ⌜ (chan (now (out .exit)) (now (d .exit)) (r .at) ≡ sharpenedAll (side run (now (pyramid .entry)) (now (body .entry))) (known (run .n) m (now (s .entry))) (chan (now (out .entry)) (now (d .entry)) (at .at)))
+        × (r .at ≡ at .at + m) ⌝ }
+{
+    let mut next = at;
+    let mut i = 0;
+    while i < m {
+        let p = lists::lsp_at(s, run.n, i);
+        i += 1;
+        next = refine(run, pyramid, body, out, d, next, p);
+    }
+    next
+}
+
+// One part's pass in the level's stretch: the three steps.
+fn run_pass(run: Run, pyramid: &[i32], body: &[u8], s: &mut [u32], w: Stand, out: &mut [u8], d: &mut [i32]) -> Stand
+    requires { ⌜ Fresh run (now s) (now d) w ⌝ }
+    ensures { λ r. ⌜ Ran (side run (now (pyramid .entry)) (now (body .entry))) run (now (s .entry)) (now (out .entry)) (now (d .entry)) w
+        (now (s .exit)) (now (out .exit)) (now (d .exit)) r ⌝ }
+{
+    let waiting = w.fill.lip;
+    let known = w.fill.lsp;
+    let at = w.at;
+    let mut fill = w.fill;
+    fill.lip = 0;
+    let tested = test_lip(run, pyramid, body, s, Stand { fill, at }, out, d, waiting);
+    let visited = visit_lis(run, pyramid, body, s, tested, out, d);
+    let next = refine_lsp(run, pyramid, body, s, known, out, d, visited.at);
+    let left = visited.fill;
+    Stand {
+        fill: left,
+        at: next,
+    }
 }
