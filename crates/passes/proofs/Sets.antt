@@ -28,7 +28,7 @@ use Rattle.rules.specs.Laws.Slots.{Room, room-past, room-open, room-tests, room
 use Rattle.rules.specs.Laws.StateRecord.{node-area}
 use Rattle.shape.specs.Offspring.{offspringList}
 use Rattle.shape.specs.declared.Offspring.the-variants.{Nothing, Block}
-use Rattle.shape.specs.Legal.{area-bound}
+use Rattle.rules.specs.Laws.Sizes.{area-bound}
 use Rattle.shape.specs.Nodes.{Node}
 use Rattle.bits.specs.declared.BitPosition.{BitPosition}
 use Rattle.bits.specs.declared.BitRead.{BitRead}

@@ -12,9 +12,9 @@ use Rattle.rules.specs.declared.Size.{Size}
 use Rattle.rules.specs.Document.Pyramid.{leastSide, greatestSide, mostDecompositions, legalSide, legalSize}
 use Rattle.rules.specs.Document.Pyramid.{levels, row, column, within, levelUpTo, levelOf, offspringOf}
 use Rattle.shape.specs.declared.Offspring.the-variants.{Nothing, Block}
-use Rattle.shape.specs.Legal.{legal, area-bound}
+use Rattle.rules.specs.Laws.Sizes.{legal, area-bound}
 use Rattle.shape.specs.Levels.{within-bounds}
-use Rattle.shape.specs.Counts.{span, levelStart, levelEnd, start-top, start-end, span-area}
+use Rattle.rules.specs.Laws.Sizes.{span, levelStart, levelEnd, levelStart-top, levelSize-end, span-most}
 use Rattle.shape.specs.Offspring.{offspringList, folded, block-first, offspring-band}
 
 -- a shift of 1 that stays under the width
@@ -90,14 +90,13 @@ module _ (z : Size) (q : ℕ) where
 module _ (z : Size) (e : legalSize z ≡ true) where
   pub span-small : (k : ℕ) → k ≤ z .n → (z .h / 2 ^ k) * (z .w / 2 ^ k) ≤ greatestSide * greatestSide
   unfolding span
-  span-small k h = omega (arith, span-area z e k (omega arith), area-bound z e)
+  span-small k h = omega (arith, span-most z (legal z e) k (omega arith), area-bound z e)
 
   pub start-zero : (k : ℕ) → k ≤ levels z → z .n < k → 0 ≡ levelStart z k
-  start-zero k h l = let i : k ≡ levels z = omega arith in rw i (sym (start-top z))
+  start-zero k h l = let i : k ≡ levels z = omega arith in rw i (sym (levelStart-top z))
 
   pub start-before : (k : ℕ) → 1 ≤ k → k ≤ levels z → levelStart z k ≤ levelEnd z k
-  start-before zero h l = absurd (omega arith)
-  start-before (suc k) h l = omega (arith, start-end z e k l)
+  start-before k h l = omega (arith, levelSize-end z (legal z e) k h l)
 
 pub halved-small : (x n : ℕ) → x ≤ greatestSide → x / 2 ^ n ≤ greatestSide
 halved-small x n h = omega (arith, shr-le x n)

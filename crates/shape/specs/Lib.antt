@@ -1,6 +1,4 @@
-pub mod Legal
 pub mod Levels
-pub mod Counts
 pub mod Offspring
 pub mod Nodes
 pub mod Planes

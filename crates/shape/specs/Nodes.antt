@@ -12,7 +12,7 @@ use borrow.Author.Tests.{lt-ltb, le-ltb, ltb-true, ltb-false, ne-eqb}
 use Rattle.rules.specs.declared.Size.{Size}
 use Rattle.rules.specs.Document.Pyramid.{greatestSide, legalSize, area, index, row, column, within, levelOf, block, offspringOf}
 use Rattle.shape.specs.declared.Offspring.the-variants.{Nothing, Block}
-use Rattle.shape.specs.Legal.{Legal, legal, area-bound}
+use Rattle.rules.specs.Laws.Sizes.{Legal, legal, area-bound}
 use Rattle.shape.specs.Levels.{within-bounds, bounds-within, within-level, level-is, level-top, level-some}
 use Rattle.shape.specs.Offspring.{offspringList, folded, block-twice, offspring-band, offspring-elsewhere, offspring-finest}
 

@@ -12,7 +12,7 @@ ghost use Rattle.rules.specs.Document.Pyramid.{greatestSide, mostDecompositions
 ghost use Rattle.rules.specs.Document.Pyramid.{within, levels, levelOf, offspringOf, magnitude, negative, below0, planesOf};
 ghost use Rattle.rules.specs.Document.Passes.{signed, grown};
 ghost use Rattle.rules.specs.Document.Calls.{firstOver};
-ghost use Rattle.shape.specs.Counts.{span, levelStart, levelEnd, levelSize};
+ghost use Rattle.rules.specs.Laws.Sizes.{span, levelStart, levelEnd, levelSize};
 ghost use Rattle.shape.specs.Offspring.{offspringList, folded};
 ghost use Rattle.shape.specs.Nodes.{Node};
 

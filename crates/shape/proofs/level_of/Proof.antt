@@ -4,7 +4,7 @@ use Prim.Native.Nat.{_≤_}
 use native.Mathlib.Omega.{arith}
 use borrow.Author.Needs.{needs}
 use Rattle.rules.specs.Document.Pyramid.{levels, levelUpTo, levelOf}
-use Rattle.shape.specs.Legal.{legal}
+use Rattle.rules.specs.Laws.Sizes.{legal}
 use Rattle.shape.proofs.Sizes.{level-begins, level-found, level-onward, level-none}
 use Rattle.shape.proofs.level_of.Statement.{statement}
 use Rattle.shape.proofs.level_of.Tie as tie

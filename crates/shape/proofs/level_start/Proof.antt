@@ -1,7 +1,7 @@
 -- `shape::level_start`: level N+1 begins at 0, another at its span.
 use mathlib.Core.Path.{sym, _∙_}
 use borrow.Author.Needs.{needs}
-use Rattle.shape.specs.Counts.{start-fine}
+use Rattle.rules.specs.Laws.Sizes.{levelStart-fine}
 use Rattle.shape.proofs.Sizes.{start-zero}
 use Rattle.shape.proofs.level_start.Statement.{statement}
 use Rattle.shape.proofs.level_start.Tie as tie
@@ -13,7 +13,7 @@ span-of-requires : tie.Need-span-of-requires
 span-of-requires c κs = search needs
 
 returns-2 : tie.Need-returns-2
-returns-2 c = c .span-of .ensures ∙ sym (start-fine _ _ (c .before .if1 .left))
+returns-2 c = c .span-of .ensures ∙ sym (levelStart-fine _ _ (c .before .if1 .left))
 
 pub level-start-spec : {M : Type 1} → statement M
 level-start-spec = tie.close (tie.spec returns span-of-requires returns-2)

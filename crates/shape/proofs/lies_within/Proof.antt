@@ -1,6 +1,6 @@
 -- `shape::lies_within`: the row, then the column.
 use native.Mathlib.Omega.{arith}
-use Rattle.shape.specs.Legal.{legal}
+use Rattle.rules.specs.Laws.Sizes.{legal}
 use Rattle.shape.proofs.Sizes.{within-row, within-below}
 use Rattle.shape.proofs.lies_within.Statement.{statement}
 use Rattle.shape.proofs.lies_within.Tie as tie
