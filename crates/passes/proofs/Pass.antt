@@ -20,7 +20,7 @@ use Rattle.lists.specs.Stretch.{waiting, known, held, Fits, sets-fit, todo-leng
 use Rattle.passes.specs.declared.Run.{Run}
 use Rattle.passes.specs.declared.Stand.{Stand}
 use Rattle.passes.specs.Exchange.{Chan, chan, familyOf, side}
-use Rattle.passes.specs.Steps.{courseOf, course, visitsOf, listsOf, Tested, Proper, Ready, Visited, Growth, Fresh, Ran}
+use Rattle.passes.specs.Steps.{courseOf, course, visitsOf, listsOf, Tested, Proper, Underway, Visited, Growth, Fresh, Ran}
 use Rattle.passes.proofs.Refining.{growth-kept}
 
 module _ (run : Run) {s : List ℕ} {d : List ℤ} {w : Stand} (H : Fresh run s d w) where
@@ -56,7 +56,7 @@ module _ (run : Run) {s : List ℕ} {d : List ℤ} {w : Stand} (H : Fresh run s 
   -- after step 1
   module _ {C : Side Chan} {out s₁ out₁ : List ℕ} {d₁ : List ℤ} {w₁ : Stand}
       (T : Tested C (waiting 0 (w .fill .lip) s) (run .n) s out d first s₁ out₁ d₁ w₁) where
-    pub tested-ready : Ready run s₁ w₁
+    pub tested-ready : Underway run s₁ w₁
     tested-ready =
         let t : held (run .n) s₁ (w₁ .fill) .todo ≡ held (run .n) s (w .fill) .todo = T .todo ∙ first-todo in
         let v : w₁ .fill .visited ≡ 0 = T .visited ∙ H .visited in

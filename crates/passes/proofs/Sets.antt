@@ -37,7 +37,7 @@ use Rattle.lists.specs.Stretch.{setRoom, Held, held, past, Fits, NextSet, SetAd
 use Rattle.passes.specs.declared.Run.{Run}
 use Rattle.passes.specs.declared.Stand.{Stand}
 use Rattle.passes.specs.Exchange.{Chan, chan, familyOf, side, Replied}
-use Rattle.passes.specs.Steps.{courseOf, course, visitsOf, Tested, Proper, Added, Opened, Opening, hasMember, Queued, Ready, InHand, Weighed, Visited}
+use Rattle.passes.specs.Steps.{courseOf, course, visitsOf, Tested, Proper, Added, Opened, Opening, hasMember, Queued, Underway, InHand, Weighed, Visited}
 use Rattle.passes.proofs.Tests.{notes, quiet-stays, quiet-moves, tested-none}
 
 -- Sets at the end of LIS: none, one, and more.

@@ -19,7 +19,7 @@ use Rattle.lists.specs.Stretch.{setRoom, held, past, Fits, NextSet, SetMoved}
 use Rattle.passes.specs.declared.Run.{Run}
 use Rattle.passes.specs.declared.Stand.{Stand}
 use Rattle.passes.specs.Exchange.{Chan, chan, familyOf}
-use Rattle.passes.specs.Steps.{courseOf, course, visitsOf, Proper, hasMember, Queued, Ready, InHand, Weighed, Visited}
+use Rattle.passes.specs.Steps.{courseOf, course, visitsOf, Proper, hasMember, Queued, Underway, InHand, Weighed, Visited}
 
 module _ (run : Run) (P : Proper run) where
   abbrev F : Family
@@ -32,7 +32,7 @@ module _ (run : Run) (P : Proper run) where
   L = lawful (run .z) (legal (run .z) (P .legal))
 
   -- the next set is taken
-  module _ {e : Entry} {s : List ℕ} {w : Stand} (R : Ready run s w) (N : NextSet (run .n) s (w .fill) e) where
+  module _ {e : Entry} {s : List ℕ} {w : Stand} (R : Underway run s w) (N : NextSet (run .n) s (w .fill) e) where
     abbrev f₀ : Fill
     f₀ = past (w .fill)
 
@@ -120,7 +120,7 @@ module _ (run : Run) (P : Proper run) where
           subst (λ g. Fits (run .n) s g × (g .moved < setRoom (run .n))) (sym i) (N .fits, omega (arith, R .past, R .fits .visits))
 
 -- visits in a row, and none
-pub visited-none : (C : Side Chan) (run : Run) (s out : List ℕ) (d : List ℤ) (w : Stand) → Ready run s w → Visited C run s out d w s out d w
+pub visited-none : (C : Side Chan) (run : Run) (s out : List ℕ) (d : List ℤ) (w : Stand) → Underway run s w → Visited C run s out d w s out d w
 visited-none C run s out d w R = record { makes = refl; ready = R; known = λ m h. refl; lsp = omega arith }
 
 pub visited-on : {C : Side Chan} {run : Run} {s out s₁ out₁ s₂ out₂ : List ℕ} {d d₁ d₂ : List ℤ} {w w₁ w₂ : Stand}

@@ -100,7 +100,7 @@ Queued run v (e ∷ es) = (inLevel (familyOf run) (run .level .0) e ≡ hasMembe
 
 -- In the midst of LIS: there is room for the rest, it is known which sets have a member in the level, what was visited was kept, moved out or is
 -- gone, and each coefficient took two bits at most, each set one.
-pub record Ready (run : Run) (s : List ℕ) (w : Stand) : Type 0 where
+pub record Underway (run : Run) (s : List ℕ) (w : Stand) : Type 0 where
   pub fits : Fits (run .n) s (w .fill)
   pub room : Room (familyOf run) (run .level .0) (run .n) (w .fill .lip + w .fill .lsp) (w .fill .visited) [] (held (run .n) s (w .fill) .todo)
   pub queue : Queued run (w .fill .visited) (held (run .n) s (w .fill) .todo)
@@ -129,7 +129,7 @@ pub record Weighed (C : Side Chan) (run : Run) (e : Entry) (s out : List ℕ) (d
     (s′ out′ : List ℕ) (d′ : List ℤ) (r : Stand) : Type 0 where
   pub makes : visitsOf C run (held (run .n) s′ (r .fill) .todo) (course (run .n) s′ out′ d′ r)
       ≡ visitsOf C run (e ∷ held (run .n) s (w .fill) .todo) (course (run .n) s out d w)
-  pub ready : Ready run s′ r
+  pub ready : Underway run s′ r
   pub known : (m : ℕ) → m ≤ w .fill .lsp → known (run .n) m s′ ≡ known (run .n) m s
   pub lsp : w .fill .lsp ≤ r .fill .lsp
   pub visited : r .fill .visited ≡ w .fill .visited
@@ -138,7 +138,7 @@ pub record Visited (C : Side Chan) (run : Run) (s out : List ℕ) (d : List ℤ)
     (s′ out′ : List ℕ) (d′ : List ℤ) (r : Stand) : Type 0 where
   pub makes : visitsOf C run (held (run .n) s′ (r .fill) .todo) (course (run .n) s′ out′ d′ r)
       ≡ visitsOf C run (held (run .n) s (w .fill) .todo) (course (run .n) s out d w)
-  pub ready : Ready run s′ r
+  pub ready : Underway run s′ r
   pub known : (m : ℕ) → m ≤ w .fill .lsp → known (run .n) m s′ ≡ known (run .n) m s
   pub lsp : w .fill .lsp ≤ r .fill .lsp
 

@@ -14,7 +14,8 @@ ghost use Rattle.rules.specs.Laws.PassLevels.{Met};
 ghost use Rattle.rules.specs.Laws.PassSteps.{sharpened, sharpenedAll};
 ghost use Rattle.lists.specs.Stretch.{setRoom, entryOf, indexOf, waiting, known, held, Fits};
 ghost use Rattle.passes.specs.Exchange.{chan, familyOf, side, noted, Replied};
-ghost use Rattle.passes.specs.Steps.{Tested, Proper, Added, Opened, Opening, hasMember, Ready, InHand, Weighed, Visited, Growth, Fresh, Ran};
+ghost use Rattle.passes.specs.Steps.{Tested, Proper, Added, Opened, Opening, hasMember, Underway, InHand, Weighed, Visited, Growth, Fresh, Ran};
+ghost use Rattle.passes.specs.Standing.{countAt, fillOf, withLists, withSets};
 
 use bits::BitPosition;
 use bits::BitRead;
@@ -287,7 +288,7 @@ fn weigh(run: Run, pyramid: &[i32], body: &[u8], s: &mut [u32], w: Stand, out: &
 
 // One entry of LIS: moved out of the level if it has no member there, else weighed.
 fn visit_set(run: Run, pyramid: &[i32], body: &[u8], s: &mut [u32], w: Stand, out: &mut [u8], d: &mut [i32]) -> Stand
-    requires { ⌜ Proper run × Ready run (now s) w × (0 < w .fill .left) ⌝ }
+    requires { ⌜ Proper run × Underway run (now s) w × (0 < w .fill .left) ⌝ }
     ensures { λ r. ⌜ Visited (side run (now (pyramid .entry)) (now (body .entry))) run (now (s .entry)) (now (out .entry)) (now (d .entry)) w
         (now (s .exit)) (now (out .exit)) (now (d .exit)) r × (r .fill .visited ≡ w .fill .visited + 1) ⌝ }
 {
@@ -303,7 +304,7 @@ fn visit_set(run: Run, pyramid: &[i32], body: &[u8], s: &mut [u32], w: Stand, ou
 
 // Step 2: each entry of LIS, those added to its end meanwhile included.
 fn visit_lis(run: Run, pyramid: &[i32], body: &[u8], s: &mut [u32], w: Stand, out: &mut [u8], d: &mut [i32]) -> Stand
-    requires { ⌜ Proper run × Ready run (now s) w ⌝ }
+    requires { ⌜ Proper run × Underway run (now s) w ⌝ }
     ensures { λ r. ⌜ Visited (side run (now (pyramid .entry)) (now (body .entry))) run (now (s .entry)) (now (out .entry)) (now (d .entry)) w
         (now (s .exit)) (now (out .exit)) (now (d .exit)) r × (r .fill .left ≤ 0) ⌝ }
 {
@@ -360,4 +361,47 @@ fn run_pass(run: Run, pyramid: &[i32], body: &[u8], s: &mut [u32], w: Stand, out
         fill: left,
         at: next,
     }
+}
+
+// The level's lists, as a pass finds them.
+fn fill_of(counts: Counts, k: Level) -> Fill
+    requires { ⌜ (1 ≤ k .0) × (k .0 ≤ 6) ⌝ }
+    ensures { λ r. ⌜ r ≡ fillOf counts (k .0) ⌝ }
+{
+    let i = k.0 - 1;
+    let lip = counts.lip[i];
+    let lsp = counts.lsp[i];
+    let left = counts.lis[i];
+    Fill {
+        lip,
+        lsp,
+        kept: 0,
+        visited: 0,
+        left,
+        moved: 0,
+    }
+}
+
+// The level's lists are those that a pass left.
+fn with_lists(counts: Counts, k: Level, f: Fill) -> Counts
+    requires { ⌜ (1 ≤ k .0) × (k .0 ≤ 6) ⌝ }
+    ensures { λ r. ⌜ r ≡ withLists counts (k .0) f ⌝ }
+{
+    let i = k.0 - 1;
+    let mut r = counts;
+    r.lip[i] = f.lip;
+    r.lsp[i] = f.lsp;
+    r.lis[i] = f.kept;
+    r
+}
+
+// The level's LIS has become longer by so many sets.
+fn with_sets(counts: Counts, k: Level, more: usize) -> Counts
+    requires { ⌜ (1 ≤ k .0) × (k .0 ≤ 6) × (countAt (counts .lis) (k .0) + more < 2 ^ 32) ⌝ }
+    ensures { λ r. ⌜ r ≡ withSets counts (k .0) more ⌝ }
+{
+    let i = k.0 - 1;
+    let mut r = counts;
+    r.lis[i] = counts.lis[i] + more;
+    r
 }
