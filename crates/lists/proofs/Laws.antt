@@ -1,15 +1,15 @@
 -- What a store at the end of a list makes of all that the stretch holds.
-use mathlib.Core.Path.{_≡_, refl, sym, ap, _∙_}
+use mathlib.Core.Path.{_≡_, refl, sym, ap, ap₂, _∙_, subst}
 use mathlib.Core.List.{List, [], _∷_, _++_, map, map-append}
 use Prim.Native.Nat.{ℕ, _+_, _-_, _*_, _/_, _%_, _≤_, _<_, _^_}
 use native.Mathlib.Omega.{arith}
 use borrow.Author.Tests.{eq-eqb, ne-eqb}
 use lib.ListN.{length, getD, set, length-set}
-use Rattle.rules.specs.Document.Passes.{Entry, typeA, typeB}
+use Rattle.rules.specs.Document.Passes.{Entry, typeA, typeB, Lists}
 use Rattle.lists.specs.declared.Fill.{Fill}
-use Rattle.lists.specs.Seg.{seg, seg-none, seg-length, seg-cons, seg-add, seg-below, seg-above, seg-snoc}
+use Rattle.lists.specs.Seg.{seg, seg-none, seg-length, seg-cons, seg-add, seg-below, seg-above, seg-snoc, seg-seg, seg-inside, seg-more}
 use Rattle.lists.specs.Stretch.{setRoom, lspFrom, lisFrom, movedFrom, entry, sets, waiting, known, Held, held, past}
-use Rattle.lists.specs.Stretch.{Fits, LipPushed, LspPushed, NextSet, SetAdded, SetKept, SetMoved}
+use Rattle.lists.specs.Stretch.{Fits, LipPushed, LspPushed, NextSet, SetAdded, SetKept, SetMoved, CopiedOn, HandedOn, listsIn}
 
 -- entry
 pub entry-even : (m : ℕ) → m % 2 ≡ 0 → entry m ≡ typeA (m / 2)
@@ -185,3 +185,42 @@ module _ (n : ℕ) (s : List ℕ) (f : Fill) (h : Fits n s f) where
           fits = record { room = rw (length-set s i a) room; lip = b; lsp = c; kept = g; visits = d; moved = omega arith };
           known = λ m x. seg-above n m s i a (omega arith);
         }
+
+-- copying on
+pub copy-next : (from to i : ℕ) (s₀ s : List ℕ) → from + i < to → to + i < length s → seg 0 to s ≡ seg 0 to s₀ → seg to i s ≡ seg from i s₀
+    → seg to (i + 1) (set s (to + i) (getD s (from + i) 0)) ≡ seg from (i + 1) s₀
+copy-next from to i s₀ s h l b e =
+    seg-snoc to i s (to + i) (getD s (from + i) 0) refl l ∙ ap (λ x. x ++ (getD s (from + i) 0 ∷ [])) (e ∙ sym (seg-inside 0 to from i s₀ s (omega arith) (omega arith) b))
+    ∙ sym (seg-more from i s (omega arith)) ∙ seg-inside 0 to from (i + 1) s₀ s (omega arith) (omega arith) b
+
+pub copied-all : {from to i count : ℕ} {s₀ s : List ℕ} → seg 0 to s ≡ seg 0 to s₀ → seg to i s ≡ seg from i s₀ → i ≡ count → CopiedOn from to count s₀ s
+copied-all {from} {to} {s₀ = s₀} {s = s} b e i = record { before = b; copy = subst (λ (j : ℕ). seg to j s ≡ seg from j s₀) i e }
+
+lists-same : {a a′ c c′ : List ℕ} {e e′ : List Entry} → a ≡ a′ → e ≡ e′ → c ≡ c′
+    → _≡_ {A = Lists} (record { lip = a; lis = e; lsp = c }) (record { lip = a′; lis = e′; lsp = c′ })
+lists-same a e c = cc
+
+-- the lists of the next level, that lie at b in s
+lists-at : (m b lip lis lsp : ℕ) (s : List ℕ) → lip ≤ m → lsp ≤ m → 4 * lis ≤ 3 * m
+    → listsIn m (seg b (4 * m) s) lip lis lsp ≡ record { lip = seg b lip s; lis = map entry (seg (b + (m + m)) lis s); lsp = seg (b + m) lsp s }
+unfolding listsIn waiting sets known lspFrom lisFrom
+lists-at m b lip lis lsp s h k l =
+    lists-same (seg-seg b (4 * m) 0 lip s (omega arith) ∙ ap (λ (x : ℕ). seg x lip s) (omega arith))
+    (ap (map entry) (seg-seg b (4 * m) (m + m) lis s (omega arith))) (seg-seg b (4 * m) m lsp s (omega arith))
+
+pub hand-on-law : (n moved m lis from to : ℕ) (s s′ : List ℕ) → from ≡ movedFrom n → to ≡ 4 * n + lisFrom m + lis → moved ≤ setRoom n → lis + moved ≤ setRoom m
+    → CopiedOn from to moved s s′ → HandedOn n moved m lis s s′
+unfolding movedFrom lisFrom setRoom sets
+hand-on-law n moved m lis from to s s′ e i h l c =
+    record {
+      own = seg-inside 0 to 0 (4 * n) s s′ (omega arith) (omega arith) (c .before);
+      next = λ lip lsp a b.
+          let old = lists-at m (4 * n) lip lis lsp s a b (omega arith) in
+          lists-at m (4 * n) lip (lis + moved) lsp s′ a b (omega arith)
+          ∙ lists-same (seg-inside 0 to (4 * n) lip s s′ (omega arith) (omega arith) (c .before) ∙ sym (ap (λ x. x .lip) old))
+          (ap (map entry) (seg-add (4 * n + (m + m)) lis moved s′) ∙ map-append entry (seg (4 * n + (m + m)) lis s′) (seg (4 * n + (m + m) + lis) moved s′)
+          ∙ ap₂ (λ x y. x ++ y) (ap (map entry) (seg-inside 0 to (4 * n + (m + m)) lis s s′ (omega arith) (omega arith) (c .before)) ∙ sym (ap (λ x. x .lis) old))
+          (ap (map entry) (ap (λ (x : ℕ). seg x moved s′) (sym i) ∙ c .copy ∙ ap (λ (x : ℕ). seg x moved s) e
+          ∙ sym (seg-seg 0 (4 * n) (n + n + 3 * n / 4) moved s (omega arith) ∙ ap (λ (x : ℕ). seg x moved s) (omega arith)))))
+          (seg-inside 0 to (4 * n + m) lsp s s′ (omega arith) (omega arith) (c .before) ∙ sym (ap (λ x. x .lsp) old));
+    }

@@ -1,11 +1,12 @@
 -- A list that lies in a slice: `seg b m s` is the m numbers of s from place b on. Its laws say what a store does to it.
 use mathlib.Core.Path.{_≡_, refl, ap, sym, _∙_}
 use mathlib.Core.List.{List, [], _∷_, _++_}
-use Prim.Native.Nat.{ℕ, suc, _+_, _-_, _≤_, _<_}
+use Prim.Native.Nat.{ℕ, zero, suc, _+_, _-_, _≤_, _<_}
 use native.Mathlib.Numerals.{add-one}
 use native.Mathlib.Omega.{arith}
-use lib.ListN.{length, take, drop, getD, set, length-take, length-drop}
-use lib.Seq.{drop-cons, drop-set-add, drop-set-lt, take-suc-set, take-set-le, take-add, drop-drop}
+use native.Mathlib.Decide.{decLe}
+use lib.ListN.{length, take, drop, getD, set, length-take, length-drop, length-append}
+use lib.Seq.{drop-cons, drop-set-add, drop-set-lt, take-suc-set, take-set-le, take-add, take-take, drop-drop}
 
 unfoldable pub seg : ℕ → ℕ → List ℕ → List ℕ
 seg b m s = take m (drop b s)
@@ -48,3 +49,38 @@ seg-snoc b m s i a e h =
     ∙ ap (take (m + 1)) (drop-set-add b s m a)
     ∙ ap (λ (k : ℕ). take k (set (drop b s) m a)) (add-one m)
     ∙ take-suc-set (drop b s) m a (omega (arith, length-drop b s))
+
+-- a segment of a segment, and one inside a stretch that is as it was
+take-drop-take : (b m d : ℕ) (l : List ℕ) → b + m ≤ d → take m (drop b (take d l)) ≡ take m (drop b l)
+take-drop-take zero m d l h = take-take m d l (omega arith)
+take-drop-take (suc b) m zero l h = absurd (omega arith)
+take-drop-take (suc b) m (suc d) [] h = refl
+take-drop-take (suc b) m (suc d) (x ∷ xs) h = take-drop-take b m d xs (omega arith)
+
+pub seg-seg : (a d b m : ℕ) (s : List ℕ) → b + m ≤ d → seg b m (seg a d s) ≡ seg (a + b) m s
+unfolding seg
+seg-seg a d b m s h =
+    take-drop-take b m d (drop a s) h ∙ ap (take m) (drop-drop b a s)
+
+pub seg-inside : (a d b m : ℕ) (s s′ : List ℕ) → a ≤ b → b + m ≤ a + d → seg a d s′ ≡ seg a d s → seg b m s′ ≡ seg b m s
+seg-inside a d b m s s′ l h e =
+    let i : a + (b - a) ≡ b = omega arith in
+    ap (λ (x : ℕ). seg x m s′) (sym i) ∙ sym (seg-seg a d (b - a) m s′ (omega arith)) ∙ ap (seg (b - a) m) e
+    ∙ seg-seg a d (b - a) m s (omega arith) ∙ ap (λ (x : ℕ). seg x m s) i
+
+-- one more number of it
+pub seg-more : (b m : ℕ) (s : List ℕ) → b + m < length s → seg b (m + 1) s ≡ seg b m s ++ (getD s (b + m) 0 ∷ [])
+seg-more b m s h =
+    seg-add b m 1 s ∙ ap (λ x. seg b m s ++ x) (seg-cons (b + m) 1 s h (omega arith) ∙ ap (λ x. getD s (b + m) 0 ∷ x) (seg-none (b + m + 1) s))
+
+-- a segment that is shorter than the room behind its beginning has all the numbers that it counts
+pub seg-count : (b m : ℕ) (s : List ℕ) (x : ℕ) → b + x < length s → length (seg b m s) ≤ x → m ≤ x
+seg-count b m s x h l = by (decLe m x)
+  where
+    by : Dec (m ≤ x) → m ≤ x
+    by (yes i) = i
+    by (no i) =
+        let e : x + 1 + (m - (x + 1)) ≡ m = omega arith in
+        let d : length (seg b m s) ≡ length (seg b (x + 1) s) + length (seg (b + (x + 1)) (m - (x + 1)) s) =
+        ap (λ (y : ℕ). length (seg b y s)) (sym e) ∙ ap length (seg-add b (x + 1) (m - (x + 1)) s) ∙ length-append (seg b (x + 1) s) (seg (b + (x + 1)) (m - (x + 1)) s) in
+        absurd (omega (arith, d, l, seg-length b (x + 1) s (omega arith)))

@@ -11,7 +11,7 @@ use Rattle.rules.specs.Document.Passes.{Entry, typeA, typeB, Lists}
 use Rattle.lists.specs.declared.Fill.{Fill}
 use Rattle.lists.specs.declared.Set.{Set}
 use Rattle.lists.specs.declared.Set.the-variants.{TypeA, TypeB}
-use Rattle.lists.specs.Seg.{seg, seg-none, seg-length, seg-add}
+use Rattle.lists.specs.Seg.{seg, seg-none, seg-length, seg-add, seg-count}
 
 -- Of the 4 n places, LIP has n, LSP n, LIS three quarters of n, the sets moved out as many; half of n is free.
 unfoldable pub setRoom : ℕ → ℕ
@@ -157,6 +157,21 @@ pub record SetMoved (n : ℕ) (s : List ℕ) (f : Fill) (e : Entry) (s′ : List
   pub fits : Fits n s′ r
   pub known : (m : ℕ) → m ≤ f .lsp → known n m s′ ≡ known n m s
 
+pub record CopiedOn (from to count : ℕ) (s s′ : List ℕ) : Type 0 where
+  pub before : seg 0 to s′ ≡ seg 0 to s
+  pub copy : seg to count s′ ≡ seg from count s
+
+-- The sets that moved out of a level have come to the end of the next level's LIS: s is the stretch of the level, for n coefficients, and behind it
+-- that of the next, for m.
+pub record HandedOn (n moved m lis : ℕ) (s s′ : List ℕ) : Type 0 where
+  pub own : seg 0 (4 * n) s′ ≡ seg 0 (4 * n) s
+  pub next : (lip lsp : ℕ) → lip ≤ m → lsp ≤ m
+      → listsIn m (seg (4 * n) (4 * m) s′) lip (lis + moved) lsp ≡ record {
+        lip = listsIn m (seg (4 * n) (4 * m) s) lip lis lsp .lip;
+        lis = listsIn m (seg (4 * n) (4 * m) s) lip lis lsp .lis ++ sets (movedFrom n) moved (seg 0 (4 * n) s);
+        lsp = listsIn m (seg (4 * n) (4 * m) s) lip lis lsp .lsp;
+      }
+
 -- laws for those who don't open the layout
 pub sets-fit : (n x : ℕ) → 4 * x ≤ 3 * n → x ≤ setRoom n
 unfolding setRoom
@@ -169,7 +184,7 @@ todo-length n s f h =
     let b = h .visits in
     length-map (seg (n + n + f .visited) (f .left) s) entry ∙ seg-length (n + n + f .visited) (f .left) s (omega arith)
 
-sets-none : (b m : ℕ) (s : List ℕ) → m ≡ 0 → sets b m s ≡ []
+pub sets-none : (b m : ℕ) (s : List ℕ) → m ≡ 0 → sets b m s ≡ []
 unfolding sets
 sets-none b m s e = ap (λ (x : ℕ). map entry (seg b x s)) e ∙ ap (map entry) (seg-none b s)
 
@@ -217,3 +232,34 @@ held-fresh n s f a b =
         = λ x y z. record { lip = x; lsp = known n (f .lsp) s; kept = y; todo = sets (lisFrom n + f .visited) (f .left) s; moved = z } in
     ap (λ x. same x (sets (lisFrom n) (f .kept) s) (sets (movedFrom n) (f .moved) s)) (waiting-none 0 s)
     ∙ ap₂ (same []) (sets-none (lisFrom n) (f .kept) s a) (sets-none (movedFrom n) (f .moved) s b)
+
+-- The lists between passes, as a pass finds them and as it leaves them.
+pub held-begins : (n : ℕ) (s : List ℕ) (f : Fill) → f .visited ≡ 0
+    → listsIn n s (f .lip) (f .left) (f .lsp) ≡ record { lip = held n s f .lip; lis = held n s f .todo; lsp = held n s f .lsp }
+unfolding held listsIn
+held-begins n s f e = ap (λ (x : ℕ). record { lip = waiting 0 (f .lip) s; lis = sets x (f .left) s; lsp = known n (f .lsp) s }) (omega arith)
+
+pub held-ends : (n : ℕ) (s : List ℕ) (f : Fill) → listsIn n s (f .lip) (f .kept) (f .lsp) ≡ record { lip = held n s f .lip; lis = held n s f .kept; lsp = held n s f .lsp }
+unfolding held listsIn
+held-ends n s f = refl
+
+pub held-moved : (n : ℕ) (s : List ℕ) (f : Fill) → held n s f .moved ≡ sets (movedFrom n) (f .moved) s
+unfolding held
+held-moved n s f = refl
+
+-- Lists that keep to their places have no more entries than they count.
+pub lists-fit : (n : ℕ) (s : List ℕ) (lip lis lsp : ℕ) → 1 ≤ n → 4 * n ≤ length s → length (listsIn n s lip lis lsp .lip) ≤ n
+    → 4 * length (listsIn n s lip lis lsp .lis) ≤ 3 * n → length (listsIn n s lip lis lsp .lsp) ≤ n
+    → Fits n s (record { lip = lip; lsp = lsp; kept = 0; visited = 0; left = lis; moved = 0 })
+unfolding listsIn waiting sets known lspFrom lisFrom setRoom
+lists-fit n s lip lis lsp a h i j k =
+    record {
+      room = h;
+      lip = seg-count 0 lip s n (omega arith) i;
+      lsp = seg-count n lsp s n (omega arith) k;
+      kept = omega arith;
+      visits =
+          let m = length-map (seg (n + n) lis s) entry in
+          omega (arith, seg-count (n + n) lis s (3 * n / 4) (omega arith) (omega (arith, j, m)));
+      moved = omega arith;
+    }

@@ -4,7 +4,7 @@ ghost use mathlib.Core.List.{[], _∷_, _++_};
 ghost use Prim.Native.Nat.{_+_, _*_, _^_, _≤_, _<_};
 ghost use lib.ListN.{length};
 ghost use Rattle.lists.specs.Stretch.{setRoom, lspFrom, lisFrom, movedFrom, entry, entryOf, indexOf, waiting, known, held, past};
-ghost use Rattle.lists.specs.Stretch.{Fits, LipPushed, LspPushed, NextSet, SetAdded, SetKept, SetMoved};
+ghost use Rattle.lists.specs.Stretch.{Fits, LipPushed, LspPushed, NextSet, SetAdded, SetKept, SetMoved, CopiedOn, HandedOn};
 
 // How full the lists are, in the midst of a pass: of LIS so many sets were kept, so many visited, so many are left to visit.
 pub struct Fill {
@@ -159,4 +159,26 @@ pub fn move_set(s: &mut [u32], n: usize, f: Fill, e: Set) -> Fill
     let mut r = f;
     r.moved = f.moved + 1;
     r
+}
+
+// Numbers of the stretch, written once more behind them.
+fn copy_on(s: &mut [u32], from: usize, to: usize, count: usize)
+    requires { ⌜ (from + count ≤ to) × (to + count ≤ length (now s)) ⌝ }
+    ensures { λ _. ⌜ CopiedOn from to count (now (s .entry)) (now (s .exit)) ⌝ }
+{
+    let mut i = 0;
+    while i < count {
+        s[to + i] = s[from + i];
+        i += 1;
+    }
+}
+
+// The sets that moved out of a level, to the end of the next level's LIS, which has `lis` sets. The level's stretch, for n coefficients, comes
+// first, that of the next, for m, right behind it.
+pub fn hand_on(s: &mut [u32], n: usize, moved: usize, m: usize, lis: usize)
+    requires { ⌜ (4 * n + 4 * m ≤ length (now s)) × (n < 2 ^ 32) × (m < 2 ^ 32) × (moved ≤ setRoom n) × (lis + moved ≤ setRoom m) ⌝ }
+    ensures { λ _. ⌜ HandedOn n moved m lis (now (s .entry)) (now (s .exit)) ⌝ }
+{
+    let next = 4 * n;
+    copy_on(s, moved_from(n), next + lis_from(m) + lis, moved);
 }

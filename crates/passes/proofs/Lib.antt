@@ -4,3 +4,5 @@ pub mod Sets
 pub mod Visits
 pub mod Refining
 pub mod Pass
+pub mod Workspace
+pub mod States

@@ -1,3 +1,4 @@
 pub mod Exchange
 pub mod Steps
 pub mod Standing
+pub mod Workspace

@@ -32,6 +32,12 @@ stretchOf z k work = seg (4 * levelStart z k) (4 * levelSize z k) work
 abbrev pub countAt : List ℕ → ℕ → ℕ
 countAt counts k = getD counts (k - 1) 0
 
+-- there is a count for each of six levels
+pub record Six (c : Counts) : Type 0 where
+  pub lip : length (c .lip) ≡ 6
+  pub lsp : length (c .lsp) ≡ 6
+  pub lis : length (c .lis) ≡ 6
+
 -- the level's lists as a pass finds them, as it leaves them, and with sets that came to its LIS
 abbrev pub fillOf : Counts → ℕ → Fill
 fillOf c k =

@@ -5,7 +5,7 @@ ghost use mathlib.Core.List.{[], _∷_, map};
 ghost use Prim.Native.Nat.{_+_, _*_, _^_, _≤_, _<_};
 ghost use lib.ListN.{length};
 ghost use Rattle.rules.specs.Document.Notation.{greatest};
-ghost use Rattle.rules.specs.Document.Pyramid.{mostPlanes, greatestSide, offspringOf, magnitude};
+ghost use Rattle.rules.specs.Document.Pyramid.{legalSize, levels, mostPlanes, greatestSide, offspringOf, magnitude};
 ghost use Rattle.rules.specs.Document.Passes.{typeA, typeB, significant?, negative?, bit?, set?, toLsp, refined, members, inLevel};
 ghost use Rattle.bits.specs.Bits.{setBit};
 ghost use Rattle.shape.specs.Offspring.{offspringList};
@@ -15,7 +15,10 @@ ghost use Rattle.rules.specs.Laws.PassSteps.{sharpened, sharpenedAll};
 ghost use Rattle.lists.specs.Stretch.{setRoom, entryOf, indexOf, waiting, known, held, Fits};
 ghost use Rattle.passes.specs.Exchange.{chan, familyOf, side, noted, Replied};
 ghost use Rattle.passes.specs.Steps.{Tested, Proper, Added, Opened, Opening, hasMember, Underway, InHand, Weighed, Visited, Growth, Fresh, Ran};
-ghost use Rattle.passes.specs.Standing.{countAt, fillOf, withLists, withSets};
+ghost use Rattle.passes.specs.Standing.{countAt, Six, fillOf, withLists, withSets};
+ghost use Rattle.passes.specs.Workspace.{Lending, Lent, HandingOver, HandedOver, Handing, Handed};
+ghost use Rattle.rules.specs.Laws.Sizes.{levelStart, levelSize};
+ghost use Rattle.rules.specs.Document.Calls.{workFor};
 
 use bits::BitPosition;
 use bits::BitRead;
@@ -366,7 +369,7 @@ fn run_pass(run: Run, pyramid: &[i32], body: &[u8], s: &mut [u32], w: Stand, out
 // The level's lists, as a pass finds them.
 fn fill_of(counts: Counts, k: Level) -> Fill
     requires { ⌜ (1 ≤ k .0) × (k .0 ≤ 6) ⌝ }
-    ensures { λ r. ⌜ r ≡ fillOf counts (k .0) ⌝ }
+    ensures { λ r. ⌜ (r ≡ fillOf counts (k .0)) × Six counts ⌝ }
 {
     let i = k.0 - 1;
     let lip = counts.lip[i];
@@ -404,4 +407,54 @@ fn with_sets(counts: Counts, k: Level, more: usize) -> Counts
     let mut r = counts;
     r.lis[i] = counts.lis[i] + more;
     r
+}
+
+// Where a level's stretch begins and where it ends.
+fn stretch_from(z: Size, k: Level) -> usize
+    requires { ⌜ (legalSize z ≡ true) × (1 ≤ k .0) × (k .0 ≤ levels z) ⌝ }
+    ensures { λ r. ⌜ (r ≡ 4 * levelStart z (k .0)) × (r + 4 * levelSize z (k .0) ≤ workFor z) × (r < 2 ^ 21) ⌝ }
+{
+    4 * shape::level_start(z, k)
+}
+
+fn stretch_to(z: Size, k: Level) -> usize
+    requires { ⌜ (legalSize z ≡ true) × (1 ≤ k .0) × (k .0 ≤ levels z) ⌝ }
+    ensures { λ r. ⌜ (r ≡ 4 * levelStart z (k .0) + 4 * levelSize z (k .0)) × (r ≤ workFor z) × (r < 2 ^ 21) ⌝ }
+{
+    4 * shape::level_end(z, k)
+}
+
+// The level's stretch, cut from the middle of the workspace and lent to its pass.
+fn run_level(run: Run, pyramid: &[i32], body: &[u8], work: &mut [u32], w: Stand, out: &mut [u8], d: &mut [i32]) -> Stand
+    requires { ⌜ Lending run (now work) (now d) w ⌝ }
+    ensures { λ r. ⌜ Lent (side run (now (pyramid .entry)) (now (body .entry))) run (now (work .entry)) (now (out .entry)) (now (d .entry)) w
+        (now (work .exit)) (now (out .exit)) (now (d .exit)) r ⌝ }
+{
+    let from = stretch_from(run.z, run.level);
+    let to = stretch_to(run.z, run.level);
+    run_pass(run, pyramid, body, &mut work[from..to], w, out, d)
+}
+
+// The moved sets of a level over 1, to the next level's LIS, which has `there` sets.
+fn hand_over(z: Size, k: Level, next: Level, work: &mut [u32], moved: usize, there: usize)
+    requires { ⌜ HandingOver z k next (now work) moved there ⌝ }
+    ensures { λ _. ⌜ HandedOver z k next moved there (now (work .entry)) (now (work .exit)) ⌝ }
+{
+    let from = stretch_from(z, k);
+    let to = stretch_to(z, next);
+    lists::hand_on(&mut work[from..to], shape::level_size(z, k), moved, shape::level_size(z, next), there);
+}
+
+// What moved out of a level goes to the end of the next level's LIS. Nothing moves out of level 1.
+fn hand_moved(z: Size, k: Level, work: &mut [u32], counts: Counts, moved: usize) -> Counts
+    requires { ⌜ Handing z k (now work) counts moved ⌝ }
+    ensures { λ r. ⌜ Handed z k (now (work .entry)) counts moved r (now (work .exit)) ⌝ }
+{
+    if k.0 < 2 {
+        return counts;
+    }
+    let next = Level(k.0 - 1);
+    let there = fill_of(counts, next);
+    hand_over(z, k, next, work, moved, there.left);
+    with_sets(counts, next, moved)
 }
