@@ -263,3 +263,14 @@ lists-fit n s lip lis lsp a h i j k =
           omega (arith, seg-count (n + n) lis s (3 * n / 4) (omega arith) (omega (arith, j, m)));
       moved = omega arith;
     }
+
+pub known-length : (n m : ℕ) (s : List ℕ) → n + m ≤ length s → length (known n m s) ≡ m
+unfolding known lspFrom
+known-length n m s h = seg-length n m s h
+
+pub moved-length : (n : ℕ) (s : List ℕ) (f : Fill) → Fits n s f → length (held n s f .moved) ≡ f .moved
+unfolding held sets movedFrom setRoom
+moved-length n s f h =
+    let a = h .room in
+    let b = h .moved in
+    length-map (seg (n + n + 3 * n / 4) (f .moved) s) entry ∙ seg-length (n + n + 3 * n / 4) (f .moved) s (omega arith)

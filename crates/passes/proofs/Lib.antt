@@ -6,3 +6,5 @@ pub mod Refining
 pub mod Pass
 pub mod Workspace
 pub mod States
+pub mod Sides
+pub mod Parts

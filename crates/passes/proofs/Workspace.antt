@@ -27,8 +27,8 @@ use Rattle.passes.specs.Standing.{stretchOf}
 use Rattle.passes.specs.Workspace.{Lending, Lent, movedOut, HandingOver, HandedOver}
 
 module _ (z : Size) (Z : Legal z) where
-  pub level-some : (k : ℕ) → 1 ≤ k → k ≤ levels z → 1 ≤ levelSize z k
-  level-some k a b = go (decLe k (z .n))
+  pub size-some : (k : ℕ) → 1 ≤ k → k ≤ levels z → 1 ≤ levelSize z k
+  size-some k a b = go (decLe k (z .n))
     where
       go : Dec (k ≤ z .n) → 1 ≤ levelSize z k
       go (yes l) = omega (arith, levelSize-fine z Z k a l, span-some z Z k b)
@@ -37,6 +37,9 @@ module _ (z : Size) (Z : Legal z) where
   pub level-ends : (k : ℕ) → 1 ≤ k → k ≤ levels z → levelEnd z k ≤ area z
   level-ends zero a b = absurd (omega arith)
   level-ends (suc k) a b = omega (arith, levelEnd-next z k, span-most z Z k (omega arith))
+
+  pub size-place : (k : ℕ) → 1 ≤ k → k ≤ levels z → 4 * levelStart z k + 4 * levelSize z k ≤ workFor z
+  size-place k a b = omega (arith, levelSize-end z Z k a b, level-ends k a b)
 
   -- the next finer level begins where the level ends
   pub level-next : (k : ℕ) → 1 ≤ k → k ≤ z .n → levelEnd z (suc k) ≡ levelStart z k

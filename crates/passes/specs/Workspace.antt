@@ -1,14 +1,16 @@
 -- One part in the workspace: the level's stretch is lent to the pass, and what moved out is handed on to the next level.
 use mathlib.Core.Path.{_≡_}
 use mathlib.Core.List.{List, _++_}
-use mathlib.Core.Bool.{true, cond}
+use mathlib.Core.Bool.{Bool, true, cond}
 use mathlib.Core.Logic.{_≢_}
 use Prim.Native.Nat.{ℕ, suc, _+_, _-_, _*_, _≤_, _<_, _^_}
 use lib.Dec.{eqb}
 use lib.ListN.{length}
 use lib.IntN.{ℤ}
 use Rattle.rules.specs.declared.Size.{Size}
+use Rattle.rules.specs.declared.Plane.{Plane}
 use Rattle.rules.specs.declared.Level.{Level}
+use Rattle.bits.specs.declared.BitPosition.{BitPosition}
 use Rattle.rules.specs.Document.Pyramid.{legalSize, levels}
 use Rattle.rules.specs.Document.Passes.{Entry, Lists, State, Side, Course, passed, after}
 use Rattle.rules.specs.Document.Calls.{workFor}
@@ -77,6 +79,18 @@ pub record Handed (z : Size) (k : Level) (work : List ℕ) (counts : Counts) (mo
   pub same : length work′ ≡ length work
 
 -- a part
+abbrev pub runOf : Bool → Size → Plane → Level → Counts → BitPosition → Run
+runOf reads z plane level counts from =
+    record {
+      reads = reads;
+      z = z;
+      plane = plane;
+      level = level;
+      n = levelSize z (level .0);
+      olds = countAt (counts .lis) (level .0);
+      from = from;
+    }
+
 pub record Running (run : Run) (work : List ℕ) (counts : Counts) (d : List ℤ) : Type 0 where
   pub ready : Ready (run .z) (run .plane) (run .level) work counts
   pub size : run .n ≡ levelSize (run .z) (run .level .0)

@@ -15,8 +15,8 @@ ghost use Rattle.rules.specs.Laws.PassSteps.{sharpened, sharpenedAll};
 ghost use Rattle.lists.specs.Stretch.{setRoom, entryOf, indexOf, waiting, known, held, Fits};
 ghost use Rattle.passes.specs.Exchange.{chan, familyOf, side, noted, Replied};
 ghost use Rattle.passes.specs.Steps.{Tested, Proper, Added, Opened, Opening, hasMember, Underway, InHand, Weighed, Visited, Growth, Fresh, Ran};
-ghost use Rattle.passes.specs.Standing.{countAt, Six, fillOf, withLists, withSets};
-ghost use Rattle.passes.specs.Workspace.{Lending, Lent, HandingOver, HandedOver, Handing, Handed};
+ghost use Rattle.passes.specs.Standing.{countAt, Six, fillOf, withLists, withSets, Coding, Coded, Decoding, Decoded};
+ghost use Rattle.passes.specs.Workspace.{Lending, Lent, HandingOver, HandedOver, Handing, Handed, Running, PartRun, runOf};
 ghost use Rattle.rules.specs.Laws.Sizes.{levelStart, levelSize};
 ghost use Rattle.rules.specs.Document.Calls.{workFor};
 
@@ -457,4 +457,61 @@ fn hand_moved(z: Size, k: Level, work: &mut [u32], counts: Counts, moved: usize)
     let there = fill_of(counts, next);
     hand_over(z, k, next, work, moved, there.left);
     with_sets(counts, next, moved)
+}
+
+// A part: the pass of its level, and what moved out handed on.
+fn run_part(run: Run, pyramid: &[i32], body: &[u8], work: &mut [u32], counts: Counts, out: &mut [u8], d: &mut [i32]) -> Passed
+    requires { ⌜ Running run (now work) counts (now d) ⌝ }
+    ensures { λ r. ⌜ PartRun (side run (now (pyramid .entry)) (now (body .entry))) run (now (work .entry)) counts (now (out .entry)) (now (d .entry))
+        r (now (work .exit)) (now (out .exit)) (now (d .exit)) ⌝ }
+{
+    let fill = fill_of(counts, run.level);
+    let begin = run.from;
+    let stand = run_level(run, pyramid, body, work, Stand { fill, at: begin }, out, d);
+    let left = stand.fill;
+    let at = stand.at;
+    let own = with_lists(counts, run.level, left);
+    let next = hand_moved(run.z, run.level, work, own, left.moved);
+    Passed { counts: next, at }
+}
+
+// The run of a part that goes on at a place.
+fn run_of(reads: bool, z: Size, plane: Plane, level: Level, counts: Counts, from: BitPosition) -> Run
+    requires { ⌜ (legalSize z ≡ true) × (1 ≤ level .0) × (level .0 ≤ levels z) ⌝ }
+    ensures { λ r. ⌜ r ≡ runOf reads z plane level counts from ⌝ }
+{
+    let n = shape::level_size(z, level);
+    let fill = fill_of(counts, level);
+    let olds = fill.left;
+    Run {
+        reads,
+        z,
+        plane,
+        level,
+        n,
+        olds,
+        from,
+    }
+}
+
+// One part coded: its bits from a place on, and the lists after it. The coder writes no coefficient and reads no body.
+pub fn code_part(pyramid: &[i32], z: Size, plane: Plane, level: Level, work: &mut [u32], counts: Counts, out: &mut [u8], at: BitPosition) -> Passed
+    requires { ⌜ Coding (now pyramid) z plane level (now work) counts at ⌝ }
+    ensures { λ r. ⌜ Coded (now (pyramid .entry)) z plane level (now (work .entry)) counts (now (out .entry)) at r (now (work .exit)) (now (out .exit)) ⌝ }
+{
+    let body = [0u8; 1];
+    let mut unwritten = [0i32; 1];
+    let run = run_of(false, z, plane, level, counts, at);
+    run_part(run, pyramid, &body, work, counts, out, &mut unwritten)
+}
+
+// One part decoded from its body: the coefficients, and the lists after it. The decoder asks no pyramid and writes no bit.
+pub fn decode_part(body: &[u8], z: Size, plane: Plane, level: Level, work: &mut [u32], counts: Counts, pyramid: &mut [i32]) -> Passed
+    requires { ⌜ Decoding z plane level (now work) counts (now pyramid) ⌝ }
+    ensures { λ r. ⌜ Decoded (now (body .entry)) z plane level (now (work .entry)) counts (now (pyramid .entry)) r (now (work .exit)) (now (pyramid .exit)) ⌝ }
+{
+    let unasked = [0i32; 1];
+    let mut unwritten = [0u8; 1];
+    let run = run_of(true, z, plane, level, counts, BitPosition { at: 0 });
+    run_part(run, &unasked, body, work, counts, &mut unwritten, pyramid)
 }
