@@ -274,3 +274,9 @@ moved-length n s f h =
     let a = h .room in
     let b = h .moved in
     length-map (seg (n + n + 3 * n / 4) (f .moved) s) entry ∙ seg-length (n + n + 3 * n / 4) (f .moved) s (omega arith)
+
+pub lists-none : (n : ℕ) (s : List ℕ) → listsIn n s 0 0 0 ≡ record { lip = []; lis = []; lsp = [] }
+unfolding listsIn
+lists-none n s =
+    ap₂ (λ x y. record { lip = x; lis = sets (lisFrom n) 0 s; lsp = y }) (waiting-none 0 s) (known-none n s)
+    ∙ ap (λ x. record { lip = []; lis = x; lsp = [] }) (sets-none (lisFrom n) 0 s refl)

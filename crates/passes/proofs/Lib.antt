@@ -8,3 +8,4 @@ pub mod Workspace
 pub mod States
 pub mod Sides
 pub mod Parts
+pub mod Begin

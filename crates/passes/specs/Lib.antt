@@ -2,3 +2,4 @@ pub mod Exchange
 pub mod Steps
 pub mod Standing
 pub mod Workspace
+pub mod Begin

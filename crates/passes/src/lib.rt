@@ -6,20 +6,20 @@ ghost use Prim.Native.Nat.{_+_, _*_, _^_, _≤_, _<_};
 ghost use lib.ListN.{length};
 ghost use Rattle.rules.specs.Document.Notation.{greatest};
 ghost use Rattle.rules.specs.Document.Pyramid.{legalSize, levels, mostPlanes, greatestSide, offspringOf, magnitude};
-ghost use Rattle.rules.specs.Document.Passes.{typeA, typeB, significant?, negative?, bit?, set?, toLsp, refined, members, inLevel};
+ghost use Rattle.rules.specs.Document.Passes.{typeA, typeB, significant?, negative?, bit?, set?, toLsp, refined, members, inLevel, bandLL};
+ghost use Rattle.rules.specs.Document.Calls.{workFor};
+ghost use Rattle.rules.specs.Laws.Sizes.{levelStart, levelSize};
+ghost use Rattle.rules.specs.Laws.PassLevels.{Met};
+ghost use Rattle.rules.specs.Laws.PassSteps.{sharpened, sharpenedAll};
 ghost use Rattle.bits.specs.Bits.{setBit};
 ghost use Rattle.shape.specs.Offspring.{offspringList};
 ghost use Rattle.shape.specs.Nodes.{Node};
-ghost use Rattle.rules.specs.Laws.PassLevels.{Met};
-ghost use Rattle.rules.specs.Laws.PassSteps.{sharpened, sharpenedAll};
 ghost use Rattle.lists.specs.Stretch.{setRoom, entryOf, indexOf, waiting, known, held, Fits};
 ghost use Rattle.passes.specs.Exchange.{chan, familyOf, side, noted, Replied};
 ghost use Rattle.passes.specs.Steps.{Tested, Proper, Added, Opened, Opening, hasMember, Underway, InHand, Weighed, Visited, Growth, Fresh, Ran};
-ghost use Rattle.passes.specs.Standing.{countAt, Six, fillOf, withLists, withSets, Coding, Coded, Decoding, Decoded};
-ghost use Rattle.passes.specs.Workspace.{Lending, Lent, HandingOver, HandedOver, Handing, Handed, Running, PartRun, runOf};
-ghost use Rattle.rules.specs.Laws.Sizes.{levelStart, levelSize};
-ghost use Rattle.rules.specs.Document.Calls.{workFor};
-
+ghost use Rattle.passes.specs.Standing.{countAt, Six, fillOf, withLists, withSets, Started, Coding, Coded, Decoding, Decoded};
+ghost use Rattle.passes.specs.Workspace.{Lending, Lent, HandingOver, HandedOver, Handing, Handed, runOf, Running, PartRun};
+ghost use Rattle.passes.specs.Begin.{empty, rowOf, Listing, Listed};
 use bits::BitPosition;
 use bits::BitRead;
 use lists::Fill;
@@ -363,6 +363,77 @@ fn run_pass(run: Run, pyramid: &[i32], body: &[u8], s: &mut [u32], w: Stand, out
     Stand {
         fill: left,
         at: next,
+    }
+}
+
+// A coefficient of the LL band to the end of LIP, and, where it has offspring, to the end of LIS as type A.
+fn list_one(z: Size, s: &mut [u32], n: usize, f: Fill, p: usize) -> Fill
+    requires { ⌜ Listing z (p ∷ []) n (now s) f ⌝ }
+    ensures { λ r. ⌜ Listed z (p ∷ []) n (now (s .entry)) f (now (s .exit)) r ⌝ }
+{
+    let r = lists::push_lip(s, n, f, p);
+    match shape::offspring_in(z, p, Level(z.n + 1)) {
+        Offspring::Nothing => r,
+        Offspring::Block(_) => lists::add_set(s, n, r, Set::TypeA(p)),
+    }
+}
+
+// A row of the LL band.
+fn list_row(z: Size, s: &mut [u32], n: usize, f: Fill, row: usize) -> Fill
+    requires { ⌜ Listing z (rowOf z row) n (now s) f × (row < greatestSide) ⌝ }
+    ensures { λ r. ⌜ Listed z (rowOf z row) n (now (s .entry)) f (now (s .exit)) r ⌝ }
+{
+    let mut p = row * z.w;
+    let end = p + (z.w >> z.n);
+    let mut r = f;
+    while p < end {
+        let own = p;
+        p += 1;
+        r = list_one(z, s, n, r, own);
+    }
+    r
+}
+
+// The LL band row by row, in a stretch where nothing is listed.
+fn list_band(z: Size, s: &mut [u32], n: usize) -> Fill
+    requires { ⌜ Listing z (bandLL z) n (now s) empty ⌝ }
+    ensures { λ r. ⌜ Listed z (bandLL z) n (now (s .entry)) empty (now (s .exit)) r ⌝ }
+{
+    let mut r = Fill {
+        lip: 0,
+        lsp: 0,
+        kept: 0,
+        visited: 0,
+        left: 0,
+        moved: 0,
+    };
+    let end = z.h >> z.n;
+    let mut row = 0;
+    while row < end {
+        let own = row;
+        row += 1;
+        r = list_row(z, s, n, r, own);
+    }
+    r
+}
+
+// Start: LIP of level N+1 holds the LL band row by row, its LIS those with offspring as type A; all else is empty. The stretch of level N+1
+// is the first in the workspace; what the others hold doesn't matter while their counts are 0.
+pub fn start(z: Size, work: &mut [u32]) -> Counts
+    requires { ⌜ (legalSize z ≡ true) × (workFor z ≤ length (now work)) ⌝ }
+    ensures { λ r. ⌜ Started z (now (work .entry)) r (now (work .exit)) ⌝ }
+{
+    let top = z.n;
+    let n = shape::level_size(z, Level(top + 1));
+    let f = list_band(z, &mut work[0..4 * n], n);
+    let mut lip = [0; 6];
+    lip[top] = f.lip;
+    let mut lis = [0; 6];
+    lis[top] = f.left;
+    Counts {
+        lip,
+        lsp: [0; 6],
+        lis,
     }
 }
 
