@@ -45,7 +45,7 @@ use Rattle.passes.specs.Standing.{stretchOf, countAt, Six, fillOf, withL
 use Rattle.passes.specs.Workspace.{Lending, Lent, movedOut, handedOn, Handing, Handed, runOf, Running, courseIn, PartRun}
 use Rattle.passes.proofs.Workspace.{size-some, size-place}
 use Rattle.passes.proofs.States.{state-in, state-same, handedOn-next, handedOn-other}
-use Rattle.passes.proofs.Sides.{coded-part, decoded-part}
+use Rattle.passes.proofs.Sides.{sound-lsp, coded-part, decoded-part}
 
 -- No set has a member in level N+1.
 module _ (z : Size) (Z : Legal z) where
@@ -76,18 +76,13 @@ queue-all run b e (typeB p ∷ es) a v h =
     by true = refl
     by false = refl
 
-one-most : (b : Bool) → one b ≤ 1
-unfolding one
-one-most true = omega arith
-one-most false = omega arith
-
 -- the lists of a level, in the workspace
 module _ {z : Size} {p : Plane} {l : Level} {work : List ℕ} {counts : Counts} (R : Ready z p l work counts) where
   Z : Legal z
   Z = legal z (R .legal)
 
   abbrev s : State
-  s = R .sound .lists
+  s = stateOf z work counts
 
   module _ (k : ℕ) (a : 1 ≤ k) (b : k ≤ levels z) where
     abbrev n : ℕ
@@ -105,10 +100,10 @@ module _ {z : Size} {p : Plane} {l : Level} {work : List ℕ} {counts : Counts} 
 
     lists-are : listsIn n t (countAt (counts .lip) k) (countAt (counts .lis) k) (countAt (counts .lsp) k) ≡ s k
     unfolding listsAt
-    lists-are = sym (state-in z work counts k a b) ∙ R .sound .agree .lists k
+    lists-are = sym (state-in z work counts k a b)
 
     pub level-room : Room (family z) k n (length (s k .lsp)) 0 (s k .lip) (s k .lis)
-    level-room = part-room z Z (R .sound .sound) k a b
+    level-room = part-room z Z (R .sound) k a b
 
     pub level-fits : Fits n t (fillOf counts k)
     level-fits =
@@ -137,19 +132,10 @@ module _ {z : Size} {p : Plane} {l : Level} {work : List ℕ} {counts : Counts} 
     level-queue = by (decLe k (z .n))
       where
         by : Dec (k ≤ z .n) → All (λ e. inLevel (family z) k e ≡ leb k (z .n)) (s k .lis)
-        by (yes l) = all-then _ _ (s k .lis) (λ e m. m .there ∙ sym (le-leb k (z .n) l)) (R .sound .sound .met k (omega arith))
+        by (yes l) = all-then _ _ (s k .lis) (λ e m. m .there ∙ sym (le-leb k (z .n) l)) (R .sound .met k (omega arith))
         by (no l) =
             let e : k ≡ levels z = omega arith in
             all-of _ (s k .lis) (λ d. subst (λ (i : ℕ). inLevel (family z) i d ≡ false) (sym e) (top-none z Z d) ∙ sym (lt-leb k (z .n) (omega arith)))
-
-    -- no coefficient is known twice
-    pub level-once : (q : ℕ) → sum (is q) (s k .lsp) ≤ 1
-    unfolding listsWeight one
-    level-once q =
-        let w = weight-part (family z) (is q) s k (levels z) b in
-        let c = R .sound .sound .conserved (is q) in
-        let f = from-once q (area z) in
-        omega (arith, w, c, f, one-most (ltb q (area z)))
 
 -- the pass of a part
 module _ (run : Run) {work : List ℕ} {counts : Counts} {d : List ℤ} (H : Running run work counts d) where
@@ -167,13 +153,10 @@ module _ (run : Run) {work : List ℕ} {counts : Counts} {d : List ℤ} (H : Run
 
   -- what the pass finds
   found : listsOf run (stretchOf z k work) begun ≡ stateOf z work counts k
-  found = rw (H .size) (level-begins R k (R .coarser) (R .level) ∙ sym (R .sound .agree .lists k))
+  found = rw (H .size) (level-begins R k (R .coarser) (R .level))
 
   abbrev l : Lists
   l = listsOf run (stretchOf z k work) begun
-
-  found-sound : l ≡ R .sound .lists k
-  found-sound = found ∙ R .sound .agree .lists k
 
   proper : Proper run
   proper =
@@ -188,7 +171,7 @@ module _ (run : Run) {work : List ℕ} {counts : Counts} {d : List ℤ} (H : Run
 
   growth : Growth (run .plane .0) (2 ^ 30) d (l .lsp)
   growth =
-      let o = subst (λ x. (q : ℕ) → sum (is q) (x .lsp) ≤ 1) (sym found-sound) (level-once R k (R .coarser) (R .level)) in
+      let o = subst (λ x. (q : ℕ) → sum (is q) (x .lsp) ≤ 1) (sym found) (sound-lsp z (stateOf z work counts) (R .sound) k (R .level)) in
       record {
         small = λ q.
             omega (
@@ -207,11 +190,11 @@ module _ (run : Run) {work : List ℕ} {counts : Counts} {d : List ℤ} (H : Run
         proper = proper;
         fits = rw (H .size) (level-fits R k (R .coarser) (R .level));
         room =
-            subst (λ x. Room (familyOf run) k (run .n) (countAt (counts .lsp) k) 0 (x .lip) (x .lis)) (sym found-sound)
+            subst (λ x. Room (familyOf run) k (run .n) (countAt (counts .lsp) k) 0 (x .lip) (x .lis)) (sym found)
             (rw (H .size, ← (n .1)) (level-room R k (R .coarser) (R .level)));
         queue =
-            subst (λ x. Queued run 0 (x .lis)) (sym found-sound)
-            (queue-all run (leb k (z .n)) refl (R .sound .lists k .lis) (level-queue R k (R .coarser) (R .level)) 0 (omega (arith, H .olds, n .0)));
+            subst (λ x. Queued run 0 (x .lis)) (sym found)
+            (queue-all run (leb k (z .n)) refl (stateOf z work counts k .lis) (level-queue R k (R .coarser) (R .level)) 0 (omega (arith, H .olds, n .0)));
         olds = omega (arith, H .olds);
         kept = refl;
         visited = refl;
@@ -278,7 +261,7 @@ module _ (run : Run) {work : List ℕ} {counts : Counts} {d : List ℤ} (H : Run
         sym gone-count
         ∙ ap length (subst (λ (i : ℕ). Placed (familyOf run) i (stateOf z work counts i) → passed (familyOf run) i C (stateOf z work counts i) (chan out d (run .from .at)) .moved ≡ []) (sym e)
         (passed-level1 (lawful z (legal z (R .legal))) C (stateOf z work counts 1) (chan out d (run .from .at)))
-        (subst (Placed (familyOf run) k) (sym (R .sound .agree .lists k)) (R .sound .sound .placed k)))
+        (R .sound .placed k))
 
     -- what moves out has room in the next level
     next-room : 1 < k → countAt (ours .lis) (k - 1) + r .fill .moved ≤ setRoom (levelSize z (k - 1))
@@ -286,10 +269,10 @@ module _ (run : Run) {work : List ℕ} {counts : Counts} {d : List ℤ} (H : Run
         let j : ℕ = k - 1 in
         let i : suc j ≡ k = omega arith in
         let L : Legal z = legal z (R .legal) in
-        let m = moved-room z L (R .sound .sound) j (omega arith) (omega (arith, R .level)) C (chan out d (run .from .at)) in
-        let s : length (passed (familyOf run) (suc j) C (R .sound .lists (suc j)) (chan out d (run .from .at)) .moved) ≡ r .fill .moved
-            = subst (λ (x : ℕ). length (passed (familyOf run) x C (R .sound .lists x) (chan out d (run .from .at)) .moved) ≡ r .fill .moved) (sym i)
-            (ap (λ x. length (passed (familyOf run) k C x (chan out d (run .from .at)) .moved)) (sym (R .sound .agree .lists k)) ∙ gone-count) in
+        let m = moved-room z L (R .sound) j (omega arith) (omega (arith, R .level)) C (chan out d (run .from .at)) in
+        let s : length (passed (familyOf run) (suc j) C (stateOf z work counts (suc j)) (chan out d (run .from .at)) .moved) ≡ r .fill .moved
+            = subst (λ (x : ℕ). length (passed (familyOf run) x C (stateOf z work counts x) (chan out d (run .from .at)) .moved) ≡ r .fill .moved) (sym i)
+            gone-count in
         let o = other-count (counts .lis) (r .fill .kept) j (omega arith) (λ e. omega arith) in
         sets-fit (levelSize z j) _ (omega (arith, m, s, o, level-counts R j (omega arith) (omega (arith, R .level)) .0))
 

@@ -32,7 +32,7 @@ use Rattle.passes.specs.declared.Counts.{Counts}
 use Rattle.passes.specs.declared.Passed.{Passed}
 use Rattle.passes.specs.Exchange.{Chan, chan, familyOf, noted, answer, side}
 use Rattle.passes.specs.Steps.{Growth}
-use Rattle.passes.specs.Standing.{stateOf, Agree, Sounds, Ready, courseC, Coded, Small, courseD, Decoded}
+use Rattle.passes.specs.Standing.{stateOf, Agree, Ready, courseC, Coded, Small, courseD, Decoded}
 use Rattle.passes.specs.Workspace.{courseIn, PartRun}
 use Rattle.passes.proofs.Refining.{growth-kept}
 
@@ -159,13 +159,10 @@ unfolding one
 one-most true = omega arith
 one-most false = omega arith
 
-sound-lsp : (z : Size) (s : State) → SoundLists z s → (k : ℕ) → k ≤ levels z → (q : ℕ) → sum (is q) (s k .lsp) ≤ 1
+pub sound-lsp : (z : Size) (s : State) → SoundLists z s → (k : ℕ) → k ≤ levels z → (q : ℕ) → sum (is q) (s k .lsp) ≤ 1
 unfolding listsWeight
 sound-lsp z s h k l q =
     omega (arith, weight-part (family z) (is q) s k (levels z) l, h .conserved (is q), from-once q (area z), one-most (ltb q (area z)))
-
-pub lsp-once : (z : Size) (s : State) → Sounds z s → (k : ℕ) → k ≤ levels z → (q : ℕ) → sum (is q) (s k .lsp) ≤ 1
-lsp-once z s h k l q = rw (h .agree .lists k) (sound-lsp z (h .lists) (h .sound) k l q)
 
 agree-mapped : {S T : Type 0} (h : S → T) {z : Size} (k : ℕ) (c : Course S) (s : State) {t : State} {x : Course T} → Agree z t (after k x s)
     → x ≡ mapped h c → Agree z t (after k c s)
@@ -207,5 +204,5 @@ module _ (run : Run) (pyramid : List ℤ) (body : List ℕ) {work : List ℕ} {c
         grows = λ b small.
             subst (Small (b + 2 ^ mostPlanes)) (sym (ap (λ y. y .pyramid) (R .side)))
             (part-grows run pyramid body (lawful (run .z) (legal (run .z) (H .legal))) (H .plane) (run .level .0) (s (run .level .0))
-            (lsp-once (run .z) s (H .sound) (run .level .0) (H .level)) out d (run .from .at) b small);
+            (sound-lsp (run .z) s (H .sound) (run .level .0) (H .level)) out d (run .from .at) b small);
       }

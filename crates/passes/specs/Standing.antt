@@ -1,5 +1,5 @@
 -- What the workspace holds between parts, and what one part makes of it: the contracts of the passes.
-use mathlib.Core.Path.{_≡_}
+use mathlib.Core.Path.{_≡_, fun-ext}
 use mathlib.Core.List.{List, []}
 use mathlib.Core.Bool.{Bool, true, cond, _&&_}
 use Prim.Native.Nat.{ℕ, _+_, _-_, _*_, _≤_, _<_, _^_}
@@ -63,11 +63,8 @@ stateOf z work counts k = cond {A = Lists} (leb 1 k && leb k (levels z)) (listsA
 pub record Agree (z : Size) (s t : State) : Type 0 where
   pub lists : (k : ℕ) → s k ≡ t k
 
--- The lists are those of a sound state.
-pub record Sounds (z : Size) (s : State) : Type 0 where
-  pub lists : State
-  pub agree : Agree z s lists
-  pub sound : SoundLists z lists
+pub agree-same : {z : Size} {s t : State} → Agree z s t → s ≡ t
+agree-same a = fun-ext (a .lists)
 
 abbrev pub named : Plane → Level → PartName
 named n k = record { plane = n .0; level = k .0 }
@@ -83,7 +80,7 @@ pub record Ready (z : Size) (n : Plane) (k : Level) (work : List ℕ) (counts : 
   pub plane : n .0 < mostPlanes
   pub coarser : 1 ≤ k .0
   pub level : k .0 ≤ levels z
-  pub sound : Sounds z (stateOf z work counts)
+  pub sound : SoundLists z (stateOf z work counts)
 
 pub record Coding (pyramid : List ℤ) (z : Size) (n : Plane) (k : Level) (work : List ℕ) (counts : Counts) (at : BitPosition) : Type 0 where
   pub ready : Ready z n k work counts

@@ -1,0 +1,92 @@
+-- write_part: what a pass asks for, and what its bits and the head put before them make.
+use mathlib.Core.Path.{_≡_, sym, ap, ap₂, _∙_}
+use mathlib.Core.List.{List, _++_}
+use mathlib.Core.Bool.{Bool, true}
+use Prim.Native.Nat.{ℕ, _+_, _-_, _*_, _^_, _≤_, _<_}
+use native.Mathlib.Omega.{arith}
+use lib.ListN.{length, length-append}
+use lib.IntN.{ℤ}
+use lib.Seq.{sets}
+use Rattle.rules.specs.declared.Size.{Size}
+use Rattle.rules.specs.declared.Plane.{Plane}
+use Rattle.rules.specs.declared.Level.{Level}
+use Rattle.bits.specs.declared.BitPosition.{BitPosition}
+use Rattle.passes.specs.declared.Passed.{Passed}
+use Rattle.rules.specs.Document.Pyramid.{legalSize, levels}
+use Rattle.rules.specs.Document.Passes.{State}
+use Rattle.rules.specs.Document.Layout.{packed, bytesFor}
+use Rattle.rules.specs.Laws.Sizes.{legal}
+use Rattle.rules.specs.Laws.StateParts.{OfLevel}
+use Rattle.rules.specs.Laws.Sizes.{area-bound}
+use Rattle.bits.specs.Packed.{length-packed}
+use Rattle.bits.specs.Written.{writeBits-packed}
+use Rattle.bits.specs.Bits.{writeBits}
+use Rattle.passes.specs.Standing.{named, stateOf, agree-same, Coding, Coded, courseC}
+use Rattle.coder.specs.declared.Progress.{Progress}
+use Rattle.coder.specs.Writing.{shortHead, headOf, madeWay, HeadFits, Headed, Stage, stageOf, bytesOf, onward, Due, Reached}
+use Rattle.coder.proofs.Heads.{headed-whole}
+use Rattle.coder.proofs.Stages.{bytesOf-head, bits-few}
+
+stage-same : {s s′ : State} {o o′ : List ℕ} {a a′ : ℕ} → s ≡ s′ → o ≡ o′ → a ≡ a′
+    → _≡_ {A = Stage} (record { lists = s; out = o; place = a }) (record { lists = s′; out = o′; place = a′ })
+stage-same e f g = cc
+
+module _ (pyramid : List ℤ) (z : Size) (n : Plane) (k : Level) (work : List ℕ) (p : Progress) (out : List ℕ) (at : BitPosition)
+    (start : at .at ≡ 8 * (p .place + shortHead)) (due : Due pyramid z n k work (stageOf z work p out)) where
+  l : legalSize z ≡ true
+  l = due .given .legal
+
+  -- What the pass asks for.
+  pub part-ready : Coding pyramid z n k work (p .counts) at
+  part-ready =
+      record {
+        ready =
+            record { legal = l; room = due .given .room; plane = due .plane; coarser = due .coarser; level = due .level; sound = due .going .sound };
+        whole = due .given .whole;
+        place = omega (arith, start, due .going .near, area-bound z l);
+      }
+
+  module _ (passed : Passed) (work′ out′ : List ℕ) (h : Coded pyramid z n k work (p .counts) out at passed work′ out′) where
+    side : List Bool
+    side = courseC pyramid z n k work (p .counts) .side
+
+    few : (length side ≤ 2 ^ 20) × (n .0 < 128) × (k .0 < 128)
+    unfolding side
+    few =
+        let o : OfLevel (levels z) (named n k) = record { from1 = due .coarser; upTo = due .level } in
+        omega (arith, bits-few pyramid z l (named n k) (stateOf z work (p .counts)) o (due .going .sound), legal z l .few, due .plane)
+
+    -- What the head is put with.
+    pub part-bits : (bits : ℕ) → bits ≡ passed .at .at - at .at → HeadFits (p .place) n k bits
+    unfolding side
+    part-bits bits e =
+        record { near = omega (arith, due .going .near); plane = few .1; level = few .2; count = omega (arith, few .0, h .place) }
+
+    -- The part is written.
+    pub part-written : (bits end : ℕ) (out″ : List ℕ) → bits ≡ passed .at .at - at .at → Headed out′ (p .place) (n .0) (k .0) bits end out″
+        → Reached z work (record { counts = passed .counts; place = end }) work′ out″ (onward pyramid z (named n k) (stageOf z work p out))
+    unfolding side onward
+    part-written bits end out″ e w =
+        let count : bits ≡ length side = omega (arith, e, h .place) in
+        let whole : List ℕ = headOf (n .0) (k .0) (length side) ++ packed side in
+        let same : bytesOf pyramid z (named n k) (stateOf z work (p .counts)) ≡ whole = bytesOf-head pyramid z (named n k) (stateOf z work (p .counts)) in
+        let body : out′ ≡ sets out (p .place + shortHead) (packed side) =
+        h .bits ∙ ap (λ i. writeBits out i side) start
+        ∙ writeBits-packed out (p .place + shortHead) side (λ j i. due .going .clear j (omega arith)) in
+        let bytes : out″ ≡ sets out (p .place) whole =
+        w .bytes ∙ ap₂ (λ l i. sets (madeWay l (p .place) i) (p .place) (headOf (n .0) (k .0) i)) body count
+        ∙ headed-whole out (p .place) (n .0) (k .0) side (few .1) (few .2) in
+        record {
+          stage =
+              stage-same (agree-same (h .lists)) (bytes ∙ ap (sets out (p .place)) (sym same))
+              (omega (
+                arith,
+                w .after,
+                ap (λ i. length (headOf (n .0) (k .0) i)) count,
+                ap bytesFor count,
+                length-packed side,
+                length-append (headOf (n .0) (k .0) (length side)) (packed side),
+                ap length same,
+              ));
+          same = h .same;
+        }

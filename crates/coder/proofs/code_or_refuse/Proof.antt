@@ -1,0 +1,50 @@
+-- `coder::code_or_refuse`: the input's verdict decides, or leaves it to the room.
+use borrow.Author.Needs.{needs}
+use Rattle.coder.proofs.Outcomes.{accepted-given, accepted-answered, refusal-answered}
+use Rattle.coder.proofs.code_or_refuse.Statement.{statement}
+use Rattle.coder.proofs.code_or_refuse.Tie as tie
+
+judged-requires : tie.Need-judged-requires
+judged-requires c κs = search needs
+
+enum-told : tie.Need-enum-told
+enum-told c = search needs
+
+code-fitted-requires : tie.Need-code-fitted-requires
+code-fitted-requires c κs = accepted-given _ _ _ (c .before .before .before .before .judged .ensures) (c .before .before .enum-told .given .1)
+
+enum-known-verdict : tie.Need-enum-known-verdict
+enum-known-verdict c = search needs
+
+refuse-requires : tie.Need-refuse-requires
+refuse-requires c κs = search needs
+
+same-length : tie.Need-same-length
+same-length c = search needs
+
+same-length-2 : tie.Need-same-length-2
+same-length-2 c = search needs
+
+returns : tie.Need-returns
+returns c = accepted-answered _ _ (c .before .before .before .before .before .before .before .before .before .before .before .before .args .work .now) (c .before .before .before .before .before .before .before .before .before .judged .ensures) (c .before .before .before .before .before .before .before .enum-told .given .1) (c .before .before .before .before .code-fitted .ensures)
+
+same-length-3 : tie.Need-same-length-3
+same-length-3 c = search needs
+
+returns-2 : tie.Need-returns-2
+returns-2 c = refusal-answered _ _ (c .before .before .before .before .before .before .before .before .before .before .args .work .now) (c .before .before .before .before .before .before .before .judged .ensures) _ (c .before .before .before .before .before .verdict .given .1) (c .before .before .refuse .ensures)
+
+pub code-or-refuse-spec : {M : Type 1} → statement M
+code-or-refuse-spec =
+    tie.close
+    (tie.spec
+    judged-requires
+    enum-told
+    code-fitted-requires
+    enum-known-verdict
+    refuse-requires
+    same-length
+    same-length-2
+    returns
+    same-length-3
+    returns-2)

@@ -1,0 +1,25 @@
+-- `coder::write_parts`: the lists at their start, then all parts.
+use borrow.Author.Needs.{needs}
+use Rattle.coder.proofs.Outcomes.{stored-length}
+use Rattle.coder.proofs.Records.{parts-begin, parts-stored}
+use Rattle.coder.proofs.write_parts.Statement.{statement}
+use Rattle.coder.proofs.write_parts.Tie as tie
+
+start-requires : tie.Need-start-requires
+start-requires c κs = (c .before .before .before .pre .0 .legal, c .before .before .before .pre .0 .room)
+
+write-planes-requires : tie.Need-write-planes-requires
+write-planes-requires c κs = parts-begin (c .before .before .before .before .before .before .before .before .pre .0) _ _ _ _ _ (c .before .before .before .before .start .ensures) (c .before .before .before .before .before .before .before .before .pre .1) (c .before .before .before .before .before .before .before .before .pre .2) (c .before .before .before .before .before .before .before .before .pre .3)
+
+returns : tie.Need-returns
+returns c = parts-stored (c .before .before .before .before .before .before .before .before .before .before .before .before .before .pre .0) _ _ _ _ _ (c .before .before .before .before .before .before .before .before .before .start .ensures) _ _ _ (c .before .before .before .before .write-planes .ensures)
+
+same-length : tie.Need-same-length
+same-length c = stored-length (returns c)
+
+same-length-2 : tie.Need-same-length-2
+same-length-2 c = search needs
+
+pub write-parts-spec : {M : Type 1} → statement M
+write-parts-spec =
+    tie.close (tie.spec start-requires write-planes-requires same-length same-length-2 returns)

@@ -1,0 +1,39 @@
+-- `coder::write_record`: header, then all parts.
+use borrow.Author.Needs.{needs}
+use Rattle.coder.proofs.Outcomes.{stored-room}
+use Rattle.coder.proofs.Records.{planes-few, header-written, record-stored}
+use Rattle.coder.proofs.write_record.Statement.{statement}
+use Rattle.coder.proofs.write_record.Tie as tie
+
+zero-u8-requires : tie.Need-zero-u8-requires
+zero-u8-requires c κs = search needs
+
+planes-in-requires : tie.Need-planes-in-requires
+planes-in-requires c κs = search needs
+
+write-header-requires : tie.Need-write-header-requires
+write-header-requires c κs = (c .before .before .before .before .before .before .before .before .pre .legal, planes-few (c .before .before .before .before .before .before .before .before .pre) _ (c .before .planes-in .ensures))
+
+write-parts-requires : tie.Need-write-parts-requires
+write-parts-requires c κs = header-written (c .before .before .before .before .before .before .before .before .before .before .before .before .before .pre) _ (c .before .before .before .before .before .before .planes-in .ensures) (c .before .before .before .before .before .before .before .before .before .before .before .before .before .args .out .now) _ (c .before .before .before .before .before .before .before .before .before .zero-u8 .ensures) _ _ (c .before .before .before .before .write-header .ensures)
+
+returns : tie.Need-returns
+returns c = record-stored (c .before .before .before .before .before .before .before .before .before .before .before .before .before .before .before .before .before .before .pre) _ (c .before .before .before .before .before .before .before .before .before .before .before .planes-in .ensures) (c .before .before .before .before .before .before .before .before .before .before .before .before .before .before .before .before .before .before .args .out .now) _ (c .before .before .before .before .before .before .before .before .before .before .before .before .before .before .zero-u8 .ensures) _ _ (c .before .before .before .before .before .before .before .before .before .write-header .ensures) _ _ (c .before .before .before .before .write-parts .ensures)
+
+same-length : tie.Need-same-length
+same-length c = stored-room (c .before .before .before .before .before .before .before .before .before .before .before .before .before .before .before .before .before .before .args .out .now) (returns c)
+
+same-length-2 : tie.Need-same-length-2
+same-length-2 c = search needs
+
+pub write-record-spec : {M : Type 1} → statement M
+write-record-spec =
+    tie.close
+    (tie.spec
+    zero-u8-requires
+    planes-in-requires
+    write-header-requires
+    write-parts-requires
+    same-length
+    same-length-2
+    returns)

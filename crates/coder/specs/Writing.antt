@@ -1,0 +1,144 @@
+-- The stages of writing a record, and what each function of the coder makes of them: its contracts.
+use mathlib.Core.Path.{_≡_}
+use mathlib.Core.List.{List, [], _∷_}
+use mathlib.Core.Bool.{Bool, true, cond}
+use Prim.Native.Nat.{ℕ, _+_, _-_, _*_, _^_, _≤_, _<_}
+use lib.Dec.{leb, eqb}
+use lib.ListN.{length, getD, take, drop}
+use lib.IntN.{ℤ}
+use lib.Seq.{sets}
+use Rattle.rules.specs.declared.Size.{Size}
+use Rattle.rules.specs.declared.Plane.{Plane}
+use Rattle.rules.specs.declared.Level.{Level}
+use Rattle.rules.specs.declared.Coded.{Coded}
+use Rattle.rules.specs.declared.Refusal.the-variants as refusal
+use Rattle.rules.specs.declared.Verdict.{Verdict}
+use Rattle.rules.specs.declared.Verdict.the-variants.{Accepted, Refused}
+use Rattle.rules.specs.Document.Notation.{flat}
+use Rattle.rules.specs.Document.Pyramid.{legalSize, area, levels, family, magnitude, negative, mostPlanes}
+use Rattle.rules.specs.Document.Passes.{Course, State, after, PartName, coded}
+use Rattle.rules.specs.Document.Layout.{numberBytes, bytesFor, partBytes, codedParts}
+use Rattle.rules.specs.Document.Calls.{Result, workFor, firstOver, codeOut, codeAnswer}
+use Rattle.rules.specs.Laws.StateRecord.{SoundLists}
+use Rattle.passes.specs.Standing.{stateOf}
+use Rattle.coder.specs.declared.Progress.{Progress}
+
+-- The outcome x of a call: what is answered and what is left in the output.
+pub record Answered (x : Result (List ℕ)) (out : List ℕ) (answer : Coded) (out′ : List ℕ) : Type 0 where
+  pub answers : answer ≡ codeAnswer x
+  pub writes : out′ ≡ codeOut (length out) x
+
+-- What the input alone is refused for, in document 01's order: 1, 2, 3, 4.
+unfoldable pub judgedInput : List ℤ → Size → ℕ → Verdict
+judgedInput pyramid z work =
+    cond (legalSize z)
+    (cond (eqb (length pyramid) (area z))
+    (cond (leb (workFor z) work)
+    (cond (eqb (firstOver pyramid) (length pyramid)) Accepted (Refused (refusal.Range (firstOver pyramid))))
+    (Refused refusal.Work))
+    (Refused refusal.Length))
+    (Refused refusal.Size)
+
+-- an input that is in order
+pub record Given (pyramid : List ℤ) (z : Size) (work : List ℕ) : Type 0 where
+  pub legal : legalSize z ≡ true
+  pub whole : length pyramid ≡ area z
+  pub room : workFor z ≤ length work
+  pub range : firstOver pyramid ≡ length pyramid
+
+-- No header and no part has more bytes; no part begins behind this place.
+abbrev pub headerMost : ℕ
+headerMost = 20
+
+abbrev pub partMost : ℕ
+partMost = 2 ^ 18
+
+abbrev pub placeMost : ℕ
+placeMost = 2 ^ 40
+
+-- Numbers written one after the other from a place on, and the place after them.
+pub record Wrote (out : List ℕ) (at : ℕ) (numbers : List ℕ) (end : ℕ) (out′ : List ℕ) : Type 0 where
+  pub place : end ≡ at + length (flat numberBytes numbers)
+  pub bytes : out′ ≡ sets out at (flat numberBytes numbers)
+
+-- bytes of a part's head whose bit count takes one byte
+abbrev pub shortHead : ℕ
+shortHead = 3
+
+-- The body, which stands behind the place of a short head, moved to where the bit count lets it begin.
+unfoldable pub madeWay : List ℕ → ℕ → ℕ → List ℕ
+madeWay out place bits =
+    sets out (place + shortHead + (length (numberBytes bits) - 1)) (take (bytesFor bits) (drop (place + shortHead) out))
+
+abbrev pub headOf : ℕ → ℕ → ℕ → List ℕ
+headOf n k bits = flat numberBytes (n ∷ k ∷ bits ∷ [])
+
+pub record HeadFits (place : ℕ) (n : Plane) (k : Level) (bits : ℕ) : Type 0 where
+  pub near : place ≤ placeMost
+  pub plane : n .0 < 128
+  pub level : k .0 < 128
+  pub count : bits < 2 ^ 28
+
+pub record Headed (out : List ℕ) (place n k bits end : ℕ) (out′ : List ℕ) : Type 0 where
+  pub after : end ≡ place + length (headOf n k bits) + bytesFor bits
+  pub bytes : out′ ≡ sets (madeWay out place bits) place (headOf n k bits)
+
+-- How far a record is written: the lists, the output, and the place of the next part.
+pub record Stage : Type 0 where
+  pub lists : State
+  pub out : List ℕ
+  pub place : ℕ
+
+abbrev pub stageOf : Size → List ℕ → Progress → List ℕ → Stage
+stageOf z work p out = record { lists = stateOf z work (p .counts); out = out; place = p .place }
+
+module _ (pyramid : List ℤ) (z : Size) where
+  abbrev pub courseOf : PartName → State → Course (List Bool)
+  courseOf p s = coded (family z) (magnitude pyramid) (negative pyramid) p s
+
+  unfoldable pub bytesOf : PartName → State → List ℕ
+  bytesOf p s = partBytes (record { name = p; bits = courseOf p s .side })
+
+  abbrev pub bytesOfParts : List PartName → State → List ℕ
+  bytesOfParts ps s = flat partBytes (codedParts (family z) (magnitude pyramid) (negative pyramid) ps s)
+
+  -- one part written, and several
+  unfoldable pub onward : PartName → Stage → Stage
+  onward p x =
+      record {
+        lists = after (p .level) (courseOf p (x .lists)) (x .lists);
+        out = sets (x .out) (x .place) (bytesOf p (x .lists));
+        place = x .place + length (bytesOf p (x .lists));
+      }
+
+  unfoldable pub through : List PartName → Stage → Stage
+  through [] x = x
+  through (p ∷ ps) x = through ps (onward p x)
+
+-- 0 from a place on
+abbrev pub Clear : List ℕ → ℕ → Type 0
+Clear out place = (j : ℕ) → place ≤ j → getD out j 0 ≡ 0
+
+-- What holds between parts, with m parts still to write: the lists are sound, the output is 0 from the place on, and the place stays small.
+pub record Going (z : Size) (m : ℕ) (x : Stage) : Type 0 where
+  pub sound : SoundLists z (x .lists)
+  pub clear : Clear (x .out) (x .place)
+  pub near : x .place + partMost * m ≤ placeMost
+
+-- A part is due at the stage x.
+pub record Due (pyramid : List ℤ) (z : Size) (n : Plane) (k : Level) (work : List ℕ) (x : Stage) : Type 0 where
+  pub given : Given pyramid z work
+  pub plane : n .0 < mostPlanes
+  pub coarser : 1 ≤ k .0
+  pub level : k .0 ≤ levels z
+  pub going : Going z 1 x
+
+-- The stage x is reached.
+pub record Reached (z : Size) (work : List ℕ) (p : Progress) (work′ out′ : List ℕ) (x : Stage) : Type 0 where
+  pub stage : stageOf z work′ p out′ ≡ x
+  pub same : length work′ ≡ length work
+
+-- Bytes stored from a place on, as many as there is room for, and the place after them.
+pub record Stored (out : List ℕ) (at : ℕ) (bytes : List ℕ) (end : ℕ) (out′ : List ℕ) : Type 0 where
+  pub place : end ≡ at + length bytes
+  pub stores : out′ ≡ sets out at bytes

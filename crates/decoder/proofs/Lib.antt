@@ -1,0 +1,5 @@
+pub mod LawsReached
+pub mod LawsAnswer
+pub mod LawsPart
+pub mod LawsOutcome
+pub mod LawsWalk

@@ -1,0 +1,155 @@
+-- The walk over a record's parts: what a part makes of the lists, the pyramid and the planes reached, and the contracts of the walk's turns.
+use mathlib.Core.Path.{_≡_}
+use mathlib.Core.List.{List, []}
+use mathlib.Core.Bool.{true, cond}
+use Prim.Native.Nat.{ℕ, _+_, _-_, _≤_, _^_}
+use lib.Dec.{eqb}
+use lib.ListN.{length, set, replicate}
+use lib.IntN.{ℤ, pos}
+use Rattle.rules.specs.declared.Size.{Size}
+use Rattle.rules.specs.declared.Plane.{Plane}
+use Rattle.rules.specs.declared.Refusal.{Refusal}
+use Rattle.rules.specs.declared.Refusal.the-variants as refusal
+use Rattle.rules.specs.declared.Header.{Header}
+use Rattle.rules.specs.declared.Part.{Part}
+use Rattle.rules.specs.declared.PartRead.{PartRead}
+use Rattle.rules.specs.declared.PartRead.the-variants as part
+use Rattle.rules.specs.declared.Verdict.the-variants as verdict
+use Rattle.rules.specs.declared.Decoded.{Decoded}
+use Rattle.passes.specs.declared.Counts.{Counts}
+use Rattle.decoder.specs.declared.Walk.{Walk}
+use Rattle.decoder.specs.declared.Found.{Found}
+use Rattle.decoder.specs.declared.Found.the-variants as found
+use Rattle.decoder.specs.declared.Turn.{Turn}
+use Rattle.rules.specs.Document.Notation.{zeros}
+use Rattle.rules.specs.Document.Pyramid.{legalSize, area, mostPlanes, family}
+use Rattle.rules.specs.Document.Passes.{State, Course, Reader, start, after, decoded}
+use Rattle.rules.specs.Document.Layout.{bytesFor, bitAt, bodyOf, nameOf}
+use Rattle.rules.specs.Document.Calls.{workFor, levelPlaces, Result, Picture, planeIn, reachedPlanes, decodeOut, decodeAnswer}
+use Rattle.rules.specs.Laws.OneWalk.{usableNow}
+use Rattle.rules.specs.Laws.StateRecord.{SoundLists}
+use Rattle.passes.specs.Standing.{stateOf, Agree, Small, Decoding}
+
+-- the plane that level k reached, of planes that stand level 1 first
+abbrev pub reachedAt : List Plane → ℕ → ℕ
+reachedAt reached k = planeIn reached (k - 1)
+
+-- What becomes of a whole part: what is found, and the lists, the pyramid and the planes reached after it.
+pub record Outcome : Type 0 where
+  pub found : Found
+  pub lists : State
+  pub pyramid : List ℤ
+  pub reached : List Plane
+
+-- "10 FIT: a usable part's bits run out or are left over"
+unfoldable pub fitting : Part → Course Reader → Found
+fitting p c = cond (eqb (c .side .taken) (p .bits)) found.Part (found.Refused (refusal.Fit (p .place)))
+
+unfoldable pub gone : Part → List Plane → State → Course Reader → Outcome
+gone p reached st c =
+    record {
+      found = fitting p c;
+      lists = after (p .level .0) c st;
+      pyramid = c .side .pyramid;
+      reached = set reached (p .level .0 - 1) (p .plane);
+    }
+
+module _ (s : List ℕ) (z : Size) (p : Part) where
+  -- by the lists st and the pyramid v before it
+  unfoldable pub usedOn : List Plane → State → List ℤ → Outcome
+  usedOn reached st v = gone p reached st (decoded (family z) (nameOf p) (bitAt (bodyOf s p)) st v)
+
+  -- "Parts that are not usable are walked over, not decoded."
+  unfoldable pub metOn : List Plane → State → List ℤ → Outcome
+  metOn reached st v =
+      cond (usableNow (reachedAt reached) (nameOf p)) (usedOn reached st v)
+      (record { found = found.Part; lists = st; pyramid = v; reached = reached })
+
+  -- by the walk and the workspace
+  abbrev pub decodedPart : Walk → List ℤ → List ℕ → Outcome
+  decodedPart w out work = usedOn (w .reached) (stateOf z work (w .counts)) out
+
+  abbrev pub metPart : Walk → List ℤ → List ℕ → Outcome
+  metPart w out work = metOn (w .reached) (stateOf z work (w .counts)) out
+
+-- the walk after a part
+pub record Past (p : Part) (reached : List Plane) (counts : Counts) (r : Walk) : Type 0 where
+  pub before : r .before ≡ record { plane = p .plane; level = p .level }
+  pub place : r .place ≡ p .end
+  pub reaches : r .reached ≡ reached
+  pub fills : r .counts ≡ counts
+
+-- what a part asks for
+pub record Taking (s : List ℕ) (z : Size) (p : Part) (w : Walk) (out : List ℤ) (work : List ℕ) : Type 0 where
+  pub decoding : Decoding z (p .plane) (p .level) work (w .counts) out
+  pub ends : p .end ≡ p .body + bytesFor (p .bits)
+  pub within : p .end ≤ length s
+  pub six : length (w .reached) ≡ levelPlaces
+
+pub record Taken (z : Size) (p : Part) (o : Outcome) (out : List ℤ) (work : List ℕ) (r : Turn) (out′ : List ℤ) (work′ : List ℕ) : Type 0 where
+  pub finds : r .found ≡ o .found
+  pub past : Past p (o .reached) (r .walk .counts) (r .walk)
+  pub lists : Agree z (stateOf z work′ (r .walk .counts)) (o .lists)
+  pub writes : out′ ≡ o .pyramid
+  pub same : length work′ ≡ length work
+  pub grows : (b : ℕ) → Small b out → Small (b + 2 ^ mostPlanes) out′
+
+-- what a turn of the walk asks for
+pub record Standing (h : Header) (s : List ℕ) (w : Walk) (out : List ℤ) (work : List ℕ) : Type 0 where
+  pub legal : legalSize (h .size) ≡ true
+  pub planes : h .planes ≤ mostPlanes
+  pub room : workFor (h .size) ≤ length work
+  pub whole : length out ≡ area (h .size)
+  pub within : w .place ≤ length s
+  pub six : length (w .reached) ≡ levelPlaces
+  pub sound : SoundLists (h .size) (stateOf (h .size) work (w .counts))
+  pub small : Small (2 ^ 29) out
+
+-- a turn that met no whole part: nothing has changed
+pub record Still (f : Found) (w : Walk) (out : List ℤ) (work : List ℕ) (r : Turn) (out′ : List ℤ) (work′ : List ℕ) : Type 0 where
+  pub finds : r .found ≡ f
+  pub stays : r .walk ≡ w
+  pub writes : out′ ≡ out
+  pub lists : work′ ≡ work
+
+unfoldable pub Turned : Header → List ℕ → Walk → List ℤ → List ℕ → PartRead → Turn → List ℤ → List ℕ → Type 0
+Turned h s w out work (part.Part p) r out′ work′ = Taken (h .size) p (metPart s (h .size) p w out work) out work r out′ work′
+Turned h s w out work part.Tail r out′ work′ = Still found.Tail w out work r out′ work′
+Turned h s w out work (part.Refused f) r out′ work′ = Still (found.Refused f) w out work r out′ work′
+
+-- before the first part
+pub record Opening (h : Header) (work : List ℕ) : Type 0 where
+  pub legal : legalSize (h .size) ≡ true
+  pub room : workFor (h .size) ≤ length work
+
+pub record Begun (h : Header) (out : List ℤ) (work : List ℕ) (r : Walk) (out′ : List ℤ) (work′ : List ℕ) : Type 0 where
+  pub blank : out′ ≡ replicate (length out) (pos 0)
+  pub before : r .before ≡ record { plane = record { 0 = h .planes }; level = record { 0 = 0 } }
+  pub place : r .place ≡ h .end
+  pub reaches : r .reached ≡ reachedPlanes h []
+  pub lists : Agree (h .size) (stateOf (h .size) work′ (r .counts)) (start (h .size))
+  pub same : length work′ ≡ length work
+
+-- what decoding the parts asks for: a header that was read, a pyramid of its size and workspace enough
+pub record Lent (h : Header) (s : List ℕ) (out : List ℤ) (work : List ℕ) : Type 0 where
+  pub legal : legalSize (h .size) ≡ true
+  pub planes : h .planes ≤ mostPlanes
+  pub within : h .end ≤ length s
+  pub whole : length out ≡ area (h .size)
+  pub room : workFor (h .size) ≤ length work
+
+-- what is answered, and left in the memory lent, for a result
+pub record Answered (x : Result Picture) (out : List ℤ) (work : List ℕ) (answer : Decoded) (out′ : List ℤ) (work′ : List ℕ) : Type 0 where
+  pub answers : answer ≡ decodeAnswer x
+  pub writes : out′ ≡ decodeOut (length out) x
+  pub clears : work′ ≡ zeros (length work)
+
+-- by the two ways that a call ends
+pub record Refusing (r : Refusal) (out : List ℤ) (work : List ℕ) (answer : Decoded) (out′ : List ℤ) (work′ : List ℕ) : Type 0 where
+  pub answers : answer ≡ record { verdict = verdict.Refused r; tail = 0; reached = replicate levelPlaces (record { 0 = 0 }) }
+  pub blank : out′ ≡ replicate (length out) (pos 0)
+  pub clears : work′ ≡ zeros (length work)
+
+pub record Accepting (tail : ℕ) (reached : List Plane) (work : List ℕ) (answer : Decoded) (work′ : List ℕ) : Type 0 where
+  pub answers : answer ≡ record { verdict = verdict.Accepted; tail = tail; reached = reached }
+  pub clears : work′ ≡ zeros (length work)
