@@ -1,1 +1,2 @@
 pub mod Surveyed
+pub mod AsServing

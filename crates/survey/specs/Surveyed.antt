@@ -1,7 +1,11 @@
 -- What a survey says: the header and the tail of a record that serving accepts, or its refusal.
 use mathlib.Core.List.{List}
+use mathlib.Core.Bool.{cond}
 use Prim.Native.Nat.{ℕ}
+use lib.Dec.{leb}
+use lib.ListN.{length}
 use Rattle.rules.specs.declared.Refusal.{Refusal}
+use Rattle.rules.specs.declared.Refusal.the-variants as refusal
 use Rattle.rules.specs.declared.Verdict.the-variants.{Accepted, Refused}
 use Rattle.rules.specs.declared.Header.{Header}
 use Rattle.rules.specs.declared.HeaderRead.{HeaderRead}
@@ -22,3 +26,10 @@ headedWith s (header.Refused r) = refusedWith r
 
 unfoldable pub surveyOf : List ℕ → Survey
 surveyOf s = headedWith s (readHeader s)
+
+-- "The program partlist reads a record of at most 16,384 bytes", "for longer input refused 5 0".
+abbrev pub longest : ℕ
+longest = 16384
+
+unfoldable pub listedOf : List ℕ → Survey
+listedOf s = cond (leb (length s) longest) (surveyOf s) (refusedWith refusal.Room)

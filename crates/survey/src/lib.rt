@@ -2,7 +2,7 @@
 ghost use mathlib.Core.Path.{_≡_};
 ghost use Rattle.rules.specs.declared.HeaderRead.the-variants as header;
 ghost use Rattle.rules.specs.Document.Numbers.{readHeader, readParts};
-ghost use Rattle.survey.specs.Surveyed.{refusedWith, endedWith, surveyOf};
+ghost use Rattle.survey.specs.Surveyed.{refusedWith, endedWith, surveyOf, listedOf};
 use record::Name;
 use rules::Header;
 use rules::HeaderRead;
@@ -12,6 +12,9 @@ use rules::Plane;
 use rules::Refusal;
 use rules::Size;
 use rules::Verdict;
+
+// The longest input that partlist takes.
+pub const LONGEST: usize = 16384;
 
 pub struct Survey {
     pub verdict: Verdict,
@@ -74,4 +77,14 @@ pub fn survey_of(s: &[u8]) -> Survey
         HeaderRead::Header(h) => walk(s, h),
         HeaderRead::Refused(r) => refused(r),
     }
+}
+
+// What partlist decides of its input.
+pub fn listed(s: &[u8]) -> Survey
+    ensures { λ a. ⌜ a ≡ listedOf (now (s .entry)) ⌝ }
+{
+    if LONGEST < s.len() {
+        return refused(Refusal::Room);
+    }
+    survey_of(s)
 }

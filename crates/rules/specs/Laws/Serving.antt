@@ -1,13 +1,13 @@
--- Serving: what is served is a record with exactly the parts named and no tail; a record without a tail, served whole, is itself.
+-- Serving: what is served is a record with exactly the parts named and no tail; a record served whole is itself less its tail.
 use mathlib.Core.Path.{_≡_, refl, ap, sym, _∙_, subst, subst₂}
-use mathlib.Core.List.{List, [], _∷_, _++_, append-assoc, append-nil}
+use mathlib.Core.List.{List, [], _∷_, _++_, append-assoc}
 use mathlib.Core.Bool.{Bool, true, false, cond, _&&_}
 use Prim.Native.Nat.{ℕ, zero, suc, _+_, _-_, _≤_}
 use native.Mathlib.Omega.{arith}
 use lib.Dec.{leb}
 use borrow.Author.Tests.{le-leb}
-use lib.ListN.{length, take, drop, take-append-drop, drop-of-length-le}
-use lib.Seq.{length-take-le, drop-drop}
+use lib.ListN.{length, take, drop, length-append, length-drop, take-append-drop}
+use lib.Seq.{length-take-le, take-all, take-at, drop-drop}
 use Rattle.rules.specs.declared.Refusal.the-variants as refusal
 use Rattle.rules.specs.declared.Header.{Header}
 use Rattle.rules.specs.declared.HeaderRead.the-variants as header
@@ -141,25 +141,35 @@ selection-all h s before place (p ∷ ps) c =
     let n : leb 0 (p .plane .0) ≡ true = le-leb 0 (p .plane .0) (omega arith) in
     rw (k, n) (ap (λ (l : List Part). p ∷ l) (selection-all h s (nameOf p) (p .end) ps (c .1)))
 
-asks-all : (h : Header) → legalAsk h 1 0 ≡ true
+pub asks-all : (h : Header) → legalAsk h 1 0 ≡ true
 unfolding legalAsk
 asks-all h = both _ _ (both _ _ (le-leb 1 1 (omega arith)) (le-leb 1 (levels (h .size)) (omega arith))) (le-leb 0 (h .planes) (omega arith))
 
-serves-all : (s : List ℕ) (h : Header) → h .end ≤ length s → readParts h s .ending ≡ tail 0 → servedBytes h s 1 0 (readParts h s .parts) ≡ s
+serves-all : (s : List ℕ) (h : Header) (k : ℕ) → h .end ≤ length s → readParts h s .ending ≡ tail k
+    → servedBytes h s 1 0 (readParts h s .parts) ≡ take (length s - k) s
 unfolding servedBytes
-serves-all s h l e =
+serves-all s h k l e =
     let c = selection-all h s (record { plane = h .planes; level = 0 }) (h .end) (readParts h s .parts) (readParts-whole h s) in
-    let d : drop (length s - 0) s ≡ [] = drop-of-length-le s {i = length s - 0} (omega arith) in
-    ap (λ (x : List ℕ). take (h .end) s ++ x)
-    (flat-selection s 1 0 (readParts h s .parts) ∙ ap (flat (wholeOf s)) c ∙ sym (append-nil _) ∙ ap (λ (x : List ℕ). flat (wholeOf s) (readParts h s .parts) ++ x) (sym d))
-    ∙ record-bytes h s 0 l e
+    let kept = take (h .end) s ++ flat (wholeOf s) (readParts h s .parts) in
+    let cut = drop (length s - k) s in
+    let whole : kept ++ cut ≡ s = append-assoc (take (h .end) s) _ cut ∙ record-bytes h s k l e in
+    let n : length kept ≡ length s - k = omega (arith, sym (length-append kept cut) ∙ ap length whole, length-drop (length s - k) s) in
+    ap (λ (x : List ℕ). take (h .end) s ++ x) (flat-selection s 1 0 (readParts h s .parts) ∙ ap (flat (wholeOf s)) c)
+    ∙ sym (take-at kept cut (length s - k) n) ∙ ap (take (length s - k)) whole
 
--- A record without a tail, served whole, is itself.
+-- A record served whole is itself less its tail, in whatever room there is; without a tail it is itself.
+pub serving-all : (s : List ℕ) (h : Header) (k room : ℕ) → readHeader s ≡ header.Header h → readParts h s .ending ≡ tail k
+    → serving s 1 0 room ≡ portioned (take (length s - k) s) k room
+unfolding serving onHeader onEnding unless
+serving-all s h k room a e =
+    rw (a, asks-all h, e) (ap (λ (x : List ℕ). portioned x k room) (serves-all s h k (header-within (readHeader-stands s h a)) e))
+
 pub served-whole : (s : List ℕ) (h : Header) (room : ℕ) → readHeader s ≡ header.Header h → readParts h s .ending ≡ tail 0 → length s ≤ room
     → serving s 1 0 room ≡ accepted (record { bytes = s; tail = 0 })
+unfolding portioned unless
 served-whole s h room a e l =
-    let b : servedBytes h s 1 0 (readParts h s .parts) ≡ s = serves-all s h (header-within (readHeader-stands s h a)) e in
-    serving-accepts s h 1 0 0 room a (asks-all h) e (subst (λ (x : List ℕ). length x ≤ room) (sym b) l) ∙ ap (λ (x : List ℕ). accepted (record { bytes = x; tail = 0 })) b
+    let b : take (length s - 0) s ≡ s = take-all (length s - 0) s (omega arith) in
+    serving-all s h 0 room a e ∙ rw (b, le-leb (length s) room l)
 
 -- What was served is accepted by serving, for any legal request and with room.
 pub served-is-record : (s : List ℕ) (r p room : ℕ) (x : Portion) → serving s r p room ≡ accepted x

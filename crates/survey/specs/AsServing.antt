@@ -1,0 +1,98 @@
+-- "It checks as serving with r = 1, p = 0 does": what serving a record whole answers, in any room, is told by its survey.
+use mathlib.Core.Path.{_≡_, refl, ap, sym, _∙_}
+use mathlib.Core.List.{List}
+use mathlib.Core.Bool.{Bool, true, false, cond}
+use Prim.Native.Nat.{ℕ, _-_, _≤_, _<_}
+use native.Mathlib.Omega.{arith}
+use lib.Dec.{leb}
+use lib.ListN.{length, take, length-take}
+use borrow.Author.Tests.{le-leb, lt-leb}
+use Rattle.rules.specs.declared.Refusal.{Refusal}
+use Rattle.rules.specs.declared.Refusal.the-variants as refusal
+use Rattle.rules.specs.declared.Verdict.{Verdict}
+use Rattle.rules.specs.declared.Verdict.the-variants.{Accepted, Refused}
+use Rattle.rules.specs.declared.Served.{Served}
+use Rattle.rules.specs.declared.Header.{Header}
+use Rattle.rules.specs.declared.HeaderRead.{HeaderRead}
+use Rattle.rules.specs.declared.HeaderRead.the-variants as header
+use Rattle.rules.specs.Document.Pyramid.{legalSize}
+use Rattle.rules.specs.Document.Numbers.{Ending, tail, fault, readHeader, readParts}
+use Rattle.rules.specs.Document.Calls.{Result, refused, accepted, unless, onHeader, onEnding, Portion, portioned, serving, serveAnswer, Serving}
+use Rattle.rules.specs.Laws.Reading.{readHeader-stands, header-legal}
+use Rattle.rules.specs.Laws.Serving.{asks-all, serving-all}
+use Rattle.survey.specs.declared.Survey.{Survey}
+use Rattle.survey.specs.Surveyed.{refusedWith, endedWith, headedWith, surveyOf, longest, listedOf}
+
+-- Serving whole what was surveyed so: refused for the same cause, or all but the tail in the room that there is.
+unfoldable pub wholeBy : List ℕ → ℕ → ℕ → Verdict → Result Portion
+wholeBy s t room Accepted = portioned (take (length s - t) s) t room
+wholeBy s t room (Refused r) = refused r
+
+pub serving-surveyed : (s : List ℕ) (room : ℕ) → serving s 1 0 room ≡ wholeBy s (surveyOf s .tail) room (surveyOf s .verdict)
+unfolding surveyOf wholeBy serving onHeader onEnding unless
+serving-surveyed s room = headed (readHeader s) refl
+  where
+    whole : HeaderRead → Result Portion
+    whole x = wholeBy s (headedWith s x .tail) room (headedWith s x .verdict)
+
+    ended : (h : Header) → readHeader s ≡ header.Header h → (e : Ending) → readParts h s .ending ≡ e
+        → serving s 1 0 room ≡ wholeBy s (endedWith h e .tail) room (endedWith h e .verdict)
+    ended h f (tail t) g = serving-all s h t room f g
+    ended h f (fault r) g = rw (f, asks-all h, g)
+
+    headed : (x : HeaderRead) → readHeader s ≡ x → serving s 1 0 room ≡ whole x
+    headed (header.Header h) f = ended h f (readParts h s .ending) refl
+    headed (header.Refused r) f = rw f
+
+-- The same verdict, so the same number and place; and the same tail.
+pub record Alike (found : Survey) (answer : Served) : Type 0 where
+  pub verdict : found .verdict ≡ answer .verdict
+  pub tail : found .tail ≡ answer .tail
+
+-- A refusal has no tail.
+surveyOf-case : (P : Survey → Type 0) (s : List ℕ) → ((r : Refusal) → P (refusedWith r))
+    → ((h : Header) (t : ℕ) → readHeader s ≡ header.Header h → P (record { verdict = Accepted; header = h; tail = t })) → P (surveyOf s)
+unfolding surveyOf
+surveyOf-case P s bad on = headed (readHeader s) refl
+  where
+    ended : (h : Header) → readHeader s ≡ header.Header h → (e : Ending) → P (endedWith h e)
+    ended h f (tail t) = on h t f
+    ended h f (fault r) = bad r
+
+    headed : (x : HeaderRead) → readHeader s ≡ x → P (headedWith s x)
+    headed (header.Header h) f = ended h f (readParts h s .ending)
+    headed (header.Refused r) f = bad r
+
+pub survey-as-serving : {s out out′ : List ℕ} {answer : Served} → Serving s 1 0 out answer out′ → length s ≤ length out → Alike (surveyOf s) answer
+unfolding wholeBy portioned unless serveAnswer
+survey-as-serving {s = s} {out = out} v l =
+    rw (v .answers, serving-surveyed s (length out))
+    (surveyOf-case (λ a. Alike a (serveAnswer (wholeBy s (a .tail) (length out) (a .verdict)))) s (λ r. record { verdict = refl; tail = refl })
+    (λ h t e.
+    let m : length (take (length s - t) s) ≤ length out = rw (length-take (length s - t) s) (omega arith) in
+    rw (le-leb _ _ m) (record { verdict = refl; tail = refl })))
+
+-- For input that partlist takes; longer input is refused with 5 at 0.
+pub listed-short : (s : List ℕ) → length s ≤ longest → listedOf s ≡ surveyOf s
+unfolding listedOf
+listed-short s l = rw (le-leb (length s) longest l)
+
+pub listed-long : (s : List ℕ) → longest < length s → listedOf s ≡ refusedWith refusal.Room
+unfolding listedOf
+listed-long s l = rw (lt-leb (length s) longest l)
+
+pub listed-as-serving : {s out out′ : List ℕ} {answer : Served} → Serving s 1 0 out answer out′ → length s ≤ length out → length s ≤ longest
+    → Alike (listedOf s) answer
+listed-as-serving {s = s} v l m = rw (listed-short s m) (survey-as-serving v l)
+
+-- What is listed as accepted has the record's own header.
+pub listed-header : (s : List ℕ) → listedOf s .verdict ≡ Accepted → readHeader s ≡ header.Header (listedOf s .header)
+unfolding listedOf
+listed-header s = go (leb (length s) longest)
+  where
+    HasHeader : Survey → Type 0
+    HasHeader a = a .verdict ≡ Accepted → readHeader s ≡ header.Header (a .header)
+
+    go : (b : Bool) → HasHeader (cond b (surveyOf s) (refusedWith refusal.Room))
+    go true = surveyOf-case HasHeader s (λ r e. absurd (let z : _≡_ {A = ℕ} 0 1 = cc in omega arith)) (λ h t f e. f)
+    go false = λ e. absurd (let z : _≡_ {A = ℕ} 0 1 = cc in omega arith)
