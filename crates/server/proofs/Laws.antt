@@ -26,7 +26,7 @@ use Rattle.rules.specs.Document.Passes.{PartName}
 use Rattle.rules.specs.Document.Layout.{wholeOf, nameOf}
 use Rattle.rules.specs.Document.Numbers.{Ending, tail, fault, Reading, readHeader, readPart, readParts}
 use Rattle.rules.specs.Document.Calls.{refused, accepted, unless, onHeader, onEnding, legalAsk, keptOf, servedBytes, Portion, portioned, serving, filled, serveOut, serveAnswer, Serving}
-use Rattle.rules.specs.Laws.Reading.{HeaderStands, readHeader-stands, header-legal, header-within, PartStands, readPart-stands}
+use Rattle.rules.specs.Laws.Reading.{HeaderStands, readHeader-stands, header-legal, header-within, PartStands, readPart-stands, part-further}
 use Rattle.rules.specs.Laws.Walk.{partsFrom, readParts-from, partsFrom-part, partsFrom-tail, partsFrom-fault}
 use Rattle.rules.specs.Laws.Output.{clipped, clipped-nothing, clipped-length, clipped-append, clipped-fits}
 use Rattle.rules.specs.Laws.Selection.{whole-length}
@@ -147,9 +147,7 @@ module _ (s : List ℕ) (h : Header) (level : Level) (plane : Plane) where
         }
 
     pub walking-further : (p : Part) (r : PartRead) → r ≡ readPart h s before place → r ≡ part.Part p → length s - p .end < length s - place
-    walking-further p r e f =
-        let st = readPart-stands h s before place p (sym e ∙ f) in
-        omega (arith, st .after, st .end, st .within)
+    walking-further p r e f = part-further (readPart-stands h s before place p (sym e ∙ f))
 
     -- The walk's two ends, for whoever lent the output as `first`.
     module _ (first : List ℕ) (lent : room ≡ length first) where

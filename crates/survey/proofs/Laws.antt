@@ -1,9 +1,8 @@
 -- The walk of a survey: how the bytes end does not change from place to place.
-use mathlib.Core.Path.{_≡_, refl, ap, sym, _∙_}
+use mathlib.Core.Path.{_≡_, ap, sym, _∙_}
 use mathlib.Core.List.{List}
 use mathlib.Core.Bool.{true}
 use Prim.Native.Nat.{ℕ, _-_, _≤_, _<_}
-use native.Mathlib.Omega.{arith}
 use lib.ListN.{length}
 use Rattle.rules.specs.declared.Refusal.{Refusal}
 use Rattle.rules.specs.declared.Verdict.the-variants.{Accepted}
@@ -16,8 +15,8 @@ use Rattle.rules.specs.declared.PartRead.the-variants as part
 use Rattle.rules.specs.Document.Pyramid.{legalSize}
 use Rattle.rules.specs.Document.Passes.{PartName}
 use Rattle.rules.specs.Document.Layout.{nameOf}
-use Rattle.rules.specs.Document.Numbers.{Ending, tail, fault, Reading, readHeader, readPart, readParts}
-use Rattle.rules.specs.Laws.Reading.{HeaderStands, readHeader-stands, header-legal, header-within, PartStands, readPart-stands}
+use Rattle.rules.specs.Document.Numbers.{Reading, readHeader, readPart, readParts}
+use Rattle.rules.specs.Laws.Reading.{readHeader-stands, header-legal, header-within, readPart-stands, part-further}
 use Rattle.rules.specs.Laws.Walk.{partsFrom, readParts-from, partsFrom-part, partsFrom-tail, partsFrom-fault}
 use Rattle.survey.specs.declared.Survey.{Survey}
 use Rattle.survey.specs.Surveyed.{refusedWith, endedWith, headedWith, surveyOf}
@@ -40,7 +39,7 @@ module _ (s : List ℕ) (h : Header) where
         record { read = v .read; ends = ap (λ (x : Reading). x .ending) (sym (partsFrom-part h s before place p (sym e ∙ f))) ∙ v .ends; within = st .within }
 
     pub surveying-further : (p : Part) → r ≡ part.Part p → length s - p .end < length s - place
-    surveying-further p f = let st = readPart-stands h s before place p (sym e ∙ f) in omega (arith, st .after, st .end, st .within)
+    surveying-further p f = part-further (readPart-stands h s before place p (sym e ∙ f))
 
     pub surveying-whole : r ≡ part.Tail → record { verdict = Accepted; header = h; tail = length s - place } ≡ endedWith h (readParts h s .ending)
     surveying-whole f = ap (endedWith h) (ap (λ (x : Reading). x .ending) (sym (partsFrom-tail h s before place (sym e ∙ f))) ∙ v .ends)

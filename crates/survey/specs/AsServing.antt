@@ -17,60 +17,57 @@ use Rattle.rules.specs.declared.HeaderRead.{HeaderRead}
 use Rattle.rules.specs.declared.HeaderRead.the-variants as header
 use Rattle.rules.specs.Document.Pyramid.{legalSize}
 use Rattle.rules.specs.Document.Numbers.{Ending, tail, fault, readHeader, readParts}
-use Rattle.rules.specs.Document.Calls.{Result, refused, accepted, unless, onHeader, onEnding, Portion, portioned, serving, serveAnswer, Serving}
+use Rattle.rules.specs.Document.Calls.{Result, refused, unless, onHeader, onEnding, Portion, portioned, serving, serveAnswer, Serving}
 use Rattle.rules.specs.Laws.Reading.{readHeader-stands, header-legal}
 use Rattle.rules.specs.Laws.Serving.{asks-all, serving-all}
 use Rattle.survey.specs.declared.Survey.{Survey}
 use Rattle.survey.specs.Surveyed.{refusedWith, endedWith, headedWith, surveyOf, longest, listedOf}
 
--- Serving whole what was surveyed so: refused for the same cause, or all but the tail in the room that there is.
+-- What serving whole makes of a record with this verdict and tail: refused for the same cause, or all but the tail in the room that there is.
 unfoldable pub wholeBy : List ℕ → ℕ → ℕ → Verdict → Result Portion
 wholeBy s t room Accepted = portioned (take (length s - t) s) t room
 wholeBy s t room (Refused r) = refused r
-
-pub serving-surveyed : (s : List ℕ) (room : ℕ) → serving s 1 0 room ≡ wholeBy s (surveyOf s .tail) room (surveyOf s .verdict)
-unfolding surveyOf wholeBy serving onHeader onEnding unless
-serving-surveyed s room = headed (readHeader s) refl
-  where
-    whole : HeaderRead → Result Portion
-    whole x = wholeBy s (headedWith s x .tail) room (headedWith s x .verdict)
-
-    ended : (h : Header) → readHeader s ≡ header.Header h → (e : Ending) → readParts h s .ending ≡ e
-        → serving s 1 0 room ≡ wholeBy s (endedWith h e .tail) room (endedWith h e .verdict)
-    ended h f (tail t) g = serving-all s h t room f g
-    ended h f (fault r) g = rw (f, asks-all h, g)
-
-    headed : (x : HeaderRead) → readHeader s ≡ x → serving s 1 0 room ≡ whole x
-    headed (header.Header h) f = ended h f (readParts h s .ending) refl
-    headed (header.Refused r) f = rw f
 
 -- The same verdict, so the same number and place; and the same tail.
 pub record Alike (found : Survey) (answer : Served) : Type 0 where
   pub verdict : found .verdict ≡ answer .verdict
   pub tail : found .tail ≡ answer .tail
 
--- A refusal has no tail.
-surveyOf-case : (P : Survey → Type 0) (s : List ℕ) → ((r : Refusal) → P (refusedWith r))
-    → ((h : Header) (t : ℕ) → readHeader s ≡ header.Header h → P (record { verdict = Accepted; header = h; tail = t })) → P (surveyOf s)
+-- Each way in which a survey ends.
+surveyOf-case : (P : Survey → Type 0) (s : List ℕ) → ((r : Refusal) → readHeader s ≡ header.Refused r → P (refusedWith r))
+    → ((h : Header) (r : Refusal) → readHeader s ≡ header.Header h → readParts h s .ending ≡ fault r → P (refusedWith r))
+    → ((h : Header) (t : ℕ) → readHeader s ≡ header.Header h → readParts h s .ending ≡ tail t
+    → P (record { verdict = Accepted; header = h; tail = t }))
+    → P (surveyOf s)
 unfolding surveyOf
-surveyOf-case P s bad on = headed (readHeader s) refl
+surveyOf-case P s headless faulty whole = headed (readHeader s) refl
   where
-    ended : (h : Header) → readHeader s ≡ header.Header h → (e : Ending) → P (endedWith h e)
-    ended h f (tail t) = on h t f
-    ended h f (fault r) = bad r
+    ended : (h : Header) → readHeader s ≡ header.Header h → (e : Ending) → readParts h s .ending ≡ e → P (endedWith h e)
+    ended h f (tail t) g = whole h t f g
+    ended h f (fault r) g = faulty h r f g
 
     headed : (x : HeaderRead) → readHeader s ≡ x → P (headedWith s x)
-    headed (header.Header h) f = ended h f (readParts h s .ending)
-    headed (header.Refused r) f = bad r
+    headed (header.Header h) f = ended h f (readParts h s .ending) refl
+    headed (header.Refused r) f = headless r f
 
+pub serving-surveyed : (s : List ℕ) (room : ℕ) → serving s 1 0 room ≡ wholeBy s (surveyOf s .tail) room (surveyOf s .verdict)
+unfolding wholeBy serving onHeader onEnding unless
+serving-surveyed s room =
+    surveyOf-case (λ a. serving s 1 0 room ≡ wholeBy s (a .tail) room (a .verdict)) s (λ r f. rw f) (λ h r f g. rw (f, asks-all h, g))
+    (λ h t f g. serving-all s h t room f g)
+
+-- With room for the record a survey says what serving it whole says.
 pub survey-as-serving : {s out out′ : List ℕ} {answer : Served} → Serving s 1 0 out answer out′ → length s ≤ length out → Alike (surveyOf s) answer
 unfolding wholeBy portioned unless serveAnswer
 survey-as-serving {s = s} {out = out} v l =
     rw (v .answers, serving-surveyed s (length out))
-    (surveyOf-case (λ a. Alike a (serveAnswer (wholeBy s (a .tail) (length out) (a .verdict)))) s (λ r. record { verdict = refl; tail = refl })
-    (λ h t e.
+    (surveyOf-case (λ a. Alike a (serveAnswer (wholeBy s (a .tail) (length out) (a .verdict)))) s (λ r f. alike) (λ h r f g. alike)
+    (λ h t f g.
     let m : length (take (length s - t) s) ≤ length out = rw (length-take (length s - t) s) (omega arith) in
-    rw (le-leb _ _ m) (record { verdict = refl; tail = refl })))
+    rw (le-leb _ _ m) alike))
+  where
+    alike : {a : Survey} {n : ℕ} → Alike a (record { verdict = a .verdict; length = n; tail = a .tail })
+    alike = record { verdict = refl; tail = refl }
 
 -- For input that partlist takes; longer input is refused with 5 at 0.
 pub listed-short : (s : List ℕ) → length s ≤ longest → listedOf s ≡ surveyOf s
@@ -93,6 +90,13 @@ listed-header s = go (leb (length s) longest)
     HasHeader : Survey → Type 0
     HasHeader a = a .verdict ≡ Accepted → readHeader s ≡ header.Header (a .header)
 
+    refusal-has : (r : Refusal) → HasHeader (refusedWith r)
+    refusal-has r e = absurd (let z : _≡_ {A = ℕ} 0 1 = cc in omega arith)
+
     go : (b : Bool) → HasHeader (cond b (surveyOf s) (refusedWith refusal.Room))
-    go true = surveyOf-case HasHeader s (λ r e. absurd (let z : _≡_ {A = ℕ} 0 1 = cc in omega arith)) (λ h t f e. f)
-    go false = λ e. absurd (let z : _≡_ {A = ℕ} 0 1 = cc in omega arith)
+    go true = surveyOf-case HasHeader s (λ r f. refusal-has r) (λ h r f g. refusal-has r) (λ h t f g e. f)
+    go false = refusal-has refusal.Room
+
+pub listed-legal : (s : List ℕ) (a : Survey) → a ≡ listedOf s → a .verdict ≡ Accepted → legalSize (a .header .size) ≡ true
+listed-legal s a e f =
+    rw e (header-legal (readHeader-stands s (listedOf s .header) (listed-header s (ap (λ (x : Survey). x .verdict) (sym e) ∙ f))))

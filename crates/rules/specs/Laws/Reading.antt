@@ -2,7 +2,7 @@
 use mathlib.Core.Path.{_≡_, subst}
 use mathlib.Core.List.{List, [], _∷_}
 use mathlib.Core.Bool.{true, _&&_}
-use Prim.Native.Nat.{ℕ, _+_, _≤_, _<_}
+use Prim.Native.Nat.{ℕ, _+_, _-_, _≤_, _<_}
 use native.Mathlib.Omega.{arith}
 use lib.Dec.{leb}
 use lib.ListN.{length}
@@ -110,3 +110,8 @@ readPart-stands h s before place p e = cases (subst (PartCase h s before place) 
               within = w;
               clear = passed _ (λ e. n (pad-set s p e));
             }
+
+-- Behind a part less is left to read.
+pub part-further : {h : Header} {s : List ℕ} {before : PartName} {place : ℕ} {p : Part} → PartStands h s before place p
+    → length s - p .end < length s - place
+part-further t = omega (arith, t .after, t .end, t .within)

@@ -1,0 +1,50 @@
+use mathlib.Core.Path.{_≡_, sym, _∙_}
+use mathlib.Core.Bool.{true}
+use Prim.Native.Nat.{_-_}
+use lib.ListN.{length}
+use Rattle.rules.specs.Document.Pyramid.{legalSize}
+use Rattle.rules.specs.Laws.Reading.{readPart-stands, part-further}
+use borrow.Author.Needs.{needs}
+use Rattle.partlist.proofs.print_parts.Statement.{statement}
+use Rattle.partlist.proofs.print_parts.Tie as tie
+
+abbrev Inv-loop : tie.InvT-loop
+Inv-loop s h before₀ place₀ before place = legalSize (h .size) ≡ true
+
+abbrev μ-loop : tie.MeasureT-loop
+μ-loop s h before₀ place₀ before place = length s - place
+
+loop-holds : tie.Need-loop-holds Inv-loop μ-loop
+loop-holds c = search needs
+
+read-part-requires : tie.Need-read-part-requires Inv-loop μ-loop
+read-part-requires c κs = search needs
+
+enum-known-p : tie.Need-enum-known-p Inv-loop μ-loop
+enum-known-p c = search needs
+
+returns : tie.Need-returns Inv-loop μ-loop
+returns c = search needs
+
+print-part-requires : tie.Need-print-part-requires Inv-loop μ-loop
+print-part-requires c κs = search needs
+
+loop-less : tie.Need-loop-less Inv-loop μ-loop
+loop-less c = part-further (readPart-stands _ _ _ _ _ (sym (c .before .before .before .before .before .before .read-part .ensures) ∙ c .before .before .before .before .p .given .1))
+
+loop-again : tie.Need-loop-again Inv-loop μ-loop
+loop-again c = search needs
+
+pub print-parts-spec : {M : Type 1} → statement M
+print-parts-spec =
+    tie.close
+    (tie.spec
+    Inv-loop
+    μ-loop
+    loop-holds
+    read-part-requires
+    enum-known-p
+    returns
+    print-part-requires
+    loop-less
+    loop-again)

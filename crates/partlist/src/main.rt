@@ -1,0 +1,100 @@
+// Prints what the record on standard input holds: its header, its parts and its tail. Of a record that is refused it prints the refusal alone, so
+// the whole is judged before the first line.
+ghost use mathlib.Core.Path.{_≡_};
+ghost use mathlib.Core.Bool.{true};
+ghost use Rattle.rules.specs.Document.Pyramid.{legalSize};
+use libc::STDIN_FILENO;
+use libc::STDOUT_FILENO;
+use record::Name;
+use rules::Header;
+use rules::Level;
+use rules::Part;
+use rules::PartRead;
+use rules::Plane;
+use rules::Verdict;
+
+fn print_number(n: usize) {
+    io::write_all(STDOUT_FILENO, b" ");
+    io::print_decimal(STDOUT_FILENO, n as u64);
+}
+
+fn end_line() {
+    io::write_all(STDOUT_FILENO, b"\n");
+}
+
+fn print_header(h: Header) {
+    let size = h.size;
+    io::write_all(STDOUT_FILENO, b"record");
+    print_number(size.w);
+    print_number(size.h);
+    print_number(size.n);
+    print_number(h.planes);
+    end_line();
+}
+
+fn print_part(p: Part) {
+    let plane = p.plane;
+    let level = p.level;
+    io::write_all(STDOUT_FILENO, b"part");
+    print_number(plane.0);
+    print_number(level.0);
+    print_number(p.bits);
+    end_line();
+}
+
+fn print_parts(s: &[u8], h: Header)
+    requires { ⌜ legalSize (h .size) ≡ true ⌝ }
+{
+    let mut before = Name {
+        plane: Plane(h.planes),
+        level: Level(0),
+    };
+    let mut place = h.end;
+    loop {
+        let PartRead::Part(p) = record::read_part(s, h, before, place) else {
+            return;
+        };
+        print_part(p);
+        let own_plane = p.plane;
+        let own_level = p.level;
+        before = Name {
+            plane: own_plane,
+            level: own_level,
+        };
+        place = p.end;
+    }
+}
+
+fn print_tail(length: usize) {
+    io::write_all(STDOUT_FILENO, b"tail");
+    print_number(length);
+    end_line();
+}
+
+fn print_refusal(v: Verdict) {
+    io::write_all(STDOUT_FILENO, b"refused");
+    print_number(answers::number(v) as usize);
+    print_number(answers::place(v) as usize);
+    end_line();
+}
+
+fn print_listing(s: &[u8]) {
+    let found = survey::listed(s);
+    let verdict = found.verdict;
+    let header = found.header;
+    match verdict {
+        Verdict::Accepted => {
+            print_header(header);
+            print_parts(s, header);
+            print_tail(found.tail);
+        }
+        Verdict::Refused(_) => print_refusal(verdict),
+    }
+}
+
+fn main() {
+    // One byte more than is taken tells an input that is too long.
+    let mut input = [0u8; survey::LONGEST + 1];
+    let n = io::read_full(STDIN_FILENO, &mut input);
+    print_listing(&input[..n]);
+}
