@@ -4,22 +4,33 @@ use mathlib.Core.List.{List}
 use mathlib.Core.Bool.{cond}
 use Prim.Native.Nat.{ℕ, _≤_, _<_}
 use lib.Dec.{leb}
-use lib.ListN.{length, getD}
+use lib.ListN.{length, getD, replicate}
+use lib.IntN.{ℤ, pos}
 use borrow.Author.Tests.{le-leb, lt-leb}
+use Rattle.rules.specs.declared.Size.{Size}
+use Rattle.rules.specs.declared.Coded.{Coded}
 use Rattle.rules.specs.declared.Served.{Served}
+use Rattle.rules.specs.declared.Decoded.{Decoded}
 use Rattle.rules.specs.Document.Notation.{zeros}
-use Rattle.rules.specs.Document.Calls.{servePlaces, serving, serveAnswer, serveOut, serveNumbers, Serving, returned, reported, lentOut, AfsServe}
+use Rattle.rules.specs.Document.Calls.{returned, reported, lentOut}
+use Rattle.rules.specs.Document.Calls.{codePlaces, coding, codeAnswer, codeNumbers, Coding, AfsCode}
+use Rattle.rules.specs.Document.Calls.{servePlaces, serving, serveAnswer, serveNumbers, Serving, AfsServe}
+use Rattle.rules.specs.Document.Calls.{decodePlaces, decoding, decodeAnswer, decodeNumbers, Decoding, AfsDecode}
 use Rattle.answers.specs.Report.{Reported}
+
+-- What `too_short` leaves.
+abbrev TooShort : List ℕ → ℕ → List ℕ → Type 0
+TooShort answer n answer′ = (n ≡ 5) × (answer′ ≡ zeros (length answer))
 
 module _ (places : ℕ) (answer numbers : List ℕ) where
   -- too short: 5, all 0
-  returned-short : length answer < places → 5 ≡ returned places answer numbers
+  returned-short : (n : ℕ) (answer′ : List ℕ) → length answer < places → TooShort answer n answer′ → n ≡ returned places answer numbers
   unfolding returned
-  returned-short l = rw (lt-leb places (length answer) l)
+  returned-short n answer′ l r = rw (lt-leb places (length answer) l) (r .0)
 
-  reported-short : length answer < places → zeros (length answer) ≡ reported places answer numbers
+  reported-short : (n : ℕ) (answer′ : List ℕ) → length answer < places → TooShort answer n answer′ → answer′ ≡ reported places answer numbers
   unfolding reported
-  reported-short l = rw (lt-leb places (length answer) l)
+  reported-short n answer′ l r = rw (lt-leb places (length answer) l) (r .1)
 
   lent-short : {X : Type 0} (out cleared : X) → length answer < places → cleared ≡ lentOut places answer out cleared
   unfolding lentOut
@@ -38,13 +49,36 @@ module _ (places : ℕ) (answer numbers : List ℕ) where
   unfolding lentOut
   lent-long out cleared l = rw (le-leb places (length answer) l)
 
+module _ (pyramid : List ℤ) (z : Size) (out work answer out′ work′ answer′ : List ℕ) where
+  pub code-short : (n : ℕ) → length answer < codePlaces → out′ ≡ zeros (length out) → work′ ≡ zeros (length work) → TooShort answer n answer′
+      → AfsCode pyramid z out work answer n out′ work′ answer′
+  code-short n l e g r =
+      let numbers = codeNumbers (codeAnswer (coding pyramid z (length out) (length work))) in
+      record {
+        returns = returned-short codePlaces answer numbers n answer′ l r;
+        reports = reported-short codePlaces answer numbers n answer′ l r;
+        writes = e ∙ lent-short codePlaces answer numbers _ _ l;
+        clears = g;
+      }
+
+  pub code-long : (a : Coded) (n : ℕ) → codePlaces ≤ length answer → Coding pyramid z out work a out′ work′ → Reported (codeNumbers a) answer n answer′
+      → AfsCode pyramid z out work answer n out′ work′ answer′
+  code-long a n l v r =
+      let e : codeNumbers a ≡ codeNumbers (codeAnswer (coding pyramid z (length out) (length work))) = ap codeNumbers (v .answers) in
+      record {
+        returns = returned-long codePlaces answer (codeNumbers a) n answer′ l r ∙ ap (returned codePlaces answer) e;
+        reports = reported-long codePlaces answer (codeNumbers a) n answer′ l r ∙ ap (reported codePlaces answer) e;
+        writes = v .writes ∙ lent-long codePlaces answer (codeNumbers a) _ _ l;
+        clears = v .clears;
+      }
+
 module _ (s : List ℕ) (level plane : ℕ) (out answer out′ answer′ : List ℕ) where
-  pub serve-short : length answer < servePlaces → out′ ≡ zeros (length out) → answer′ ≡ zeros (length answer) → AfsServe s level plane out answer 5 out′ answer′
-  serve-short l e f =
+  pub serve-short : (n : ℕ) → length answer < servePlaces → out′ ≡ zeros (length out) → TooShort answer n answer′ → AfsServe s level plane out answer n out′ answer′
+  serve-short n l e r =
       let numbers = serveNumbers (serveAnswer (serving s level plane (length out))) in
       record {
-        returns = returned-short servePlaces answer numbers l;
-        reports = f ∙ reported-short servePlaces answer numbers l;
+        returns = returned-short servePlaces answer numbers n answer′ l r;
+        reports = reported-short servePlaces answer numbers n answer′ l r;
         writes = e ∙ lent-short servePlaces answer numbers _ _ l;
       }
 
@@ -56,4 +90,27 @@ module _ (s : List ℕ) (level plane : ℕ) (out answer out′ answer′ : List 
         returns = returned-long servePlaces answer (serveNumbers a) n answer′ l r ∙ ap (returned servePlaces answer) e;
         reports = reported-long servePlaces answer (serveNumbers a) n answer′ l r ∙ ap (reported servePlaces answer) e;
         writes = v .writes ∙ lent-long servePlaces answer (serveNumbers a) _ _ l;
+      }
+
+module _ (s : List ℕ) (out : List ℤ) (work answer : List ℕ) (out′ : List ℤ) (work′ answer′ : List ℕ) where
+  pub decode-short : (n : ℕ) → length answer < decodePlaces → out′ ≡ replicate (length out) (pos 0) → work′ ≡ zeros (length work) → TooShort answer n answer′
+      → AfsDecode s out work answer n out′ work′ answer′
+  decode-short n l e g r =
+      let numbers = decodeNumbers (decodeAnswer (decoding s (length out) (length work))) in
+      record {
+        returns = returned-short decodePlaces answer numbers n answer′ l r;
+        reports = reported-short decodePlaces answer numbers n answer′ l r;
+        writes = e ∙ lent-short decodePlaces answer numbers _ _ l;
+        clears = g;
+      }
+
+  pub decode-long : (a : Decoded) (n : ℕ) → decodePlaces ≤ length answer → Decoding s out work a out′ work′ → Reported (decodeNumbers a) answer n answer′
+      → AfsDecode s out work answer n out′ work′ answer′
+  decode-long a n l v r =
+      let e : decodeNumbers a ≡ decodeNumbers (decodeAnswer (decoding s (length out) (length work))) = ap decodeNumbers (v .answers) in
+      record {
+        returns = returned-long decodePlaces answer (decodeNumbers a) n answer′ l r ∙ ap (returned decodePlaces answer) e;
+        reports = reported-long decodePlaces answer (decodeNumbers a) n answer′ l r ∙ ap (reported decodePlaces answer) e;
+        writes = v .writes ∙ lent-long decodePlaces answer (decodeNumbers a) _ _ l;
+        clears = v .clears;
       }

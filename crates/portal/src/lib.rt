@@ -1,8 +1,45 @@
 // The calls exported to the portal's C host: thin, on plain numbers and slices, over the proved routines.
 ghost use mathlib.Core.Path.{_≡_};
-ghost use Rattle.rules.specs.Document.Calls.{AfsServe};
+ghost use lib.ListN.{length};
+ghost use Rattle.rules.specs.Document.Notation.{zeros};
+ghost use Rattle.rules.specs.Document.Calls.{AfsCode, AfsServe, AfsDecode};
 use rules::Level;
 use rules::Plane;
+use rules::Size;
+
+// An answer slice that its answer doesn't fit in: all 0, and the number of ROOM is only returned.
+fn too_short(answer: &mut [u64]) -> u64
+    ensures { λ n. ⌜ (n ≡ 5) × (now (answer .exit) ≡ zeros (length (now (answer .entry)))) ⌝ }
+{
+    memory::zero_u64(answer);
+    5
+}
+
+#[no_mangle]
+pub extern "C" fn afs_code(
+    pyramid: &[i32],
+    w: u64,
+    h: u64,
+    n: u64,
+    out: &mut [u8],
+    work: &mut [u32],
+    answer: &mut [u64],
+) -> u64
+    ensures { λ number. ⌜ AfsCode (now (pyramid .entry)) (record { w = w; h = h; n = n }) (now (out .entry)) (now (work .entry)) (now (answer .entry)) number (now (out .exit)) (now (work .exit)) (now (answer .exit)) ⌝ }
+{
+    if answer.len() < 3 {
+        memory::zero_u8(out);
+        memory::zero_u32(work);
+        return too_short(answer);
+    }
+    let z = Size {
+        w: w as usize,
+        h: h as usize,
+        n: n as usize,
+    };
+    let a = coder::code(pyramid, z, out, work);
+    answers::report_coded(a, answer)
+}
 
 #[no_mangle]
 pub extern "C" fn afs_serve(
@@ -16,9 +53,26 @@ pub extern "C" fn afs_serve(
 {
     if answer.len() < 4 {
         memory::zero_u8(out);
-        memory::zero_u64(answer);
-        return 5;
+        return too_short(answer);
     }
     let a = server::serve(bytes, Level(level as usize), Plane(plane as usize), out);
     answers::report_served(a, answer)
+}
+
+#[no_mangle]
+pub extern "C" fn afs_decode(
+    bytes: &[u8],
+    out: &mut [i32],
+    work: &mut [u32],
+    answer: &mut [u64],
+) -> u64
+    ensures { λ n. ⌜ AfsDecode (now (bytes .entry)) (now (out .entry)) (now (work .entry)) (now (answer .entry)) n (now (out .exit)) (now (work .exit)) (now (answer .exit)) ⌝ }
+{
+    if answer.len() < 9 {
+        memory::zero_i32(out);
+        memory::zero_u32(work);
+        return too_short(answer);
+    }
+    let a = decoder::decode(bytes, out, work);
+    answers::report_decoded(a, answer)
 }

@@ -6,8 +6,8 @@ use Rattle.portal.proofs.afs_serve.Tie as tie
 zero-u8-requires : tie.Need-zero-u8-requires
 zero-u8-requires c κs = search needs
 
-zero-u64-requires : tie.Need-zero-u64-requires
-zero-u64-requires c κs = search needs
+too-short-requires : tie.Need-too-short-requires
+too-short-requires c κs = search needs
 
 same-length : tie.Need-same-length
 same-length c = search needs
@@ -16,7 +16,7 @@ same-length-2 : tie.Need-same-length-2
 same-length-2 c = search needs
 
 returns : tie.Need-returns
-returns c = serve-short _ _ _ _ _ _ _ (c .before .before .before .before .before .before .before .before .if1 .taken) (c .before .before .before .before .before .before .zero-u8 .ensures) (c .before .before .zero-u64 .ensures)
+returns c = serve-short _ _ _ _ _ _ _ _ (c .before .before .before .before .before .before .before .before .if1 .taken) (c .before .before .before .before .before .before .zero-u8 .ensures) (c .before .before .too-short .ensures)
 
 serve-requires : tie.Need-serve-requires
 serve-requires c κs = search needs
@@ -38,7 +38,7 @@ afs-serve-spec =
     tie.close
     (tie.spec
     zero-u8-requires
-    zero-u64-requires
+    too-short-requires
     same-length
     same-length-2
     returns
