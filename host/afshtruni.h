@@ -5,13 +5,14 @@
  * a record: a header, then parts. Each part has a plane (bit planes, counted
  * down to 0, the finest) and a level (1 is the finest, N + 1 the coarsest).
  * A smaller version of a record is some of its parts, so it is cut out of the
- * bytes without decoding them: that is serving.
+ * bytes without decoding them: that is serving. Decoding makes a pyramid of
+ * whatever parts of a record are there, and tells how far each level got.
  *
  * Link with libportal.a (x86-64). It needs no library but C's own, allocates
  * nothing, keeps nothing between calls and may be called from any number of
  * threads at once, each with memory of its own. Every function in it is proved
  * to meet its contract, to end and never to go wrong, for any bytes whatever,
- * provided that the caller keeps to "Memory before the call" below.
+ * provided that the caller keeps to MEMORY BEFORE A CALL below.
  */
 #ifndef AFSHTRUNI_H
 #define AFSHTRUNI_H
@@ -27,26 +28,138 @@ extern "C" {
  * NUMBERS
  *
  * What a call may come back with. 0 is accepted; everything else is a refusal,
- * and then a place is told with it. A place is an offset in the record where
- * the list below says so, and otherwise 0. Where several refusals would be
- * due, the description of the call tells which is given.
+ * and then a place is told with it. A place is an offset in the record, or an
+ * index in the pyramid, where the list below says so, and otherwise 0. Where
+ * several refusals would be due, the description of the call tells which is
+ * given.
  *
  * The numbers are fixed: none will change its meaning.
  */
 enum {
     AFS_ACCEPTED = 0,
     AFS_SIZE = 1,    /* width, height, decompositions or planes not legal; place 0 */
-    AFS_LENGTH = 2,  /* pyramid not exactly width x height; never from serving */
-    AFS_WORK = 3,    /* workspace too small; never from serving */
-    AFS_RANGE = 4,   /* a magnitude over 65535; never from serving */
+    AFS_LENGTH = 2,  /* pyramid not exactly width x height; place 0; never from serving */
+    AFS_WORK = 3,    /* workspace under 4 x width x height; place 0; never from serving */
+    AFS_RANGE = 4,   /* a magnitude over 65535; first such index; only from coding */
     AFS_ROOM = 5,    /* the output, or the answer, is too short; place 0 */
     AFS_HEAD = 6,    /* header ends early, or a number in it is malformed; offset of that number */
     AFS_VERSION = 7, /* version not 1; place 0 */
     AFS_PART = 8,    /* head of a part not legal; offset of the part */
     AFS_PAD = 9,     /* a padding bit set; offset of the part */
-    AFS_FIT = 10,    /* bits of a part run out or are left over; never from serving */
-    AFS_ASK = 11     /* level or plane asked for not legal; place 0 */
+    AFS_FIT = 10,    /* bits of a part run out or are left over; offset of the part; only from decoding */
+    AFS_ASK = 11     /* level or plane asked for not legal; place 0; only from serving */
 };
+
+/*
+ * PYRAMIDS
+ *
+ * Width and height are 4 to 512, both multiples of 2^(N+1); N, the number of
+ * decompositions, is 1 to 5. The coefficients stand row by row: row i, column
+ * j has index i x width + j. The coarsest level, N + 1, is the top left block
+ * of height / 2^N rows and width / 2^N columns; level k, 1 to N, is what lies
+ * in the first height / 2^(k-1) rows and width / 2^(k-1) columns and not in
+ * the first height / 2^k rows and width / 2^k columns.
+ */
+
+/*
+ * MEMORY BEFORE A CALL
+ *
+ * Each length counts elements, not bytes. The caller keeps the stretches that
+ * it lends apart: no byte of one may belong to another. Each is aligned as its
+ * type is. Nobody writes to any of them while the call runs. A pointer may be
+ * NULL where its length is 0.
+ *
+ * What the memory holds after a call depends on the inputs and on the lengths,
+ * never on what it held before. Nothing outside of it is read or written.
+ */
+
+/*
+ * ANSWER OF CODING
+ *
+ * Where each number stands in the answer of afs_code(), and how many there
+ * are. An answer may be longer; what is beyond is set to 0.
+ */
+enum {
+    AFS_CODED_NUMBER = 0, /* one of the numbers above, the same as is returned */
+    AFS_CODED_PLACE = 1,  /* place of a refusal, else 0 */
+    AFS_CODED_LENGTH = 2, /* bytes written to the front of the output, 0 if refused */
+    AFS_CODED_NUMBERS = 3 /* the least length of the answer */
+};
+
+/*
+ * afs_code() - make the record of a pyramid.
+ *
+ * Writes to `out` the header and every part, planes downward and levels
+ * downward in a plane: the pyramid at full detail. For the largest magnitude M
+ * above 0 there are n + 1 planes, where n is log2 M rounded up; a pyramid of
+ * nothing but 0 has no planes, and its record is the header alone.
+ *
+ *   pyramid, pyramid_len   the coefficients, exactly width x height of them;
+ *                          only read
+ *   width, height          4 to 512
+ *   decompositions         N, 1 to 5
+ *   out, out_len           where the record goes; 5 x width x height + 640
+ *                          bytes are always enough
+ *   work, work_len         workspace, at least 4 x width x height numbers
+ *   answer, answer_len     where the answer goes, at least AFS_CODED_NUMBERS
+ *
+ * Returns the number, which is also answer[AFS_CODED_NUMBER] where the answer
+ * is long enough.
+ *
+ * Numbers, in the order in which they are judged; the first that is due is
+ * given:
+ *
+ *   5 ROOM     answer_len is under 3. This alone is judged before all else,
+ *              and only returned: the answer itself is all 0.
+ *   1 SIZE     decompositions not 1 to 5, or width or height not 4 to 512 or
+ *              not a multiple of 2^(N+1). Place 0.
+ *   2 LENGTH   pyramid_len is not exactly width x height. Place 0.
+ *   3 WORK     work_len is under 4 x width x height. Place 0.
+ *   4 RANGE    a magnitude is over 65535. Place: the index of the first one.
+ *   5 ROOM     the whole record is longer than out_len. Place 0.
+ *
+ * Memory after the call.
+ *
+ *   outcome            out                          answer                   work
+ *   accepted           the record, 0 after it       0, 0, length, 0 ...      all 0
+ *   refused            all 0                        number, place, 0, 0 ...  all 0
+ *   answer too short   all 0                        all 0                    all 0
+ *
+ * `width`, `height` and `decompositions` are never truncated: 2^32 + 4 is not
+ * width 4, but SIZE.
+ *
+ * Example. With this pyramid of 4 x 4 coefficients and 1 decomposition,
+ *
+ *    4 -1  0  0
+ *    2  0  0 -3
+ *    0  0  1  0
+ *    0  0  0  0
+ *
+ *   uint8_t out[720];
+ *   uint32_t work[64];
+ *   uint64_t answer[AFS_CODED_NUMBERS];
+ *   if (afs_code(pyramid, 16, 4, 4, 1, out, 720, work, 64, answer, 3) == AFS_ACCEPTED)
+ *       store(out, answer[AFS_CODED_LENGTH]);
+ *
+ * answers 0, 0, 30, and `out` holds this record of 30 bytes, of six parts, and
+ * then 690 bytes of 0:
+ *
+ *   01 04 04 01 03                  version 1, 4 x 4, N = 1, 3 planes
+ *   02 02 05 80                     plane 2, level 2, 5 bits
+ *   02 01 03 00                     plane 2, level 1, 3 bits
+ *   01 02 05 40                     plane 1, level 2, 5 bits
+ *   01 01 08 8C                     plane 1, level 1, 8 bits
+ *   00 02 05 C0                     plane 0, level 2, 5 bits
+ *   00 01 0B 0C 20                  plane 0, level 1, 11 bits
+ *
+ * An `out` of 30 bytes does as well. With one of 29 the answer is 5, 0, 0, and
+ * those are all 0.
+ */
+uint64_t afs_code(const int32_t *pyramid, size_t pyramid_len,
+                  uint64_t width, uint64_t height, uint64_t decompositions,
+                  uint8_t *out, size_t out_len,
+                  uint32_t *work, size_t work_len,
+                  uint64_t *answer, size_t answer_len);
 
 /*
  * ANSWER OF SERVING
@@ -114,33 +227,16 @@ enum {
  * A malformed number is one that goes on after four bytes, or has several and
  * ends in a 0.
  *
- * Memory after the call. Nothing depends on what it held before.
+ * Memory after the call.
  *
  *   outcome            out                          answer
  *   accepted           the result, 0 after it       0, 0, length, tail, 0 ...
  *   refused            all 0                        number, place, 0, 0, 0 ...
  *   answer too short   all 0                        all 0
  *
- * Nothing beyond out[out_len - 1] and answer[answer_len - 1] is written, and
- * nothing beyond record[record_len - 1] is read.
- *
- * Memory before the call. The caller keeps the three stretches apart: no byte
- * of one may belong to another. `answer` is aligned as uint64_t is. Nobody
- * writes to any of the three while the call runs. A pointer may be NULL where
- * its length is 0.
- *
  * `level` and `plane` are never truncated: 2^32 + 1 is not level 1, but ASK.
  *
- * Example. This record of 30 bytes is 4 x 4, with 1 decomposition, 3 planes
- * and all of its six parts:
- *
- *   01 04 04 01 03                  version 1, 4 x 4, N = 1, 3 planes
- *   02 02 05 80                     plane 2, level 2, 5 bits
- *   02 01 03 00                     plane 2, level 1, 3 bits
- *   01 02 05 40                     plane 1, level 2, 5 bits
- *   01 01 08 8C                     plane 1, level 1, 8 bits
- *   00 02 05 C0                     plane 0, level 2, 5 bits
- *   00 01 0B 0C 20                  plane 0, level 1, 11 bits
+ * Example. With the record of 30 bytes that stands at afs_code(),
  *
  *   uint8_t out[30];
  *   uint64_t answer[AFS_SERVED_NUMBERS];
@@ -159,6 +255,102 @@ uint64_t afs_serve(const uint8_t *record, size_t record_len,
                    uint64_t level, uint64_t plane,
                    uint8_t *out, size_t out_len,
                    uint64_t *answer, size_t answer_len);
+
+/*
+ * ANSWER OF DECODING
+ *
+ * Where each number stands in the answer of afs_decode(), and how many there
+ * are. An answer may be longer; what is beyond is set to 0.
+ */
+enum {
+    AFS_DECODED_NUMBER = 0,  /* one of the numbers above, the same as is returned */
+    AFS_DECODED_PLACE = 1,   /* place of a refusal, else 0 */
+    AFS_DECODED_TAIL = 2,    /* bytes of an incomplete part at the record's end, 0 if refused */
+    AFS_DECODED_REACHED = 3, /* six reached planes, level 1 first; 0 beyond level N + 1, 0 if refused */
+    AFS_DECODED_NUMBERS = 9  /* the least length of the answer */
+};
+
+/*
+ * afs_decode() - make a pyramid of the parts of a record that are there.
+ *
+ * Any selection of a record's parts, in their order, is a record. A part is
+ * usable if every part of its own or a higher plane and of its own or a
+ * coarser level is there whole. The usable ones are decoded, the others are
+ * walked over.
+ *
+ * The reached plane of level k stands in answer[AFS_DECODED_REACHED + k - 1]:
+ * the lowest plane whose part of that level is usable, or the number of planes
+ * if none is. Where the record is a selection of what afs_code() wrote, a
+ * coefficient of a level with the reached plane m comes out less than 2^m from
+ * the one that was coded, with no greater magnitude, and with the same sign
+ * unless it is 0. With m = 0 it is exact.
+ *
+ *   record, record_len   the record; only read
+ *   out, out_len         where the pyramid goes: exactly width x height of the
+ *                        record, row by row
+ *   work, work_len       workspace, at least 4 x width x height numbers
+ *   answer, answer_len   where the answer goes, at least AFS_DECODED_NUMBERS
+ *
+ * Returns the number, which is also answer[AFS_DECODED_NUMBER] where the
+ * answer is long enough.
+ *
+ * A part that is cut off by the record's end, in its head or in its body, is
+ * the tail. It is no fault: it is not used, and its length is told.
+ *
+ * Numbers, in the order in which they are judged; the first that is due is
+ * given:
+ *
+ *   5 ROOM     answer_len is under 9. This alone is judged before the record,
+ *              and only returned: the answer itself is all 0.
+ *   6, 7, 6, 1 as afs_serve() judges the header, with the same places.
+ *   2 LENGTH   out_len is not exactly width x height. Place 0.
+ *   3 WORK     work_len is under 4 x width x height. Place 0.
+ *   8 PART     in the first part at fault, as in afs_serve(). Place: the
+ *              offset of the part.
+ *   9 PAD      in the first part at fault, if it isn't 8: as in afs_serve().
+ *              Place: the offset of the part.
+ *   10 FIT     in the first part at fault, if it isn't 8 or 9: the part is
+ *              usable, and its bits run out or are left over. Place: the
+ *              offset of the part.
+ *
+ * The first part at fault decides, whichever of the three its fault is. Parts
+ * that are not usable are judged for 8 and 9, never for 10.
+ *
+ * Memory after the call.
+ *
+ *   outcome            out           answer                                       work
+ *   accepted           the pyramid   0, 0, tail, six reached planes, 0 ...        all 0
+ *   refused            all 0         number, place, 0, 0, 0, 0, 0, 0, 0, 0 ...    all 0
+ *   answer too short   all 0         all 0                                        all 0
+ *
+ * A record that no coder wrote may decode to magnitudes over 65535, up to
+ * 131071.
+ *
+ * Example. With the record of 30 bytes that stands at afs_code(),
+ *
+ *   int32_t out[16];
+ *   uint32_t work[64];
+ *   uint64_t answer[AFS_DECODED_NUMBERS];
+ *   if (afs_decode(record, 30, out, 16, work, 64, answer, 9) == AFS_ACCEPTED)
+ *       draw(out, answer + AFS_DECODED_REACHED);
+ *
+ * answers 0, 0, 0 and six times 0, and `out` holds the pyramid that stands
+ * there. Of the record's first 29 bytes the last 4 are a tail: the answer is
+ * 0, 0, 4, 1, 0, 0, 0, 0, 0, so level 1 got down to plane 1 and level 2 to
+ * plane 0, and `out` holds
+ *
+ *    4 -1  0  0
+ *    2  0  0 -2
+ *    0  0  0  0
+ *    0  0  0  0
+ *
+ * With an `out` of 15 numbers it answers 2, 0, 0 and six times 0, and those
+ * are all 0.
+ */
+uint64_t afs_decode(const uint8_t *record, size_t record_len,
+                    int32_t *out, size_t out_len,
+                    uint32_t *work, size_t work_len,
+                    uint64_t *answer, size_t answer_len);
 
 #ifdef __cplusplus
 }

@@ -1,72 +1,10 @@
 /* Tests of afs_serve as a C program calls it: document 01's cases, each refusal with its place, and all memory lent, for every outcome. */
-#include "afshtruni.h"
+#include "examples.h"
+#include "testing.h"
 
-#include <stdbool.h>
 #include <stdio.h>
 #include <stdlib.h>
 #include <string.h>
-
-#define LENGTH_OF(array) (sizeof(array) / sizeof *(array))
-
-/* Each case is counted once, and tells the first thing that is wrong in it. */
-static unsigned passed, failed;
-static const char *label;
-static bool holds_so_far;
-
-static void begin_case(const char *name) {
-    label = name;
-    holds_so_far = true;
-}
-
-static void check(bool holds, const char *what) {
-    if (holds_so_far && !holds)
-        printf("FAILED: %s: %s\n", label, what);
-    holds_so_far = holds_so_far && holds;
-}
-
-static void end_case(void) {
-    if (holds_so_far)
-        passed++;
-    else
-        failed++;
-}
-
-/* Bytes made of text such as "01 7F", in memory that ends with them, so that a read beyond is noticed under valgrind. */
-typedef struct {
-    uint8_t *at;
-    size_t length;
-} Bytes;
-
-static void *memory_of(size_t size) {
-    void *memory = malloc(size > 0 ? size : 1);
-    if (memory == NULL) {
-        perror("malloc");
-        exit(2);
-    }
-    return memory;
-}
-
-static Bytes copy_of(const uint8_t *from, size_t length) {
-    Bytes bytes = {memory_of(length), length};
-    if (length > 0)
-        memcpy(bytes.at, from, length);
-    return bytes;
-}
-
-static Bytes bytes_of(const char *text) {
-    Bytes bytes = {memory_of(strlen(text) / 2), 0};
-    char *end;
-    for (; *text != '\0'; text = end + strspn(end, " ")) {
-        bytes.at[bytes.length++] = (uint8_t)strtoul(text, &end, 16);
-        if (end != text + 2) {
-            fprintf(stderr, "not a row of bytes: %s\n", text);
-            exit(2);
-        }
-    }
-    Bytes exact = copy_of(bytes.at, bytes.length);
-    free(bytes.at);
-    return exact;
-}
 
 /* A call and what must come of it; `result` is empty for a refusal. */
 typedef struct {
@@ -77,62 +15,28 @@ typedef struct {
     Bytes result;
 } Call;
 
-/* Output and answer are lent dirty, with a guard on both sides. */
-enum { GUARD = 8, DIRT = 0xA5 };
-
-static bool all_are(const void *memory, size_t length, uint8_t value) {
-    const uint8_t *bytes = memory;
-    for (size_t i = 0; i < length; i++)
-        if (bytes[i] != value)
-            return false;
-    return true;
-}
-
-static void check_guards(const void *memory, size_t length, const char *what) {
-    const uint8_t *bytes = memory;
-    check(all_are(bytes - GUARD, GUARD, DIRT) && all_are(bytes + length, GUARD, DIRT), what);
-}
-
-static void check_answer(const Call *call, uint64_t returned, const uint64_t *answer) {
-    size_t written = 0;
-    check(returned == call->number, "number returned");
-    if (call->answer_length >= AFS_SERVED_NUMBERS) {
-        check(answer[AFS_SERVED_NUMBER] == call->number, "number in the answer");
-        check(answer[AFS_SERVED_PLACE] == call->place, "place");
-        check(answer[AFS_SERVED_LENGTH] == call->result.length, "length");
-        check(answer[AFS_SERVED_TAIL] == call->tail, "tail length");
-        written = AFS_SERVED_NUMBERS;
-    }
-    check(all_are(answer + written, (call->answer_length - written) * sizeof *answer, 0), "rest of the answer not 0");
-    check_guards(answer, call->answer_length * sizeof *answer, "written beside the answer");
-}
-
-static void check_out(const Call *call, const uint8_t *out) {
+static void check_out(const Call *call, const Lent *out) {
     const Bytes *result = &call->result;
     if (result->length > 0)
-        check(memcmp(out, result->at, result->length) == 0, "bytes of the result");
-    check(all_are(out + result->length, call->room - result->length, 0), "output not 0 after the result");
-    check_guards(out, call->room, "written beside the output");
+        check(memcmp(out->at, result->at, result->length) == 0, "bytes of the result");
+    check_zero_from(out, result->length, "output not 0 after the result");
 }
 
 static void try_call(const Call *call) {
-    size_t answer_size = call->answer_length * sizeof(uint64_t);
-    uint8_t *out_memory = memory_of(call->room + 2 * GUARD), *out = out_memory + GUARD;
-    uint8_t *answer_memory = memory_of(answer_size + 2 * GUARD);
-    uint64_t *answer = (uint64_t *)(void *)(answer_memory + GUARD);
-    memset(out_memory, DIRT, call->room + 2 * GUARD);
-    memset(answer_memory, DIRT, answer_size + 2 * GUARD);
+    const uint64_t numbers[AFS_SERVED_NUMBERS] = {call->number, call->place, call->result.length, call->tail};
+    Lent out = lend(call->room), answer = lend(call->answer_length * sizeof *numbers);
     Bytes before = copy_of(call->record->at, call->record->length);
 
     uint64_t returned =
-        afs_serve(call->record->at, call->record->length, call->level, call->plane, out, call->room, answer, call->answer_length);
+        afs_serve(call->record->at, call->record->length, call->level, call->plane, out.at, call->room, answer.at, call->answer_length);
 
-    check_answer(call, returned, answer);
-    check_out(call, out);
+    check(returned == call->number, "number returned");
+    check_answer(&answer, numbers, AFS_SERVED_NUMBERS);
+    check_out(call, &out);
     check(memcmp(before.at, call->record->at, before.length) == 0, "record written to");
     free(before.at);
-    free(answer_memory);
-    free(out_memory);
+    take_back(&answer, "written beside the answer");
+    take_back(&out, "written beside the output");
 }
 
 /* The same with answers of other lengths: too short for the answer, and longer than it. */
@@ -172,19 +76,8 @@ static void try_accepted(const Bytes *record, uint64_t level, uint64_t plane, co
         try_answers(refused);
 }
 
-/* Document 01's record in full, and its pieces. */
-#define HEADER "01 04 04 01 03 "
-#define PART_2_2 "02 02 05 80 "
-#define PART_2_1 "02 01 03 00 "
-#define PART_1_2 "01 02 05 40 "
-#define PART_1_1 "01 01 08 8C "
-#define PART_0_2 "00 02 05 C0 "
-#define PART_0_1 "00 01 0B 0C 20 "
-#define EXAMPLE HEADER PART_2_2 PART_2_1 PART_1_2 PART_1_1 PART_0_2 PART_0_1
-
 /* 8 x 8, N = 2, so levels 1 to 3; the bit counts there may be up to 256. */
 #define WIDER "01 08 08 02 02 "
-#define EIGHT "FF 00 55 AA 01 80 7F FE "
 #define BODY_256 EIGHT EIGHT EIGHT EIGHT
 
 typedef struct {
@@ -401,28 +294,27 @@ static void test_cuts(void) {
 }
 
 /* Where a length is 0 the pointer may be NULL. */
-static void try_null(const char *name, Bytes record, uint8_t *out, size_t room, uint64_t *answer, size_t answer_length, uint64_t number) {
+static void try_null(const char *name, Bytes record, size_t room, size_t answer_length, uint64_t number) {
+    const uint64_t numbers[AFS_SERVED_NUMBERS] = {number};
     begin_case(name);
-    if (room > 0)
-        memset(out, DIRT, room);
-    if (answer_length > 0)
-        memset(answer, DIRT, answer_length * sizeof *answer);
-    check(afs_serve(record.at, record.length, 1, 0, out, room, answer, answer_length) == number, "number returned");
-    check(all_are(out, room, 0), "output not all 0");
-    if (answer_length > 0)
-        check(answer[0] == number && all_are(answer + 1, (answer_length - 1) * sizeof *answer, 0), "answer");
+    Lent out = lend(room), answer = lend(answer_length * sizeof *numbers);
+    uint64_t returned = afs_serve(record.at, record.length, 1, 0, room > 0 ? out.at : NULL, room,
+                                  answer_length > 0 ? answer.at : NULL, answer_length);
+    check(returned == number, "number returned");
+    check_answer(&answer, numbers, AFS_SERVED_NUMBERS);
+    check_zero_from(&out, 0, "output not all 0");
+    take_back(&answer, "written beside the answer");
+    take_back(&out, "written beside the output");
     end_case();
 }
 
 static void test_null(void) {
     Bytes example = bytes_of(EXAMPLE), none = {NULL, 0};
-    uint8_t out[30];
-    uint64_t answer[AFS_SERVED_NUMBERS];
-    try_null("record NULL", none, out, 30, answer, AFS_SERVED_NUMBERS, AFS_HEAD);
-    try_null("output NULL", example, NULL, 0, answer, AFS_SERVED_NUMBERS, AFS_ROOM);
-    try_null("record and output NULL", none, NULL, 0, answer, AFS_SERVED_NUMBERS, AFS_HEAD);
-    try_null("answer NULL", example, out, 30, NULL, 0, AFS_ROOM);
-    try_null("all NULL", none, NULL, 0, NULL, 0, AFS_ROOM);
+    try_null("record NULL", none, 30, AFS_SERVED_NUMBERS, AFS_HEAD);
+    try_null("output NULL", example, 0, AFS_SERVED_NUMBERS, AFS_ROOM);
+    try_null("record and output NULL", none, 0, AFS_SERVED_NUMBERS, AFS_HEAD);
+    try_null("answer NULL", example, 30, 0, AFS_ROOM);
+    try_null("all NULL", none, 0, 0, AFS_ROOM);
     free(example.at);
 }
 
@@ -431,6 +323,5 @@ int main(void) {
     test_tables();
     test_cuts();
     test_null();
-    printf("%u passed, %u failed\n", passed, failed);
-    return failed == 0 ? EXIT_SUCCESS : EXIT_FAILURE;
+    return end_tests();
 }
