@@ -59,3 +59,14 @@ fn the_sample_codes_smaller_than_its_picture() {
     assert!(record.len() < shape.area(), "{} bytes", record.len());
     assert_eq!(decoded(&record).1, pyramid);
 }
+
+#[test]
+fn the_shipped_sample_is_made_here() {
+    let shipped = include_bytes!("../../../host/sample/waterfall.pyramid");
+    let made = pyramid(&mut Chance::new(6), shape(64, 64, 3));
+    let bytes: Vec<u8> = made.iter().flat_map(|value| value.to_le_bytes()).collect();
+    assert!(
+        bytes == shipped,
+        "waterfall 64 64 3 6 gives another pyramid"
+    );
+}

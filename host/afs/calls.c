@@ -1,0 +1,106 @@
+#include "calls.h"
+
+#include "record.h"
+
+#include <stdlib.h>
+#include <string.h>
+
+enum { COEFFICIENT_BYTES = 4, WORK_PER_COEFFICIENT = 4 };
+
+/* A record has at most 17 planes, each of at most 37/16 bits a coefficient and, in its six parts, 48 bytes for heads and padding. */
+static size_t room_for_record(size_t coefficients) {
+    return 16 + 17 * (coefficients * 37 / 128 + 48);
+}
+
+static int32_t coefficient_at(const uint8_t *at) {
+    uint32_t bits = (uint32_t)at[0] | (uint32_t)at[1] << 8 | (uint32_t)at[2] << 16 | (uint32_t)at[3] << 24;
+    int32_t coefficient;
+    memcpy(&coefficient, &bits, sizeof coefficient);
+    return coefficient;
+}
+
+static void put_coefficient(uint8_t *at, int32_t coefficient) {
+    uint32_t bits = (uint32_t)coefficient;
+    for (int i = 0; i < COEFFICIENT_BYTES; i++)
+        at[i] = (uint8_t)(bits >> (8 * i));
+}
+
+/* Bytes left over make it no pyramid of any size. It is then lent as an empty one, so that the call judges this in its own order. */
+static size_t coefficients_in(Bytes pyramid) {
+    return pyramid.length % COEFFICIENT_BYTES == 0 ? pyramid.length / COEFFICIENT_BYTES : 0;
+}
+
+Outcome code(Bytes pyramid, uint64_t width, uint64_t height, uint64_t decompositions) {
+    size_t count = coefficients_in(pyramid), room = room_for_record(count), work_count = WORK_PER_COEFFICIENT * count;
+    int32_t *coefficients = memory_for(count, sizeof *coefficients);
+    uint32_t *work = memory_for(work_count, sizeof *work);
+    uint8_t *out = memory_for(room, 1);
+    uint64_t answer[AFS_CODED_NUMBERS];
+    for (size_t i = 0; i < count; i++)
+        coefficients[i] = coefficient_at(pyramid.at + COEFFICIENT_BYTES * i);
+    afs_code(coefficients, count, width, height, decompositions, out, room, work, work_count, answer, AFS_CODED_NUMBERS);
+    free(work);
+    free(coefficients);
+    return (Outcome){
+        .number = answer[AFS_CODED_NUMBER],
+        .place = answer[AFS_CODED_PLACE],
+        .bytes = {out, answer[AFS_CODED_LENGTH]},
+    };
+}
+
+Outcome serve(Bytes record, uint64_t level, uint64_t plane) {
+    uint8_t *out = memory_for(record.length, 1);
+    uint64_t answer[AFS_SERVED_NUMBERS];
+    afs_serve(record.at, record.length, level, plane, out, record.length, answer, AFS_SERVED_NUMBERS);
+    return (Outcome){
+        .number = answer[AFS_SERVED_NUMBER],
+        .place = answer[AFS_SERVED_PLACE],
+        .bytes = {out, answer[AFS_SERVED_LENGTH]},
+        .tail = answer[AFS_SERVED_TAIL],
+    };
+}
+
+static Bytes bytes_of(const int32_t *pyramid, size_t count) {
+    Bytes bytes = {memory_for(count, COEFFICIENT_BYTES), count * COEFFICIENT_BYTES};
+    for (size_t i = 0; i < count; i++)
+        put_coefficient(bytes.at + COEFFICIENT_BYTES * i, pyramid[i]);
+    return bytes;
+}
+
+static Outcome decode_into(Bytes record, int32_t *pyramid, size_t count, uint32_t *work, size_t work_count) {
+    uint64_t answer[AFS_DECODED_NUMBERS];
+    afs_decode(record.at, record.length, pyramid, count, work, work_count, answer, AFS_DECODED_NUMBERS);
+    Outcome outcome = {
+        .number = answer[AFS_DECODED_NUMBER],
+        .place = answer[AFS_DECODED_PLACE],
+        .tail = answer[AFS_DECODED_TAIL],
+    };
+    memcpy(outcome.reached, answer + AFS_DECODED_REACHED, sizeof outcome.reached);
+    return outcome;
+}
+
+Outcome decode(Bytes record) {
+    /* No pyramid is empty: a header at fault is refused here for its fault, and a good one for LENGTH. */
+    Outcome header_judged = decode_into(record, NULL, 0, NULL, 0);
+    if (header_judged.number != AFS_LENGTH)
+        return header_judged;
+    const uint8_t *at = record.at;
+    Header header = read_header(&at);
+    size_t count = (size_t)header.width * header.height, work_count = WORK_PER_COEFFICIENT * count;
+    int32_t *pyramid = memory_for(count, sizeof *pyramid);
+    uint32_t *work = memory_for(work_count, sizeof *work);
+    Outcome outcome = decode_into(record, pyramid, count, work, work_count);
+    if (outcome.number == AFS_ACCEPTED)
+        outcome.bytes = bytes_of(pyramid, count);
+    free(work);
+    free(pyramid);
+    return outcome;
+}
+
+const char *name_of(uint64_t number) {
+    static const char *const names[] = {
+        [AFS_SIZE] = "SIZE", [AFS_LENGTH] = "LENGTH",   [AFS_WORK] = "WORK", [AFS_RANGE] = "RANGE", [AFS_ROOM] = "ROOM", [AFS_HEAD] = "HEAD",
+        [AFS_VERSION] = "VERSION", [AFS_PART] = "PART", [AFS_PAD] = "PAD",   [AFS_FIT] = "FIT",     [AFS_ASK] = "ASK",
+    };
+    return number < sizeof names / sizeof *names && names[number] != NULL ? names[number] : "UNKNOWN";
+}

@@ -1,0 +1,28 @@
+/* The archive's calls, each with the memory that it wants. */
+#ifndef AFS_CALLS_H
+#define AFS_CALLS_H
+
+#include "../afshtruni.h"
+#include "files.h"
+
+enum { LEVEL_PLACES = AFS_DECODED_NUMBERS - AFS_DECODED_REACHED };
+
+/* What came of a call. Where it refused, all but number and place is 0. */
+typedef struct {
+    uint64_t number, place;
+    Bytes bytes;                    /* the record or pyramid that was made; the caller frees it */
+    uint64_t tail;                  /* bytes of an incomplete part at the end of the record that was read */
+    uint64_t reached[LEVEL_PLACES]; /* from decoding: the reached plane of each level, level 1 first */
+} Outcome;
+
+/* A pyramid in a file is a row of 32-bit numbers, lowest byte first. */
+Outcome code(Bytes pyramid, uint64_t width, uint64_t height, uint64_t decompositions);
+
+Outcome serve(Bytes record, uint64_t level, uint64_t plane);
+
+Outcome decode(Bytes record);
+
+/* The name that goes with a refusal's number. */
+const char *name_of(uint64_t number);
+
+#endif
