@@ -21,7 +21,7 @@ static const char help[] =
     "       afs explain [FILE]\n"
     "Layered records of wavelet coefficients.\n"
     "\n"
-    "  code W H N  from a pyramid of W x H coefficients, N decompositions, to a record\n"
+    "  code W H N  from a pyramid, W x H coefficients, N decompositions, to a record\n"
     "  serve       from a record to a smaller one: header and some parts, unaltered\n"
     "  decode      from a record, or what is left of one, to a pyramid\n"
     "  parts       lists a record's header, parts and tail\n"

@@ -150,7 +150,7 @@ static void tell_distances(FILE *out, const Holding *holding) {
     fputs("\nHow far a decoded coefficient may be from the recorded one:\n", out);
     for (uint32_t level = holding->levels; level > 0; level--)
         tell_distance(out, holding, level);
-    fputs("Its magnitude is never the greater one, and it has the recorded sign unless it is 0.\n"
+    fputs("It is never of greater magnitude, and it has the recorded sign unless it is 0.\n"
           "This is so for a record that our coder wrote, whatever parts were left out or lost since.\n"
           "A record doesn't show who wrote it, nor whether bytes in it were changed.\n", out);
 }
