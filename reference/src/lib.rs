@@ -19,8 +19,9 @@
 //! * [`portal`]: the same calls in the shape in which C sees them
 //!
 //! and for trying the product: [`generate`] makes pyramids and records,
-//! [`compare`] compares, [`slip`] holds the rules' "errors that look
-//! reasonable" so that the tests can be shown to catch them.
+//! [`compare`] compares, [`openjpeg`] gives times to compare with, [`slip`]
+//! holds the rules' "errors that look reasonable" so that the tests can be
+//! shown to catch them.
 
 pub mod coder;
 pub mod compare;
@@ -29,6 +30,7 @@ pub mod family;
 pub mod generate;
 pub mod layout;
 pub mod lists;
+pub mod openjpeg;
 pub mod partlist;
 pub mod passes;
 pub mod portal;

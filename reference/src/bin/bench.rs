@@ -1,9 +1,12 @@
-//! `bench [RUNS [SIDE]]`: times of coder, server and decoder at 512 x 512 (or
-//! another square), N = 5; with the feature `archive` also the archive's, on
-//! the same input, in turns with the reference's, and the ratio.
+//! `bench [RUNS [SIDE]]`: times of coder, server and decoder, N = 5, on squares
+//! of side 512, and how they grow from 64; or on squares of SIDE alone. With
+//! the feature `archive` also the archive's, with `openjpeg` also OpenJPEG's for
+//! the same picture; all on the same input, in turns.
 
 use reference::compare::{Own, Subject};
+use reference::generate::waterfall::transform_back;
 use reference::generate::{pyramids, records, waterfall, Chance};
+use reference::openjpeg::{Jpeg2000, SquarePicture};
 use reference::portal::{CODE_ANSWER, DECODE_ANSWER, SERVE_ANSWER};
 use reference::size::Shape;
 use std::time::{Duration, Instant};
@@ -13,14 +16,25 @@ const ARCHIVE: Option<&dyn Subject> = Some(&reference::archive::Archive);
 #[cfg(not(feature = "archive"))]
 const ARCHIVE: Option<&dyn Subject> = None;
 
+#[cfg(feature = "openjpeg")]
+const OPENJPEG: Option<&dyn Jpeg2000> = Some(&reference::openjpeg::OpenJpeg);
+#[cfg(not(feature = "openjpeg"))]
+const OPENJPEG: Option<&dyn Jpeg2000> = None;
+
 const SEED: u64 = 1;
+const DECOMPOSITIONS: u64 = 5;
+const SIDES: [u64; 4] = [64, 128, 256, 512];
 /// What is served and decoded: all of it, coarser levels, higher planes.
 const REQUESTS: [(u64, u64); 7] = [(1, 0), (2, 0), (3, 0), (4, 0), (1, 1), (1, 2), (1, 3)];
 
 fn main() {
     let arguments: Vec<String> = std::env::args().skip(1).collect();
     match parse(&arguments) {
-        Some((runs, shape)) => bench(runs, shape),
+        Some((runs, Some(shape))) => bench_one(runs, shape),
+        Some((runs, None)) => {
+            bench_one(runs, square(512).expect("512 is legal"));
+            bench_growth(runs);
+        }
         None => {
             eprintln!("usage: bench [RUNS [SIDE]], SIDE a multiple of 64 up to 512");
             std::process::exit(2);
@@ -28,135 +42,313 @@ fn main() {
     }
 }
 
-fn parse(arguments: &[String]) -> Option<(usize, Shape)> {
+fn parse(arguments: &[String]) -> Option<(usize, Option<Shape>)> {
     let (runs, side) = match arguments {
-        [] => (40, 512),
-        [runs] => (runs.parse().ok()?, 512),
-        [runs, side] => (runs.parse().ok()?, side.parse().ok()?),
+        [] => (40, None),
+        [runs] => (runs.parse().ok()?, None),
+        [runs, side] => (runs.parse().ok()?, Some(square(side.parse().ok()?)?)),
         _ => return None,
     };
-    let shape = Shape::judge(side, side, 5).ok()?;
-    Some((runs, shape)).filter(|_| runs > 0)
+    Some((runs, side)).filter(|_| runs > 0)
 }
 
-fn bench(runs: usize, shape: Shape) {
+fn square(side: u64) -> Option<Shape> {
+    Shape::judge(side, side, DECOMPOSITIONS).ok()
+}
+
+/// What is tried: as coding finds it, and as no coder likes it.
+fn samples(shape: Shape) -> [Sample; 2] {
+    let random = pyramids::even(&mut Chance::new(SEED), shape, 8);
+    let waterfall = waterfall::pyramid(&mut Chance::new(SEED), shape);
+    [
+        Sample::new("waterfall", shape, waterfall),
+        Sample::new("random, magnitudes to 255", shape, random),
+    ]
+}
+
+fn bench_one(runs: usize, shape: Shape) {
     println!(
-        "{} x {}, N = 5, {runs} runs each, microseconds, minimum / median",
+        "{} x {}, N = {DECOMPOSITIONS}, {runs} runs each, in turns; microseconds, least / median; ratios of medians",
         shape.width(),
         shape.height()
     );
-    let waterfall = waterfall::pyramid(&mut Chance::new(SEED), shape);
-    bench_pyramid("waterfall", runs, shape, &waterfall);
-    let random = pyramids::even(&mut Chance::new(SEED), shape, 8);
-    bench_pyramid("random, magnitudes to 255", runs, shape, &random);
-}
-
-fn bench_pyramid(name: &str, runs: usize, shape: Shape, pyramid: &[i32]) {
-    let record = records::whole(pyramid, shape);
-    println!("{name}: {} bytes", record.len());
-    let mut buffers = Buffers::new(shape);
-    bench_code(runs, shape, pyramid, &mut buffers);
-    for (level, plane) in REQUESTS {
-        bench_serve(runs, &record, level, plane, &mut buffers);
-    }
-    for (level, plane) in REQUESTS {
-        bench_decode(runs, &record, level, plane, &mut buffers);
+    for mut sample in samples(shape) {
+        sample.print_name();
+        print_heading();
+        sample.code(runs).print("code", sample.record.len());
+        for (level, plane) in REQUESTS {
+            let length = sample.served_length(level, plane);
+            let row = sample.serve(runs, level, plane);
+            row.print(&format!("serve r = {level}, p = {plane}"), length);
+        }
+        for (level, plane) in REQUESTS {
+            let length = sample.served_length(level, plane);
+            let row = sample.decode(runs, level, plane);
+            row.print(&format!("decode r = {level}, p = {plane}"), length);
+        }
     }
 }
 
-/// All that is lent, made once.
-struct Buffers {
+/// Rows of one call each, a column a side.
+fn bench_growth(runs: usize) {
+    println!("nanoseconds a coefficient, median, by side: {SIDES:?}");
+    let mut by_side: Vec<[Sample; 2]> = SIDES
+        .iter()
+        .map(|&side| samples(square(side).expect("each side is legal")))
+        .collect();
+    for kind in 0..2 {
+        println!("{}", by_side[0][kind].name);
+        print_growth("code", &mut by_side, |sides| sides[kind].code(runs));
+        print_growth("serve", &mut by_side, |sides| sides[kind].serve(runs, 1, 0));
+        print_growth("decode", &mut by_side, |sides| {
+            sides[kind].decode(runs, 1, 0)
+        });
+    }
+}
+
+fn print_growth(
+    call: &str,
+    by_side: &mut [[Sample; 2]],
+    mut timed: impl FnMut(&mut [Sample; 2]) -> Row,
+) {
+    let rows: Vec<(usize, Row)> = by_side
+        .iter_mut()
+        .map(|sides| (sides[0].shape.area(), timed(sides)))
+        .collect();
+    let print = |who: &str, times_of: fn(&Row) -> Option<&Times>| {
+        if rows.iter().all(|(_, row)| times_of(row).is_some()) {
+            print!("  {call:6} {who:9}");
+            for (area, row) in &rows {
+                let median = times_of(row).map_or(0.0, |times| times.median);
+                print!(" {:8.3}", 1e3 * median / *area as f64);
+            }
+            println!();
+        }
+    };
+    print("reference", |row| Some(&row.reference));
+    print("archive", |row| row.archive.as_ref());
+    print("OpenJPEG", |row| row.openjpeg.as_ref());
+}
+
+/// A pyramid with its record, its picture and codestream, and all that is
+/// lent, made once.
+struct Sample {
+    name: &'static str,
+    shape: Shape,
+    pyramid: Vec<i32>,
+    record: Vec<u8>,
+    picture: SquarePicture,
+    codestream: Vec<u8>,
     bytes: Vec<u8>,
     coefficients: Vec<i32>,
     work: Vec<u32>,
 }
 
-impl Buffers {
-    fn new(shape: Shape) -> Buffers {
-        Buffers {
+impl Sample {
+    fn new(name: &'static str, shape: Shape, pyramid: Vec<i32>) -> Sample {
+        let mut sample = Sample {
+            name,
+            shape,
+            record: records::whole(&pyramid, shape),
+            picture: SquarePicture::of_pyramid(&pyramid, shape),
+            codestream: Vec::new(),
             bytes: vec![0; records::room_for(shape)],
             coefficients: vec![0; shape.area()],
             work: vec![0; shape.workspace()],
+            pyramid,
+        };
+        if let Some(codec) = OPENJPEG {
+            let length = codec.encode(&sample.picture, &mut sample.bytes);
+            sample.codestream = sample.bytes[..length].to_vec();
+            sample.check_pictures(codec);
+        }
+        sample
+    }
+
+    /// What JPEG 2000 gives with the side halved is the picture of the
+    /// pyramid's coarser levels, so that the two do decode the same. It keeps
+    /// samples within their precision; a coarser picture can go beyond.
+    fn check_pictures(&mut self, codec: &dyn Jpeg2000) {
+        let limit = 1 << (self.picture.precision - 1);
+        for halvings in 0..self.shape.decompositions() {
+            let count = codec.decode(&self.codestream, halvings, &mut self.coefficients);
+            let mut coarser = self.coarser_picture(halvings);
+            for sample in &mut coarser {
+                *sample = (*sample).clamp(-limit, limit - 1);
+            }
+            assert!(coarser == self.coefficients[..count], "the same picture");
         }
     }
-}
 
-fn bench_code(runs: usize, shape: Shape, pyramid: &[i32], buffers: &mut Buffers) {
-    let Buffers { bytes, work, .. } = buffers;
-    let (w, h) = (shape.width().into(), shape.height().into());
-    let n = shape.decompositions().into();
-    row("code", runs, |subject| {
-        let mut answer = [0; CODE_ANSWER];
-        subject.code(pyramid, w, h, n, bytes, work, &mut answer)
-    });
-}
+    fn coarser_picture(&self, halvings: u32) -> Vec<i32> {
+        let side = self.shape.width() >> halvings;
+        let left = u64::from(self.shape.decompositions() - halvings);
+        let smaller = Shape::judge(side.into(), side.into(), left).expect("a legal size");
+        let rows = self.pyramid.chunks(self.shape.width() as usize);
+        let mut coarser: Vec<i32> = rows
+            .take(side as usize)
+            .flat_map(|row| &row[..side as usize])
+            .copied()
+            .collect();
+        transform_back(&mut coarser, smaller);
+        coarser
+    }
 
-fn bench_serve(runs: usize, record: &[u8], level: u64, plane: u64, buffers: &mut Buffers) {
-    let out = &mut buffers.bytes[..record.len()];
-    row(
-        &format!("serve r = {level}, p = {plane}"),
-        runs,
-        |subject| {
+    fn print_name(&self) {
+        let bits = |length: usize| 8.0 * length as f64 / self.shape.area() as f64;
+        let (record, codestream) = (self.record.len(), self.codestream.len());
+        print!(
+            "{}: record {record} bytes, {:.3} bits a coefficient",
+            self.name,
+            bits(record)
+        );
+        if OPENJPEG.is_some() {
+            print!("; JPEG 2000 {codestream} bytes, {:.3}", bits(codestream));
+        }
+        println!();
+    }
+
+    fn served_length(&mut self, level: u64, plane: u64) -> usize {
+        reference::serve(&self.record, level, plane, &mut self.bytes).length as usize
+    }
+
+    fn code(&mut self, runs: usize) -> Row {
+        let (w, h) = (self.shape.width().into(), self.shape.height().into());
+        let (pyramid, picture) = (&self.pyramid, &self.picture);
+        let (bytes, work) = (&mut self.bytes, &mut self.work);
+        let mut codestream = vec![0; bytes.len()];
+        let row = Row::take(
+            runs,
+            |subject| {
+                let mut answer = [0; CODE_ANSWER];
+                subject.code(pyramid, w, h, DECOMPOSITIONS, bytes, work, &mut answer)
+            },
+            Some(&mut |codec| codec.encode(picture, &mut codestream)),
+        );
+        let record = &self.record;
+        assert!(bytes.starts_with(record), "the last one coded the same");
+        row
+    }
+
+    fn serve(&mut self, runs: usize, level: u64, plane: u64) -> Row {
+        let out = &mut self.bytes[..self.record.len()];
+        let record = &self.record;
+        let call = |subject: &dyn Subject| {
             let mut answer = [0; SERVE_ANSWER];
             subject.serve(record, level, plane, out, &mut answer)
-        },
-    );
+        };
+        Row::take(runs, call, None)
+    }
+
+    /// JPEG 2000 has no request for planes: it decodes whole, or with the side
+    /// halved.
+    fn decode(&mut self, runs: usize, level: u64, plane: u64) -> Row {
+        let length = self.served_length(level, plane);
+        let served = &self.bytes[..length];
+        let (coefficients, work) = (&mut self.coefficients, &mut self.work);
+        let codestream = &self.codestream;
+        let mut samples = vec![0; self.shape.area()];
+        let mut halved =
+            |codec: &dyn Jpeg2000| codec.decode(codestream, level as u32 - 1, &mut samples);
+        Row::take(
+            runs,
+            |subject| {
+                let mut answer = [0; DECODE_ANSWER];
+                subject.decode(served, coefficients, work, &mut answer)
+            },
+            if plane == 0 { Some(&mut halved) } else { None },
+        )
+    }
 }
 
-fn bench_decode(runs: usize, record: &[u8], level: u64, plane: u64, buffers: &mut Buffers) {
-    let Buffers {
-        bytes,
-        coefficients,
-        work,
-    } = buffers;
-    let length = reference::serve(record, level, plane, bytes).length as usize;
-    let served = &bytes[..length];
-    row(
-        &format!("decode r = {level}, p = {plane}"),
-        runs,
-        |subject| {
-            let mut answer = [0; DECODE_ANSWER];
-            subject.decode(served, coefficients, work, &mut answer)
-        },
-    );
+/// Answers how many bytes or samples were made.
+type JpegCall<'c> = &'c mut dyn FnMut(&dyn Jpeg2000) -> usize;
+
+/// The times of one call.
+struct Row {
+    reference: Times,
+    archive: Option<Times>,
+    openjpeg: Option<Times>,
 }
 
-/// Runs reference and archive in turns, so that whatever else the machine
-/// does falls on both.
-fn row(name: &str, runs: usize, mut call: impl FnMut(&dyn Subject) -> u64) {
-    let mut reference = Vec::with_capacity(runs);
-    let mut archive = Vec::with_capacity(runs);
-    for _ in 0..runs {
-        reference.push(timed(&mut call, &Own));
-        if let Some(subject) = ARCHIVE {
-            archive.push(timed(&mut call, subject));
+impl Row {
+    /// All run in turns, so that whatever else the machine does falls on each.
+    fn take(
+        runs: usize,
+        mut call: impl FnMut(&dyn Subject) -> u64,
+        mut jpeg: Option<JpegCall>,
+    ) -> Row {
+        let mut reference = Vec::with_capacity(runs);
+        let mut archive = Vec::with_capacity(runs);
+        let mut openjpeg = Vec::with_capacity(runs);
+        for _ in 0..runs {
+            reference.push(timed(|| assert_eq!(call(&Own), 0, "it is accepted")));
+            if let Some(subject) = ARCHIVE {
+                archive.push(timed(|| assert_eq!(call(subject), 0, "it is accepted")));
+            }
+            if let (Some(jpeg), Some(codec)) = (&mut jpeg, OPENJPEG) {
+                openjpeg.push(timed(|| assert!(jpeg(codec) > 0, "it works")));
+            }
+        }
+        Row {
+            reference: Times::of(reference).expect("there are runs"),
+            archive: Times::of(archive),
+            openjpeg: Times::of(openjpeg),
         }
     }
-    let (least, median) = least_and_median(&mut reference);
-    print!("  {name:20} reference {least:9.1} / {median:9.1}");
-    if !archive.is_empty() {
-        let (its_least, its_median) = least_and_median(&mut archive);
-        print!("  archive {its_least:9.1} / {its_median:9.1}");
-        print!(
-            "  ratio {:.2} / {:.2}",
-            its_least / least,
-            its_median / median
-        );
+
+    fn print(&self, name: &str, length: usize) {
+        print!("  {name:19} {length:7} {}", self.reference);
+        if let Some(archive) = &self.archive {
+            print!("  {archive} {:6.2}", archive.median / self.reference.median);
+        }
+        if let Some(openjpeg) = &self.openjpeg {
+            print!("  {openjpeg}");
+            let beside = self.archive.as_ref().unwrap_or(&self.reference);
+            print!(" {:6.2}", beside.median / openjpeg.median);
+        }
+        println!();
+    }
+}
+
+/// A ratio is the archive's time (without an archive the reference's) to the
+/// other's.
+fn print_heading() {
+    print!("  {:19} {:>7} {:>19}", "", "bytes", "reference");
+    if ARCHIVE.is_some() {
+        print!("  {:>19} {:>6}", "archive", "ratio");
+    }
+    if OPENJPEG.is_some() {
+        print!("  {:>19} {:>6}", "OpenJPEG", "ratio");
     }
     println!();
 }
 
-fn timed(call: &mut impl FnMut(&dyn Subject) -> u64, subject: &dyn Subject) -> Duration {
+fn timed(call: impl FnOnce()) -> Duration {
     let begun = Instant::now();
-    let number = call(subject);
-    let taken = begun.elapsed();
-    assert_eq!(number, 0, "the call is accepted");
-    taken
+    call();
+    begun.elapsed()
 }
 
 /// In microseconds.
-fn least_and_median(times: &mut [Duration]) -> (f64, f64) {
-    times.sort();
-    let microseconds = |time: Duration| time.as_secs_f64() * 1e6;
-    (microseconds(times[0]), microseconds(times[times.len() / 2]))
+struct Times {
+    least: f64,
+    median: f64,
+}
+
+impl Times {
+    fn of(mut times: Vec<Duration>) -> Option<Times> {
+        times.sort();
+        let microseconds = |time: &Duration| time.as_secs_f64() * 1e6;
+        Some(Times {
+            least: microseconds(times.first()?),
+            median: microseconds(times.get(times.len() / 2)?),
+        })
+    }
+}
+
+impl std::fmt::Display for Times {
+    fn fmt(&self, out: &mut std::fmt::Formatter) -> std::fmt::Result {
+        write!(out, "{:8.1} / {:8.1}", self.least, self.median)
+    }
 }
