@@ -7,9 +7,9 @@
 
 enum { COEFFICIENT_BYTES = 4, WORK_PER_COEFFICIENT = 4 };
 
-/* A record has at most 17 planes, each of at most 37/16 bits a coefficient and, in its six parts, 48 bytes for heads and padding. */
+/* What the description of afs_code() calls always enough. */
 static size_t room_for_record(size_t coefficients) {
-    return 16 + 17 * (coefficients * 37 / 128 + 48);
+    return 5 * coefficients + 640;
 }
 
 static int32_t coefficient_at(const uint8_t *at) {

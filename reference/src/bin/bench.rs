@@ -68,7 +68,7 @@ fn samples(shape: Shape) -> [Sample; 2] {
 
 fn bench_one(runs: usize, shape: Shape) {
     println!(
-        "{} x {}, N = {DECOMPOSITIONS}, {runs} runs each, in turns; microseconds, least / median; ratios of medians",
+        "{} x {}, N = {DECOMPOSITIONS}, {runs} runs each, in turns; microseconds and ratios, least / median",
         shape.width(),
         shape.height()
     );
@@ -91,7 +91,7 @@ fn bench_one(runs: usize, shape: Shape) {
 
 /// Rows of one call each, a column a side.
 fn bench_growth(runs: usize) {
-    println!("nanoseconds a coefficient, median, by side: {SIDES:?}");
+    println!("nanoseconds a coefficient, least, by side: {SIDES:?}");
     let mut by_side: Vec<[Sample; 2]> = SIDES
         .iter()
         .map(|&side| samples(square(side).expect("each side is legal")))
@@ -119,8 +119,8 @@ fn print_growth(
         if rows.iter().all(|(_, row)| times_of(row).is_some()) {
             print!("  {call:6} {who:9}");
             for (area, row) in &rows {
-                let median = times_of(row).map_or(0.0, |times| times.median);
-                print!(" {:8.3}", 1e3 * median / *area as f64);
+                let least = times_of(row).map_or(0.0, |times| times.least);
+                print!(" {:8.3}", 1e3 * least / *area as f64);
             }
             println!();
         }
@@ -300,12 +300,11 @@ impl Row {
     fn print(&self, name: &str, length: usize) {
         print!("  {name:19} {length:7} {}", self.reference);
         if let Some(archive) = &self.archive {
-            print!("  {archive} {:6.2}", archive.median / self.reference.median);
+            print!("  {archive}  {}", archive.beside(&self.reference));
         }
         if let Some(openjpeg) = &self.openjpeg {
-            print!("  {openjpeg}");
-            let beside = self.archive.as_ref().unwrap_or(&self.reference);
-            print!(" {:6.2}", beside.median / openjpeg.median);
+            let ours = self.archive.as_ref().unwrap_or(&self.reference);
+            print!("  {openjpeg}  {}", ours.beside(openjpeg));
         }
         println!();
     }
@@ -316,10 +315,10 @@ impl Row {
 fn print_heading() {
     print!("  {:19} {:>7} {:>19}", "", "bytes", "reference");
     if ARCHIVE.is_some() {
-        print!("  {:>19} {:>6}", "archive", "ratio");
+        print!("  {:>19}  {:>11}", "archive", "ratio");
     }
     if OPENJPEG.is_some() {
-        print!("  {:>19} {:>6}", "OpenJPEG", "ratio");
+        print!("  {:>19}  {:>11}", "OpenJPEG", "ratio");
     }
     println!();
 }
@@ -344,6 +343,11 @@ impl Times {
             least: microseconds(times.first()?),
             median: microseconds(times.get(times.len() / 2)?),
         })
+    }
+
+    fn beside(&self, others: &Times) -> String {
+        let (least, median) = (self.least / others.least, self.median / others.median);
+        format!("{least:4.2} / {median:4.2}")
     }
 }
 
