@@ -3,7 +3,7 @@ use rules::Level;
 use rules::Plane;
 use rules::Size;
 ghost use mathlib.Core.Path.{_≡_};
-ghost use mathlib.Core.Bool.{true};
+ghost use mathlib.Core.Bool.{true, cond};
 ghost use Prim.Native.Nat.{_+_, _*_, _/_, _%_, _^_, _≤_, _<_, max};
 ghost use lib.ListN.{getD, set};
 ghost use lib.IntN.{pos, natAbs};
@@ -240,22 +240,31 @@ pub fn write_found(pyramid: &mut [i32], q: usize, negative: bool, plane: Plane)
     write_at(pyramid, q, signed_of(negative, threshold_of(plane)));
 }
 
-fn grown_by(v: i32, plane: Plane) -> i32
-    requires { ⌜ (natAbs v < 2 ^ 30) × (plane .0 < 30) ⌝ }
-    ensures { λ r. ⌜ r ≡ grown true (2 ^ plane .0) v ⌝ }
+// "A refinement bit of 1 adds 2^n."
+fn added_by(bit: bool, plane: Plane) -> u32
+    requires { ⌜ plane .0 < 32 ⌝ }
+    ensures { λ r. ⌜ r ≡ cond bit (2 ^ plane .0) 0 ⌝ }
 {
-    signed_of(is_negative(v), magnitude_of(v) + threshold_of(plane))
+    if bit {
+        return threshold_of(plane);
+    }
+    0
 }
 
-// "A refinement bit of 1 adds 2^n."
+fn grown_by(v: i32, bit: bool, plane: Plane) -> i32
+    requires { ⌜ (natAbs v < 2 ^ 30) × (plane .0 < 30) ⌝ }
+    ensures { λ r. ⌜ r ≡ grown bit (2 ^ plane .0) v ⌝ }
+{
+    signed_of(is_negative(v), magnitude_of(v) + added_by(bit, plane))
+}
+
+// Written whatever the bit is: bits can't be foretold, and a branch on each would cost more.
 pub fn write_refined(pyramid: &mut [i32], q: usize, bit: bool, plane: Plane)
     requires { ⌜ (magnitude (now pyramid) q < 2 ^ 30) × (plane .0 < 30) ⌝ }
     ensures { λ r. ⌜ now (pyramid .exit) ≡ set (now (pyramid .entry)) q (grown bit (2 ^ plane .0) (getD (now (pyramid .entry)) q (pos 0))) ⌝ }
 {
-    if bit {
-        let v = coefficient_at(pyramid, q);
-        write_at(pyramid, q, grown_by(v, plane));
-    }
+    let v = coefficient_at(pyramid, q);
+    write_at(pyramid, q, grown_by(v, bit, plane));
 }
 
 // The first index whose magnitude is over 65,535; the pyramid's length if there is none.
