@@ -2,7 +2,7 @@
 use mathlib.Core.Path.{_≡_, refl, sym, ap, ap₂, _∙_, subst}
 use mathlib.Core.Bool.{Bool, true, false, cond}
 use mathlib.Core.List.{List, [], _∷_, _++_}
-use Prim.Native.Nat.{ℕ, _+_, _*_, _≤_, _<_}
+use Prim.Native.Nat.{ℕ, zero, suc, _+_, _-_, _*_, _≤_, _<_}
 use native.Mathlib.Omega.{arith}
 use lib.ListN.{length, length-append}
 use lib.IntN.{ℤ}
@@ -10,12 +10,19 @@ use Rattle.bits.specs.declared.BitPosition.{BitPosition}
 use Rattle.bits.specs.declared.BitRead.{BitRead}
 use Rattle.rules.specs.Document.Passes.{Entry, significant?, negative?, Event, toLip, toLsp, stays, moves, Side, Course, listing, written}
 use Rattle.rules.specs.Laws.PassSteps.{signNoted, tried, triedAll, tried-insignificant, tried-significant, tried-toLip, tried-toLsp, triedAll-append}
+use Rattle.rules.specs.declared.Size.{Size}
+use Rattle.rules.specs.Document.Pyramid.{greatestSide}
+use Rattle.shape.specs.declared.Offspring.the-variants.{Block}
+use Rattle.shape.specs.Offspring.{offspringList}
 use Rattle.lists.specs.declared.Fill.{Fill}
+use Rattle.lists.specs.Seg.{seg}
 use Rattle.lists.specs.Stretch.{waiting, Held, held, Fits, LipPushed, LspPushed, waiting-add, waiting-none, waiting-length}
 use Rattle.passes.specs.declared.Run.{Run}
 use Rattle.passes.specs.declared.Stand.{Stand}
+use Rattle.passes.specs.declared.Candidates.{Candidates}
+use Rattle.passes.specs.declared.Candidates.the-variants.{Waiting, Four}
 use Rattle.passes.specs.Exchange.{Chan, chan, noted, side, Replied}
-use Rattle.passes.specs.Steps.{courseOf, course, Tested}
+use Rattle.passes.specs.Steps.{courseOf, course, candidates, Choosing, Suited, Testing, Tested}
 
 one-tried : {S : Type 0} (C : Side S) (p : ℕ) (s : S) → triedAll C (p ∷ []) s ≡ tried C p s
 unfolding triedAll
@@ -148,24 +155,80 @@ tested-on {C} {ps} {qs} {n} {s} {out} {d = d} {w = w} a b =
       place = omega (arith, a .place, b .place);
     }
 
--- the loop over LIP: the next coefficient is the one that stood there at the beginning
-module _ {C : Side Chan} {n i : ℕ} {s out : List ℕ} {d : List ℤ} {w : Stand} {s₁ out₁ : List ℕ} {d₁ : List ℤ} {w₁ : Stand}
-    (T : Tested C (waiting 0 i s) n s out d w s₁ out₁ d₁ w₁) (none : w .fill .lip ≤ 0) (more : i < n) (room : 4 * n ≤ length s) where
-  pub lip-length : length (waiting 0 i s) ≡ i
-  lip-length = waiting-length 0 i s (omega arith)
+-- the four offspring of a block, one by one and all
+pub four-first : (z : Size) (first i : ℕ) → i < 2 → waiting i 1 (offspringList z (Block first)) ≡ (first + i) ∷ []
+unfolding waiting seg offspringList
+four-first z first zero h = ap (λ (x : ℕ). x ∷ []) (omega arith)
+four-first z first (suc zero) h = refl
+four-first z first (suc (suc i)) h = absurd (omega arith)
 
-  pub lip-next : {p : ℕ} {s₂ out₂ : List ℕ} {d₂ : List ℤ} {w₂ : Stand} → waiting i 1 s₁ ≡ p ∷ [] → Tested C (p ∷ []) n s₁ out₁ d₁ w₁ s₂ out₂ d₂ w₂
-      → Tested C (waiting 0 (i + 1) s) n s out d w s₂ out₂ d₂ w₂
-  lip-next {p} {s₂} {out₂} {d₂} {w₂} e U =
-      let l = lip-length in
-      let a : waiting 0 i s ++ (p ∷ []) ≡ waiting 0 (i + 1) s =
-      sym (waiting-add i 1 s ∙ ap (λ x. waiting 0 i s ++ x) (sym (T .ahead i 1 (omega arith) (omega arith)) ∙ e)) in
-      subst (λ ps. Tested C ps n s out d w s₂ out₂ d₂ w₂) a (tested-on T U)
+pub four-below : (z : Size) (first i : ℕ) → 2 ≤ i → i < 4 → waiting i 1 (offspringList z (Block first)) ≡ (first + z .w + (i - 2)) ∷ []
+unfolding waiting seg offspringList
+four-below z first zero h l = absurd (omega arith)
+four-below z first (suc zero) h l = absurd (omega arith)
+four-below z first (suc (suc zero)) h l = ap (λ (x : ℕ). x ∷ []) (omega arith)
+four-below z first (suc (suc (suc zero))) h l = ap (λ (x : ℕ). x ∷ []) (omega arith)
+four-below z first (suc (suc (suc (suc i)))) h l = absurd (omega arith)
 
-pub lip-none : (C : Side Chan) (n : ℕ) (s out : List ℕ) (d : List ℤ) (w : Stand) → Fits n s (w .fill)
-    → Tested C (waiting 0 0 s) n s out d w s out d w
-lip-none C n s out d w h = subst (λ ps. Tested C ps n s out d w s out d w) (sym (waiting-none 0 s)) (tested-none C n s out d w h)
+pub four-tested : (z : Size) (first : ℕ) {C : Side Chan} {n : ℕ} {s out s₁ out₁ : List ℕ} {d d₁ : List ℤ} {w w₁ : Stand}
+    → Tested C (waiting 0 4 (offspringList z (Block first))) n s out d w s₁ out₁ d₁ w₁ → Tested C (offspringList z (Block first)) n s out d w s₁ out₁ d₁ w₁
+unfolding waiting seg offspringList
+four-tested z first T = T
 
-pub lip-done : {C : Side Chan} {n i m : ℕ} {s out : List ℕ} {d : List ℤ} {w : Stand} {s₁ out₁ : List ℕ} {d₁ : List ℤ} {w₁ : Stand} → i ≡ m
-    → Tested C (waiting 0 i s) n s out d w s₁ out₁ d₁ w₁ → Tested C (waiting 0 m s) n s out d w s₁ out₁ d₁ w₁
-lip-done {C} {n} {s = s} {out} {d} {w} {s₁} {out₁} {d₁} {w₁} e T = subst (λ (x : ℕ). Tested C (waiting 0 x s) n s out d w s₁ out₁ d₁ w₁) e T
+module _ (run : Run) {from : Candidates} (i : ℕ) (s : List ℕ) where
+  pub choosing-waiting : from ≡ Waiting → Choosing run from i s → i < length s
+  choosing-waiting e h = subst (λ x. Choosing run x i s) e h
+
+  pub chosen-waiting : {r : ℕ} → from ≡ Waiting → waiting i 1 s ≡ r ∷ [] → waiting i 1 (candidates (run .z) from s) ≡ r ∷ []
+  chosen-waiting {r} e h = subst (λ x. waiting i 1 (candidates (run .z) x s) ≡ r ∷ []) (sym e) h
+
+  module _ {first : ℕ} (e : from ≡ Four first) (h : Choosing run from i s) where
+    pub choosing-four : (i < 4) × (first + run .z .w + 1 < greatestSide * greatestSide)
+    choosing-four = subst (λ x. Choosing run x i s) e h
+
+    pub chosen-first : i < 2 → waiting i 1 (candidates (run .z) from s) ≡ (first + i) ∷ []
+    chosen-first l = subst (λ x. waiting i 1 (candidates (run .z) x s) ≡ (first + i) ∷ []) (sym e) (four-first (run .z) first i l)
+
+    pub chosen-below : 2 ≤ i → waiting i 1 (candidates (run .z) from s) ≡ (first + run .z .w + (i - 2)) ∷ []
+    chosen-below l =
+        subst (λ x. waiting i 1 (candidates (run .z) x s) ≡ (first + run .z .w + (i - 2)) ∷ []) (sym e)
+        (four-below (run .z) first i l (choosing-four .0))
+
+-- the loop: the next coefficient is the one that was listed there at the beginning
+candidates-length : (run : Run) (from : Candidates) (m i : ℕ) (s : List ℕ) (w : Stand) → Testing run from m s w → i ≤ m → i ≤ length (candidates (run .z) from s)
+unfolding offspringList
+candidates-length run Waiting m i s w H h = omega (arith, H .room, H .fits .room)
+candidates-length run (Four first) m i s w H h = omega (arith, H .suited .0)
+
+module _ (run : Run) (from : Candidates) {C : Side Chan} {m i : ℕ} {s out : List ℕ} {d : List ℤ} {w : Stand} {s₁ out₁ : List ℕ} {d₁ : List ℤ} {w₁ : Stand}
+    (H : Testing run from m s w) (T : Tested C (waiting 0 i (candidates (run .z) from s)) (run .n) s out d w s₁ out₁ d₁ w₁) (more : i < m) where
+  pub each-length : length (waiting 0 i (candidates (run .z) from s)) ≡ i
+  each-length = waiting-length 0 i (candidates (run .z) from s) (omega (arith, candidates-length run from m i s w H (omega arith)))
+
+  listed-still : (from : Candidates) → Suited run from m w → length (waiting 0 i (candidates (run .z) from s)) ≡ i
+      → (Tested C (waiting 0 i (candidates (run .z) from s)) (run .n) s out d w s₁ out₁ d₁ w₁)
+      → waiting i 1 (candidates (run .z) from s₁) ≡ waiting i 1 (candidates (run .z) from s)
+  listed-still Waiting a l T = T .ahead i 1 (omega arith) (omega (arith, H .room))
+  listed-still (Four first) a l T = refl
+
+  pub each-choosing : length s₁ ≡ length s → Choosing run from i s₁
+  each-choosing e = by from (H .suited)
+    where
+      by : (from : Candidates) → Suited run from m w → Choosing run from i s₁
+      by Waiting a = omega (arith, H .room, H .fits .room)
+      by (Four first) a = (omega (arith, a .0), a .1)
+
+  pub each-next : {p : ℕ} {s₂ out₂ : List ℕ} {d₂ : List ℤ} {w₂ : Stand} → waiting i 1 (candidates (run .z) from s₁) ≡ p ∷ []
+      → Tested C (p ∷ []) (run .n) s₁ out₁ d₁ w₁ s₂ out₂ d₂ w₂ → Tested C (waiting 0 (i + 1) (candidates (run .z) from s)) (run .n) s out d w s₂ out₂ d₂ w₂
+  each-next {p} {s₂} {out₂} {d₂} {w₂} e U =
+      let a : waiting 0 i (candidates (run .z) from s) ++ (p ∷ []) ≡ waiting 0 (i + 1) (candidates (run .z) from s) =
+      sym (waiting-add i 1 (candidates (run .z) from s) ∙ ap (λ x. waiting 0 i (candidates (run .z) from s) ++ x) (sym (listed-still from (H .suited) each-length T) ∙ e)) in
+      subst (λ ps. Tested C ps (run .n) s out d w s₂ out₂ d₂ w₂) a (tested-on T U)
+
+pub each-none : (C : Side Chan) (qs : List ℕ) (n : ℕ) (s out : List ℕ) (d : List ℤ) (w : Stand) → Fits n s (w .fill)
+    → Tested C (waiting 0 0 qs) n s out d w s out d w
+each-none C qs n s out d w h = subst (λ ps. Tested C ps n s out d w s out d w) (sym (waiting-none 0 qs)) (tested-none C n s out d w h)
+
+pub each-done : {C : Side Chan} (qs : List ℕ) {n i m : ℕ} {s out : List ℕ} {d : List ℤ} {w : Stand} {s₁ out₁ : List ℕ} {d₁ : List ℤ} {w₁ : Stand} → i ≡ m
+    → Tested C (waiting 0 i qs) n s out d w s₁ out₁ d₁ w₁ → Tested C (waiting 0 m qs) n s out d w s₁ out₁ d₁ w₁
+each-done {C} qs {n} {s = s} {out} {d} {w} {s₁} {out₁} {d₁} {w₁} e T = subst (λ (x : ℕ). Tested C (waiting 0 x qs) n s out d w s₁ out₁ d₁ w₁) e T

@@ -6,7 +6,12 @@ use Prim.Native.Nat.{ℕ, suc, _+_, _*_, _≤_, _<_, _^_}
 use lib.Dec.{leb, ltb}
 use lib.ListN.{length}
 use lib.IntN.{ℤ}
-use Rattle.rules.specs.Document.Pyramid.{Family, legalSize, levels, mostPlanes, magnitude}
+use Rattle.rules.specs.declared.Size.{Size}
+use Rattle.rules.specs.Document.Pyramid.{Family, greatestSide, legalSize, levels, mostPlanes, magnitude}
+use Rattle.shape.specs.declared.Offspring.the-variants.{Block}
+use Rattle.shape.specs.Offspring.{offspringList}
+use Rattle.passes.specs.declared.Candidates.{Candidates}
+use Rattle.passes.specs.declared.Candidates.the-variants.{Waiting, Four}
 use Rattle.rules.specs.Document.Passes.{Entry, typeA, typeB, inLevel, opened, added, Lists, Side, Course, listing, passed}
 use Rattle.rules.specs.Laws.Count.{sum, is}
 use Rattle.rules.specs.Laws.PassSteps.{triedAll, visitedAll}
@@ -24,6 +29,27 @@ courseOf h x = record { lip = h .lip; lsp = h .lsp; lis = h .kept; moved = h .mo
 
 abbrev pub course : ℕ → List ℕ → List ℕ → List ℤ → Stand → Course Chan
 course n s out d w = courseOf (held n s (w .fill)) (chan out d (w .at .at))
+
+-- where the coefficients to test are listed
+abbrev pub candidates : Size → Candidates → List ℕ → List ℕ
+candidates z Waiting s = s
+candidates z (Four first) s = offspringList z (Block first)
+
+abbrev pub Choosing : Run → Candidates → ℕ → List ℕ → Type 0
+Choosing run Waiting i s = i < length s
+Choosing run (Four first) i s = (i < 4) × (first + run .z .w + 1 < greatestSide * greatestSide)
+
+-- What the tests of m of them ask for: LIP must be empty where its own entries are tested, as those that stay are put to its front.
+abbrev pub Suited : Run → Candidates → ℕ → Stand → Type 0
+Suited run Waiting m w = w .fill .lip ≤ 0
+Suited run (Four first) m w = (m ≤ 4) × (first + run .z .w + 1 < greatestSide * greatestSide)
+
+pub record Testing (run : Run) (from : Candidates) (m : ℕ) (s : List ℕ) (w : Stand) : Type 0 where
+  pub plane : run .plane .0 < mostPlanes
+  pub fits : Fits (run .n) s (w .fill)
+  pub room : w .fill .lip + w .fill .lsp + m ≤ run .n
+  pub place : w .at .at + 2 * m < 2 ^ 62
+  pub suited : Suited run from m w
 
 -- The coefficients ps were tested. What lies ahead in LIP, what was in LSP, and the sets are as they were.
 pub record Tested (C : Side Chan) (ps : List ℕ) (n : ℕ) (s out : List ℕ) (d : List ℤ) (w : Stand)

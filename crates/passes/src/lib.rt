@@ -16,7 +16,7 @@ ghost use Rattle.shape.specs.Offspring.{offspringList};
 ghost use Rattle.shape.specs.Nodes.{Node};
 ghost use Rattle.lists.specs.Stretch.{setRoom, entryOf, indexOf, waiting, known, held, Fits};
 ghost use Rattle.passes.specs.Exchange.{chan, familyOf, side, noted, Replied};
-ghost use Rattle.passes.specs.Steps.{Tested, Proper, Added, Opened, Opening, hasMember, Underway, InHand, Weighed, Visited, Growth, Fresh, Ran};
+ghost use Rattle.passes.specs.Steps.{candidates, Choosing, Testing, Tested, Proper, Added, Opened, Opening, hasMember, Underway, InHand, Weighed, Visited, Growth, Fresh, Ran};
 ghost use Rattle.passes.specs.Standing.{countAt, Six, fillOf, withLists, withSets, Started, Coding, Coded, Decoding, Decoded};
 ghost use Rattle.passes.specs.Workspace.{Lending, Lent, HandingOver, HandedOver, Handing, Handed, runOf, Running, PartRun};
 ghost use Rattle.passes.specs.Begin.{empty, rowOf, Listing, Listed};
@@ -58,6 +58,12 @@ pub struct Run {
 pub struct Stand {
     pub fill: Fill,
     pub at: BitPosition,
+}
+
+// Coefficients to test: those at the front of LIP, or the four offspring whose block begins at an index.
+pub enum Candidates {
+    Waiting,
+    Four(usize),
 }
 
 // The coder's reply, written as the next bit.
@@ -139,37 +145,42 @@ fn test(run: Run, pyramid: &[i32], body: &[u8], s: &mut [u32], w: Stand, out: &m
     Stand { fill, at }
 }
 
-// Two coefficients, in order.
-fn test_two(run: Run, pyramid: &[i32], body: &[u8], s: &mut [u32], w: Stand, out: &mut [u8], d: &mut [i32], p: usize, q: usize) -> Stand
-    requires { ⌜ (run .plane .0 < mostPlanes) × Fits (run .n) (now s) (w .fill) × (w .fill .lip + w .fill .lsp + 2 ≤ run .n) × (w .at .at + 4 < 2 ^ 62) × (p < 2 ^ 32) × (q < 2 ^ 32) ⌝ }
-    ensures { λ r. ⌜ Tested (side run (now (pyramid .entry)) (now (body .entry))) (p ∷ q ∷ []) (run .n) (now (s .entry)) (now (out .entry)) (now (d .entry)) w
-        (now (s .exit)) (now (out .exit)) (now (d .exit)) r ⌝ }
+// The i-th of the coefficients to test.
+fn candidate(run: Run, s: &[u32], from: Candidates, i: usize) -> usize
+    requires { ⌜ Choosing run from i (now s) ⌝ }
+    ensures { λ r. ⌜ (waiting i 1 (candidates (run .z) from (now (s .entry))) ≡ r ∷ []) × (r < 2 ^ 32) ⌝ }
 {
-    let r = test(run, pyramid, body, s, w, out, d, p);
-    test(run, pyramid, body, s, r, out, d, q)
+    match from {
+        Candidates::Waiting => lists::lip_at(s, i),
+        Candidates::Four(first) => {
+            if i < 2 {
+                return first + i;
+            }
+            first + run.z.w + (i - 2)
+        }
+    }
 }
 
-// The four offspring of the block that begins at an index.
-fn test_block(run: Run, pyramid: &[i32], body: &[u8], s: &mut [u32], w: Stand, out: &mut [u8], d: &mut [i32], first: usize) -> Stand
-    requires { ⌜ (run .plane .0 < mostPlanes) × Fits (run .n) (now s) (w .fill) × (w .fill .lip + w .fill .lsp + 4 ≤ run .n) × (w .at .at + 8 < 2 ^ 62) × (first + run .z .w + 1 < greatestSide * greatestSide) ⌝ }
-    ensures { λ r. ⌜ Tested (side run (now (pyramid .entry)) (now (body .entry))) (offspringList (run .z) (Offspring.Block first)) (run .n) (now (s .entry)) (now (out .entry)) (now (d .entry)) w
-        (now (s .exit)) (now (out .exit)) (now (d .exit)) r ⌝ }
-{
-    let below = first + run.z.w;
-    let r = test_two(run, pyramid, body, s, w, out, d, first, first + 1);
-    test_two(run, pyramid, body, s, r, out, d, below, below + 1)
-}
-
-// Step 1: each of the m entries of LIP; those that stay are put back to its front.
-fn test_lip(run: Run, pyramid: &[i32], body: &[u8], s: &mut [u32], w: Stand, out: &mut [u8], d: &mut [i32], m: usize) -> Stand
-    requires { ⌜ (run .plane .0 < mostPlanes) × Fits (run .n) (now s) (w .fill) × (w .fill .lip ≤ 0) × (m + w .fill .lsp ≤ run .n) × (w .at .at + 2 * m < 2 ^ 62) ⌝ }
-    ensures { λ r. ⌜ Tested (side run (now (pyramid .entry)) (now (body .entry))) (waiting 0 m (now (s .entry))) (run .n) (now (s .entry)) (now (out .entry)) (now (d .entry)) w
+// Step 1, and the offspring of an opened set: m coefficients are tested, in order. LIP's entries that stay are put back to its front.
+fn test_each(
+    run: Run,
+    pyramid: &[i32],
+    body: &[u8],
+    s: &mut [u32],
+    w: Stand,
+    out: &mut [u8],
+    d: &mut [i32],
+    from: Candidates,
+    m: usize,
+) -> Stand
+    requires { ⌜ Testing run from m (now s) w ⌝ }
+    ensures { λ r. ⌜ Tested (side run (now (pyramid .entry)) (now (body .entry))) (waiting 0 m (candidates (run .z) from (now (s .entry)))) (run .n) (now (s .entry)) (now (out .entry)) (now (d .entry)) w
         (now (s .exit)) (now (out .exit)) (now (d .exit)) r ⌝ }
 {
     let mut r = w;
     let mut i = 0;
     while i < m {
-        let p = lists::lip_at(s, i);
+        let p = candidate(run, s, from, i);
         i += 1;
         r = test(run, pyramid, body, s, r, out, d, p);
     }
@@ -206,7 +217,7 @@ fn open_a(run: Run, pyramid: &[i32], body: &[u8], s: &mut [u32], w: Stand, out: 
         (now (s .exit)) (now (out .exit)) (now (d .exit)) r ⌝ }
 {
     let first = first_of(run.z, p, Level(run.level.0 + 1));
-    let r = test_block(run, pyramid, body, s, w, out, d, first);
+    let r = test_each(run, pyramid, body, s, w, out, d, Candidates::Four(first), 4);
     if 1 < run.level.0 {
         let fill = lists::add_set(s, run.n, r.fill, Set::TypeB(p));
         let at = r.at;
@@ -356,7 +367,7 @@ fn run_pass(run: Run, pyramid: &[i32], body: &[u8], s: &mut [u32], w: Stand, out
     let at = w.at;
     let mut fill = w.fill;
     fill.lip = 0;
-    let tested = test_lip(run, pyramid, body, s, Stand { fill, at }, out, d, waiting);
+    let tested = test_each(run, pyramid, body, s, Stand { fill, at }, out, d, Candidates::Waiting, waiting);
     let visited = visit_lis(run, pyramid, body, s, tested, out, d);
     let next = refine_lsp(run, pyramid, body, s, known, out, d, visited.at);
     let left = visited.fill;

@@ -1,3 +1,4 @@
+use Rattle.passes.proofs.Tests.{four-tested}
 use native.Mathlib.Omega.{arith}
 use Rattle.passes.proofs.Sets.{level-few, node-index, node-A, opening-room, opens-A, adds-A, opened-A-more, opened-A-less}
 use borrow.Author.Needs.{needs}
@@ -7,7 +8,7 @@ use Rattle.passes.proofs.open_a.Reads as reads
 use Rattle.passes.proofs.open_a.Lts as lts
 use Rattle.lists.proofs.add_set.Reads as add-set-reads
 use Rattle.passes.proofs.first_of.Reads as first-of-reads
-use Rattle.passes.proofs.test_block.Reads as test-block-reads
+use Rattle.passes.proofs.test_each.Reads as test-each-reads
 
 -- src/lib.rt:202:42
 add-t13 : tie.Need-add-t13
@@ -18,12 +19,12 @@ first-of-requires : tie.Need-first-of-requires
 first-of-requires c κs = let O = c .before .before .before .before .pre in let N = node-A _ (O .proper) _ (O .met) in (N .0, N .1)
 
 -- src/lib.rt:203:9
-test-block-requires : tie.Need-test-block-requires
-test-block-requires c κs = let O = c .before .before .before .before .before .before .before .before .pre in let N = node-A _ (O .proper) _ (O .met) in let l = opens-A _ (O .proper) _ (N .1) _ (c .before .before .before .first-of .ensures .0) in (O .proper .plane, O .fits, omega (arith, opening-room _ (O .proper) O .0), omega (arith, O .place), c .before .before .before .first-of .ensures .1)
+test-each-requires : tie.Need-test-each-requires
+test-each-requires c κs = let O = c .before .before .before .before .before .before .before .before .pre in let N = node-A _ (O .proper) _ (O .met) in let l = opens-A _ (O .proper) _ (N .1) _ (c .before .before .before .first-of .ensures .0) in record { plane = O .proper .plane; fits = O .fits; room = omega (arith, opening-room _ (O .proper) O .0); place = omega (arith, O .place); suited = (omega arith, c .before .before .before .first-of .ensures .1) }
 
 -- src/lib.rt:205:13
 add-set-requires : tie.Need-add-set-requires
-add-set-requires c κs = let O = c .before .before .before .before .before .before .before .before .before .before .before .before .before .before .before .before .before .pre in let N = node-A _ (O .proper) _ (O .met) in let T = c .before .before .before .before .before .before .before .before .test-block .ensures in (T .fits, omega (arith, O .proper .size), omega (arith, T .visited, T .left, opening-room _ (O .proper) O .1, adds-A _ (O .proper) _ (O .met) (c .before .if1 .taken)), node-index _ (O .proper) (N .2))
+add-set-requires c κs = let O = c .before .before .before .before .before .before .before .before .before .before .before .before .before .before .before .before .before .pre in let N = node-A _ (O .proper) _ (O .met) in let T = c .before .before .before .before .before .before .before .before .test-each .ensures in (T .fits, omega (arith, O .proper .size), omega (arith, T .visited, T .left, opening-room _ (O .proper) O .1, adds-A _ (O .proper) _ (O .met) (c .before .if1 .taken)), node-index _ (O .proper) (N .2))
 
 -- src/lib.rt:207:9
 same-length : tie.Need-same-length
@@ -39,7 +40,7 @@ same-length-3 c = search needs
 
 -- src/lib.rt:207:9
 returns : tie.Need-returns
-returns c = let O = c .before .before .before .before .before .before .before .before .before .before .before .before .before .before .before .before .before .before .before .before .before .pre in opened-A-more _ (O .proper) _ (O .met) (c .before .before .before .before .before .before .before .before .before .before .before .before .before .before .before .before .first-of .ensures .0) (c .before .before .before .before .before .before .before .before .before .before .before .before .test-block .ensures) (c .before .before .before .before .before .if1 .taken) (c .before .before .before .add-set .ensures)
+returns c = let O = c .before .before .before .before .before .before .before .before .before .before .before .before .before .before .before .before .before .before .before .before .before .pre in opened-A-more _ (O .proper) _ (O .met) (c .before .before .before .before .before .before .before .before .before .before .before .before .before .before .before .before .first-of .ensures .0) (four-tested _ _ (c .before .before .before .before .before .before .before .before .before .before .before .before .test-each .ensures)) (c .before .before .before .before .before .if1 .taken) (c .before .before .before .add-set .ensures)
 
 -- src/lib.rt:197:1
 same-length-4 : tie.Need-same-length-4
@@ -55,7 +56,7 @@ same-length-6 c = search needs
 
 -- src/lib.rt:197:1
 returns-2 : tie.Need-returns-2
-returns-2 c = let O = c .before .before .before .before .before .before .before .before .before .before .before .before .before .before .before .before .pre in opened-A-less _ (O .proper) _ (O .met) (c .before .before .before .before .before .before .before .before .before .before .before .first-of .ensures .0) (c .before .before .before .before .before .before .before .test-block .ensures) (c .if1 .left)
+returns-2 c = let O = c .before .before .before .before .before .before .before .before .before .before .before .before .before .before .before .before .pre in opened-A-less _ (O .proper) _ (O .met) (c .before .before .before .before .before .before .before .before .before .before .before .first-of .ensures .0) (four-tested _ _ (c .before .before .before .before .before .before .before .test-each .ensures)) (c .if1 .left)
 
 pub open-a-spec : {M : Type 1} → statement M
 open-a-spec =
@@ -63,7 +64,7 @@ open-a-spec =
     (tie.spec
     add-t13
     first-of-requires
-    test-block-requires
+    test-each-requires
     add-set-requires
     same-length
     same-length-2

@@ -7,20 +7,20 @@ use Rattle.passes.proofs.run_pass.Tie as tie
 use Rattle.passes.proofs.run_pass.Reads as reads
 use Rattle.passes.proofs.run_pass.Lts as lts
 use Rattle.passes.proofs.refine_lsp.Reads as refine-lsp-reads
-use Rattle.passes.proofs.test_lip.Reads as test-lip-reads
+use Rattle.passes.proofs.test_each.Reads as test-each-reads
 use Rattle.passes.proofs.visit_lis.Reads as visit-lis-reads
 
 -- src/lib.rt:355:9
-test-lip-requires : tie.Need-test-lip-requires
-test-lip-requires c κs = let H = c .before .before .before .before .before .before .before .before .pre in (H .proper .plane, first-fits _ H, omega arith, both-fit _ H, omega (arith, both-fit _ H, H .place, H .proper .from, H .fits .lip))
+test-each-requires : tie.Need-test-each-requires
+test-each-requires c κs = let H = c .before .before .before .before .before .before .before .before .pre in record { plane = H .proper .plane; fits = first-fits _ H; room = omega (arith, both-fit _ H); place = omega (arith, both-fit _ H, H .place, H .proper .from, H .fits .lip); suited = omega arith }
 
 -- src/lib.rt:356:9
 visit-lis-requires : tie.Need-visit-lis-requires
-visit-lis-requires c κs = let H = c .before .before .before .before .before .before .before .before .before .before .before .before .before .before .before .before .before .pre in (H .proper, tested-ready _ H (c .before .before .before .before .before .before .before .before .test-lip .ensures))
+visit-lis-requires c κs = let H = c .before .before .before .before .before .before .before .before .before .before .before .before .before .before .before .before .before .pre in (H .proper, tested-ready _ H (c .before .before .before .before .before .before .before .before .test-each .ensures))
 
 -- src/lib.rt:357:9
 refine-lsp-requires : tie.Need-refine-lsp-requires
-refine-lsp-requires c κs = let H = c .before .before .before .before .before .before .before .before .before .before .before .before .before .before .before .before .before .before .before .before .before .before .before .before .before .before .pre in let T = c .before .before .before .before .before .before .before .before .before .before .before .before .before .before .before .before .before .test-lip .ensures in let U = c .before .before .before .before .before .before .before .before .visit-lis .ensures in (H .proper .plane, U .0 .ready .fits .room, omega (arith, both-fit _ H), visited-place _ H T (U .0) (U .1), refining-growth _ H _ _ T (U .0) (U .1))
+refine-lsp-requires c κs = let H = c .before .before .before .before .before .before .before .before .before .before .before .before .before .before .before .before .before .before .before .before .before .before .before .before .before .before .pre in let T = c .before .before .before .before .before .before .before .before .before .before .before .before .before .before .before .before .before .test-each .ensures in let U = c .before .before .before .before .before .before .before .before .visit-lis .ensures in (H .proper .plane, U .0 .ready .fits .room, omega (arith, both-fit _ H), visited-place _ H T (U .0) (U .1), refining-growth _ H _ _ T (U .0) (U .1))
 
 -- src/lib.rt:345:1
 same-length : tie.Need-same-length
@@ -36,13 +36,13 @@ same-length-3 c = search needs
 
 -- src/lib.rt:345:1
 returns : tie.Need-returns
-returns c = let H = c .before .before .before .before .before .before .before .before .before .before .before .before .before .before .before .before .before .before .before .before .before .before .before .before .before .before .before .before .before .before .before .pre in let T = c .before .before .before .before .before .before .before .before .before .before .before .before .before .before .before .before .before .before .before .before .before .before .test-lip .ensures in let U = c .before .before .before .before .before .before .before .before .before .before .before .before .before .visit-lis .ensures in let R = c .before .before .before .before .refine-lsp .ensures in ran _ H T (U .0) (U .1) refl refl (R .0)
+returns c = let H = c .before .before .before .before .before .before .before .before .before .before .before .before .before .before .before .before .before .before .before .before .before .before .before .before .before .before .before .before .before .before .before .pre in let T = c .before .before .before .before .before .before .before .before .before .before .before .before .before .before .before .before .before .before .before .before .before .before .test-each .ensures in let U = c .before .before .before .before .before .before .before .before .before .before .before .before .before .visit-lis .ensures in let R = c .before .before .before .before .refine-lsp .ensures in ran _ H T (U .0) (U .1) refl refl (R .0)
 
 pub run-pass-spec : {M : Type 1} → statement M
 run-pass-spec =
     tie.close
     (tie.spec
-    test-lip-requires
+    test-each-requires
     visit-lis-requires
     refine-lsp-requires
     same-length
