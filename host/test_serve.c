@@ -76,6 +76,17 @@ static void try_accepted(const Bytes *record, uint64_t level, uint64_t plane, co
         try_answers(refused);
 }
 
+/* What the coder writes of a pyramid, served whole, is itself: P1 to P3, P6, P7 and P12 among them. */
+static void test_pairs(void) {
+    for (size_t i = 0; i < pair_count; i++) {
+        begin_case(pairs[i].name);
+        Bytes record = bytes_of(pairs[i].record);
+        try_accepted(&record, 1, 0, &record, 0);
+        free(record.at);
+        end_case();
+    }
+}
+
 /* 8 x 8, N = 2, so levels 1 to 3; the bit counts there may be up to 256. */
 #define WIDER "01 08 08 02 02 "
 #define BODY_256 EIGHT EIGHT EIGHT EIGHT
@@ -160,11 +171,12 @@ static const Refused refused[] = {
     {"planes cut", "01 80 04 80 04 05 83", 1, 0, AFS_HEAD, 6},
     {"version malformed", "81 00 04 04 01 03", 1, 0, AFS_HEAD, 0},
     {"version malformed, nothing after it", "81 00", 1, 0, AFS_HEAD, 0},
-    {"version of more than four bytes", "80 80 80 80", 1, 0, AFS_HEAD, 0},
+    {"P4: version 80 00", "80 00 04 04 01 03", 1, 0, AFS_HEAD, 0},
+    {"P5: version 80 80 80 80", "80 80 80 80", 1, 0, AFS_HEAD, 0},
     {"width malformed", "01 84 00 04 01 03", 1, 0, AFS_HEAD, 1},
     {"height malformed", "01 04 84 80 80 00 01 03", 1, 0, AFS_HEAD, 2},
     {"decompositions of more than four bytes", "01 04 04 FF FF FF FF 03", 1, 0, AFS_HEAD, 3},
-    {"planes malformed", "01 04 04 01 80 00", 1, 0, AFS_HEAD, 4},
+    {"P4: planes 80 00", "01 04 04 01 80 00", 1, 0, AFS_HEAD, 4},
 
     {"version 129", "81 01", 1, 0, AFS_VERSION, 0},
     {"version 0", "00 04 04 01 03", 1, 0, AFS_VERSION, 0},
@@ -206,8 +218,8 @@ static const Refused refused[] = {
     {"ASK before PART", HEADER "80 00", 0, 0, AFS_ASK, 0},
     {"ASK before PAD", HEADER "02 02 05 81", 1, 4, AFS_ASK, 0},
 
-    {"plane malformed", HEADER "80 00", 1, 0, AFS_PART, 5},
-    {"plane of more than four bytes", HEADER "80 80 80 80", 1, 0, AFS_PART, 5},
+    {"P4: plane 80 00", HEADER "80 00", 1, 0, AFS_PART, 5},
+    {"P5: plane 80 80 80 80", HEADER "80 80 80 80", 1, 0, AFS_PART, 5},
     {"level malformed", HEADER "02 82 00", 1, 0, AFS_PART, 5},
     {"bit count malformed", HEADER "02 02 85 00", 1, 0, AFS_PART, 5},
     {"bit count of more than four bytes", HEADER "02 02 FF FF FF FF", 1, 0, AFS_PART, 5},
@@ -320,6 +332,7 @@ static void test_null(void) {
 
 int main(void) {
     setvbuf(stdout, NULL, _IOLBF, BUFSIZ);
+    test_pairs();
     test_tables();
     test_cuts();
     test_null();
