@@ -98,7 +98,7 @@ enum {
  *                          only read
  *   width, height          4 to 512
  *   decompositions         N, 1 to 5
- *   out, out_len           where the record goes; 5 x width x height + 640
+ *   out, out_len           where the record goes; 6 x width x height + 640
  *                          bytes are always enough
  *   work, work_len         workspace, at least 4 x width x height numbers
  *   answer, answer_len     where the answer goes, at least AFS_CODED_NUMBERS

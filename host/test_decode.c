@@ -423,7 +423,7 @@ static Coded make_pyramid(uint64_t width, uint64_t height, uint64_t decompositio
 
 /* Its record, made with the room that is always enough. */
 static Bytes record_of(Coded *coded) {
-    size_t area = coded->pyramid.length, room = 5 * area + 640, header = 4;
+    size_t area = coded->pyramid.length, room = 6 * area + 640, header = 4;
     Bytes out = {memory_of(room), room};
     uint32_t *work = memory_of(4 * area * sizeof *work);
     uint64_t answer[AFS_CODED_NUMBERS];

@@ -9,7 +9,7 @@ enum { COEFFICIENT_BYTES = 4, WORK_PER_COEFFICIENT = 4 };
 
 /* What the description of afs_code() calls always enough. */
 static size_t room_for_record(size_t coefficients) {
-    return 5 * coefficients + 640;
+    return 6 * coefficients + 640;
 }
 
 static int32_t coefficient_at(const uint8_t *at) {
