@@ -229,7 +229,7 @@ pub held-fresh : (n : ℕ) (s : List ℕ) (f : Fill) → f .kept ≡ 0 → f .mo
 unfolding held
 held-fresh n s f a b =
     let same : List ℕ → List Entry → List Entry → Held
-        = λ x y z. record { lip = x; lsp = known n (f .lsp) s; kept = y; todo = sets (lisFrom n + f .visited) (f .left) s; moved = z } in
+    = λ x y z. record { lip = x; lsp = known n (f .lsp) s; kept = y; todo = sets (lisFrom n + f .visited) (f .left) s; moved = z } in
     ap (λ x. same x (sets (lisFrom n) (f .kept) s) (sets (movedFrom n) (f .moved) s)) (waiting-none 0 s)
     ∙ ap₂ (same []) (sets-none (lisFrom n) (f .kept) s a) (sets-none (movedFrom n) (f .moved) s b)
 

@@ -120,12 +120,11 @@ module _ {z : Size} {p : Plane} {l : Level} {work : List ℕ} {counts : Counts} 
     level-begins = sym (held-begins n t (fillOf counts k) refl) ∙ lists-are
 
     pub level-counts : (length (s k .lis) ≡ countAt (counts .lis) k) × (length (s k .lsp) ≡ countAt (counts .lsp) k)
-    level-counts =
-        (
-          ap (λ x. length (x .lis)) (sym level-begins) ∙ todo-length n t (fillOf counts k) level-fits,
-          ap (λ x. length (x .lsp)) (sym level-begins) ∙ ap length (held-known n t (fillOf counts k))
+    level-counts = (
+      ap (λ x. length (x .lis)) (sym level-begins) ∙ todo-length n t (fillOf counts k) level-fits,
+      ap (λ x. length (x .lsp)) (sym level-begins) ∙ ap length (held-known n t (fillOf counts k))
           ∙ known-length n (countAt (counts .lsp) k) t (omega (arith, stretch-length, level-fits .lsp)),
-        )
+    )
 
     -- each set has a member in the level, or none has
     pub level-queue : All (λ e. inLevel (family z) k e ≡ leb k (z .n)) (s k .lis)
@@ -271,8 +270,8 @@ module _ (run : Run) {work : List ℕ} {counts : Counts} {d : List ℤ} (H : Run
         let L : Legal z = legal z (R .legal) in
         let m = moved-room z L (R .sound) j (omega arith) (omega (arith, R .level)) C (chan out d (run .from .at)) in
         let s : length (passed (familyOf run) (suc j) C (stateOf z work counts (suc j)) (chan out d (run .from .at)) .moved) ≡ r .fill .moved
-            = subst (λ (x : ℕ). length (passed (familyOf run) x C (stateOf z work counts x) (chan out d (run .from .at)) .moved) ≡ r .fill .moved) (sym i)
-            gone-count in
+        = subst (λ (x : ℕ). length (passed (familyOf run) x C (stateOf z work counts x) (chan out d (run .from .at)) .moved) ≡ r .fill .moved) (sym i)
+        gone-count in
         let o = other-count (counts .lis) (r .fill .kept) j (omega arith) (λ e. omega arith) in
         sets-fit (levelSize z j) _ (omega (arith, m, s, o, level-counts R j (omega arith) (omega (arith, R .level)) .0))
 

@@ -215,12 +215,12 @@ module _ (run : Run) (P : Proper run) where
   opening-room {e} {s} {w} O = (
     omega (arith, O .room .coefficients),
     sets-fit (run .n) _
-    (omega (
-      arith,
-      room-slots L (O .room),
-      length-append (held (run .n) s (w .fill) .todo) (added F e),
-      todo-length (run .n) s (w .fill) (O .fits),
-    )),
+        (omega (
+          arith,
+          room-slots L (O .room),
+          length-append (held (run .n) s (w .fill) .todo) (added F e),
+          todo-length (run .n) s (w .fill) (O .fits),
+        )),
   )
 
   pub opens-A : (p : ℕ) → 1 ≤ length (offspringOf (run .z) p) → (first : ℕ) → offspringList (run .z) (Block first) ≡ offspringOf (run .z) p
@@ -260,7 +260,7 @@ module _ (run : Run) (P : Proper run) where
       by : (b : Bool) → Queued run v (cond b (typeB p ∷ []) [])
       by true = (
         inLevel-B (run .z) Z p (some-A p m) k (P .coarser) ∙ le-ltb (suc k) (levelOf (run .z) p) (omega (arith, level-A p m))
-        ∙ either-false (leb k (run .z .n)) (ltb v (run .olds)) (le-ltb v (run .olds) h),
+            ∙ either-false (leb k (run .z .n)) (ltb v (run .olds)) (le-ltb v (run .olds) h),
         tt,
       )
       by false = tt

@@ -126,7 +126,7 @@ module _ (z : Size) (k : Level) {work : List ℕ} {counts : Counts} {moved : ℕ
             let a : 1 ≤ next .0 = omega arith in
             let b : next .0 ≤ levels z = omega (arith, H .level) in
             let c : countAt (r .lis) (next .0) ≡ countAt (counts .lis) (next .0) + moved
-                = getD-set-same (counts .lis) (next .0 - 1) (countAt (counts .lis) (next .0) + moved) 0 (omega arith) in
+            = getD-set-same (counts .lis) (next .0 - 1) (countAt (counts .lis) (next .0) + moved) 0 (omega arith) in
             state-in z work′ r (next .0) a b ∙ ap (λ (x : ℕ). listed work′ x) c
             ∙ O .longer (countAt (counts .lip) (next .0)) (countAt (counts .lsp) (next .0)) (rw e (H .lip (omega arith))) (rw e (H .lsp (omega arith)))
             ∙ ap (λ l. record { lip = l .lip; lis = l .lis ++ movedOut z (k .0) work moved; lsp = l .lsp }) (sym (state-in z work counts (next .0) a b))

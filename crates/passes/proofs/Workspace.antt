@@ -88,19 +88,17 @@ module _ (z : Size) (legality : legalSize z ≡ true) (k : ℕ) (a : 1 ≤ k) (b
   Z = legal z legality
 
   pub from-fits : (r : ℕ) → r ≡ 4 * levelStart z k → (r + 4 * levelSize z k ≤ workFor z) × (r < 2 ^ 21)
-  from-fits r e =
-      (
-        omega (arith, levelSize-end z Z k a b, level-ends z Z k a b),
-        omega (arith, levelSize-end z Z k a b, level-ends z Z k a b, area-bound z legality),
-      )
+  from-fits r e = (
+    omega (arith, levelSize-end z Z k a b, level-ends z Z k a b),
+    omega (arith, levelSize-end z Z k a b, level-ends z Z k a b, area-bound z legality),
+  )
 
   pub to-fits : (r : ℕ) → r ≡ 4 * levelEnd z k → (r ≡ 4 * levelStart z k + 4 * levelSize z k) × (r ≤ workFor z) × (r < 2 ^ 21)
-  to-fits r e =
-      (
-        omega (arith, levelSize-end z Z k a b),
-        omega (arith, level-ends z Z k a b),
-        omega (arith, level-ends z Z k a b, area-bound z legality),
-      )
+  to-fits r e = (
+    omega (arith, levelSize-end z Z k a b),
+    omega (arith, level-ends z Z k a b),
+    omega (arith, level-ends z Z k a b, area-bound z legality),
+  )
 
   -- the other levels' stretches, when that of k is lent
   pub others-same : (work ys : List ℕ) (from to : ℕ) → from ≡ 4 * levelStart z k → to ≡ 4 * levelStart z k + 4 * levelSize z k → workFor z ≤ length work
@@ -189,8 +187,7 @@ module _ (z : Size) (k next : Level) {work : List ℕ} {moved there : ℕ} (H : 
     pub both-room : (from ≤ to) × (4 * n + 4 * m ≤ length (midOf from (to - from) work)) × (n < 2 ^ 32) × (m < 2 ^ 32)
     both-room =
         let r = H .room in
-        let a = area-bound z (H .legal) in
-        (
+        let a = area-bound z (H .legal) in (
           omega (arith, next-begins),
           omega (arith, mid-len from to work (omega (arith, next-ends, r)), both-lent),
           omega (arith, next-begins, next-ends, a),

@@ -31,10 +31,10 @@ pub record Lending (run : Run) (work : List ℕ) (d : List ℤ) (w : Stand) : Ty
   pub fresh : Fresh run (stretchOf (run .z) (run .level .0) work) d w
 
 pub record Lent (C : Side Chan) (run : Run) (work out : List ℕ) (d : List ℤ) (w : Stand) (work′ out′ : List ℕ) (d′ : List ℤ) (r : Stand) : Type 0
-    where
-  pub ran : Ran C run (stretchOf (run .z) (run .level .0) work) out d w (stretchOf (run .z) (run .level .0) work′) out′ d′ r
-  pub others : (j : ℕ) → 1 ≤ j → j ≤ levels (run .z) → j ≢ run .level .0 → stretchOf (run .z) j work′ ≡ stretchOf (run .z) j work
-  pub same : length work′ ≡ length work
+  where
+    pub ran : Ran C run (stretchOf (run .z) (run .level .0) work) out d w (stretchOf (run .z) (run .level .0) work′) out′ d′ r
+    pub others : (j : ℕ) → 1 ≤ j → j ≤ levels (run .z) → j ≢ run .level .0 → stretchOf (run .z) j work′ ≡ stretchOf (run .z) j work
+    pub same : length work′ ≡ length work
 
 -- what moved out of level k
 unfoldable pub movedOut : Size → ℕ → List ℕ → ℕ → List Entry

@@ -75,17 +75,35 @@ fn say(out: &mut [u8], at: BitPosition, bit: bool) -> BitRead
     BitRead { bit, next }
 }
 
-fn ask_significant(run: Run, pyramid: &[i32], body: &[u8], out: &mut [u8], at: BitPosition, p: usize) -> BitRead
+fn ask_significant(
+    run: Run,
+    pyramid: &[i32],
+    body: &[u8],
+    out: &mut [u8],
+    at: BitPosition,
+    p: usize,
+) -> BitRead
     requires { ⌜ (at .at < 2 ^ 62) × (run .plane .0 < mostPlanes) ⌝ }
     ensures { λ r. ⌜ Replied (side run (now (pyramid .entry)) (now (body .entry))) (significant? p) (now (out .entry)) at r (now (out .exit)) ⌝ }
 {
     if run.reads {
         return at.read(body);
     }
-    say(out, at, shape::threshold_of(run.plane) <= shape::magnitude_at(pyramid, p))
+    say(
+        out,
+        at,
+        shape::threshold_of(run.plane) <= shape::magnitude_at(pyramid, p),
+    )
 }
 
-fn ask_negative(run: Run, pyramid: &[i32], body: &[u8], out: &mut [u8], at: BitPosition, p: usize) -> BitRead
+fn ask_negative(
+    run: Run,
+    pyramid: &[i32],
+    body: &[u8],
+    out: &mut [u8],
+    at: BitPosition,
+    p: usize,
+) -> BitRead
     requires { ⌜ at .at < 2 ^ 62 ⌝ }
     ensures { λ r. ⌜ Replied (side run (now (pyramid .entry)) (now (body .entry))) (negative? p) (now (out .entry)) at r (now (out .exit)) ⌝ }
 {
@@ -95,7 +113,14 @@ fn ask_negative(run: Run, pyramid: &[i32], body: &[u8], out: &mut [u8], at: BitP
     say(out, at, shape::negative_at(pyramid, p))
 }
 
-fn ask_bit(run: Run, pyramid: &[i32], body: &[u8], out: &mut [u8], at: BitPosition, p: usize) -> BitRead
+fn ask_bit(
+    run: Run,
+    pyramid: &[i32],
+    body: &[u8],
+    out: &mut [u8],
+    at: BitPosition,
+    p: usize,
+) -> BitRead
     requires { ⌜ (at .at < 2 ^ 62) × (run .plane .0 < mostPlanes) ⌝ }
     ensures { λ r. ⌜ Replied (side run (now (pyramid .entry)) (now (body .entry))) (bit? p) (now (out .entry)) at r (now (out .exit)) ⌝ }
 {
@@ -127,7 +152,16 @@ fn note_refined(run: Run, d: &mut [i32], p: usize, bit: bool)
 }
 
 // A coefficient is tested: its bits, and its place at the end of LSP or of LIP.
-fn test(run: Run, pyramid: &[i32], body: &[u8], s: &mut [u32], w: Stand, out: &mut [u8], d: &mut [i32], p: usize) -> Stand
+fn test(
+    run: Run,
+    pyramid: &[i32],
+    body: &[u8],
+    s: &mut [u32],
+    w: Stand,
+    out: &mut [u8],
+    d: &mut [i32],
+    p: usize,
+) -> Stand
     requires { ⌜ (run .plane .0 < mostPlanes) × Fits (run .n) (now s) (w .fill) × (w .fill .lip + w .fill .lsp < run .n) × (w .at .at + 2 < 2 ^ 62) × (p < 2 ^ 32) ⌝ }
     ensures { λ r. ⌜ Tested (side run (now (pyramid .entry)) (now (body .entry))) (p ∷ []) (run .n) (now (s .entry)) (now (out .entry)) (now (d .entry)) w
         (now (s .exit)) (now (out .exit)) (now (d .exit)) r ⌝ }
@@ -211,7 +245,16 @@ fn first_of(z: Size, p: usize, k: Level) -> usize
 }
 
 // A set of type A whose bit is 1: its offspring are tested, and it goes to the end of LIS as type B if L is not empty.
-fn open_a(run: Run, pyramid: &[i32], body: &[u8], s: &mut [u32], w: Stand, out: &mut [u8], d: &mut [i32], p: usize) -> Stand
+fn open_a(
+    run: Run,
+    pyramid: &[i32],
+    body: &[u8],
+    s: &mut [u32],
+    w: Stand,
+    out: &mut [u8],
+    d: &mut [i32],
+    p: usize,
+) -> Stand
     requires { ⌜ Opening run (typeA p) (now s) w ⌝ }
     ensures { λ r. ⌜ Opened (side run (now (pyramid .entry)) (now (body .entry))) (familyOf run) (typeA p) (run .n) (now (s .entry)) (now (out .entry)) (now (d .entry)) w
         (now (s .exit)) (now (out .exit)) (now (d .exit)) r ⌝ }
@@ -238,7 +281,16 @@ fn open_b(run: Run, s: &mut [u32], w: Stand, p: usize) -> Stand
 }
 
 // A set whose bit is 1.
-fn open_set(run: Run, pyramid: &[i32], body: &[u8], s: &mut [u32], w: Stand, out: &mut [u8], d: &mut [i32], e: Set) -> Stand
+fn open_set(
+    run: Run,
+    pyramid: &[i32],
+    body: &[u8],
+    s: &mut [u32],
+    w: Stand,
+    out: &mut [u8],
+    d: &mut [i32],
+    e: Set,
+) -> Stand
     requires { ⌜ Opening run (entryOf e) (now s) w ⌝ }
     ensures { λ r. ⌜ Opened (side run (now (pyramid .entry)) (now (body .entry))) (familyOf run) (entryOf e) (run .n) (now (s .entry)) (now (out .entry)) (now (d .entry)) w
         (now (s .exit)) (now (out .exit)) (now (d .exit)) r ⌝ }
@@ -260,14 +312,25 @@ fn largest_in(run: Run, pyramid: &[i32], e: Set) -> u32
     }
 }
 
-fn ask_set(run: Run, pyramid: &[i32], body: &[u8], out: &mut [u8], at: BitPosition, e: Set) -> BitRead
+fn ask_set(
+    run: Run,
+    pyramid: &[i32],
+    body: &[u8],
+    out: &mut [u8],
+    at: BitPosition,
+    e: Set,
+) -> BitRead
     requires { ⌜ (at .at < 2 ^ 62) × Proper run × Met (familyOf run) (run .level .0) (entryOf e) ⌝ }
     ensures { λ r. ⌜ Replied (side run (now (pyramid .entry)) (now (body .entry))) (set? (entryOf e)) (now (out .entry)) at r (now (out .exit)) ⌝ }
 {
     if run.reads {
         return at.read(body);
     }
-    say(out, at, shape::threshold_of(run.plane) <= largest_in(run, pyramid, e))
+    say(
+        out,
+        at,
+        shape::threshold_of(run.plane) <= largest_in(run, pyramid, e),
+    )
 }
 
 // Whether a set has a member in the level: the roots of level N+1 have none there. Elsewhere each of type A has, and each of type B that was in
@@ -285,7 +348,16 @@ fn has_member(run: Run, visited: usize, e: Set) -> bool
 }
 
 // The bit of a set that has members in the level: it stays in its place, or is opened.
-fn weigh(run: Run, pyramid: &[i32], body: &[u8], s: &mut [u32], w: Stand, out: &mut [u8], d: &mut [i32], e: Set) -> Stand
+fn weigh(
+    run: Run,
+    pyramid: &[i32],
+    body: &[u8],
+    s: &mut [u32],
+    w: Stand,
+    out: &mut [u8],
+    d: &mut [i32],
+    e: Set,
+) -> Stand
     requires { ⌜ Proper run × InHand run (entryOf e) (now s) w × (indexOf e < 2 ^ 31) ⌝ }
     ensures { λ r. ⌜ Weighed (side run (now (pyramid .entry)) (now (body .entry))) run (entryOf e) (now (s .entry)) (now (out .entry)) (now (d .entry)) w
         (now (s .exit)) (now (out .exit)) (now (d .exit)) r ⌝ }
@@ -301,7 +373,15 @@ fn weigh(run: Run, pyramid: &[i32], body: &[u8], s: &mut [u32], w: Stand, out: &
 }
 
 // One entry of LIS: moved out of the level if it has no member there, else weighed.
-fn visit_set(run: Run, pyramid: &[i32], body: &[u8], s: &mut [u32], w: Stand, out: &mut [u8], d: &mut [i32]) -> Stand
+fn visit_set(
+    run: Run,
+    pyramid: &[i32],
+    body: &[u8],
+    s: &mut [u32],
+    w: Stand,
+    out: &mut [u8],
+    d: &mut [i32],
+) -> Stand
     requires { ⌜ Proper run × Underway run (now s) w × (0 < w .fill .left) ⌝ }
     ensures { λ r. ⌜ Visited (side run (now (pyramid .entry)) (now (body .entry))) run (now (s .entry)) (now (out .entry)) (now (d .entry)) w
         (now (s .exit)) (now (out .exit)) (now (d .exit)) r × (r .fill .visited ≡ w .fill .visited + 1) ⌝ }
@@ -317,7 +397,15 @@ fn visit_set(run: Run, pyramid: &[i32], body: &[u8], s: &mut [u32], w: Stand, ou
 }
 
 // Step 2: each entry of LIS, those added to its end meanwhile included.
-fn visit_lis(run: Run, pyramid: &[i32], body: &[u8], s: &mut [u32], w: Stand, out: &mut [u8], d: &mut [i32]) -> Stand
+fn visit_lis(
+    run: Run,
+    pyramid: &[i32],
+    body: &[u8],
+    s: &mut [u32],
+    w: Stand,
+    out: &mut [u8],
+    d: &mut [i32],
+) -> Stand
     requires { ⌜ Proper run × Underway run (now s) w ⌝ }
     ensures { λ r. ⌜ Visited (side run (now (pyramid .entry)) (now (body .entry))) run (now (s .entry)) (now (out .entry)) (now (d .entry)) w
         (now (s .exit)) (now (out .exit)) (now (d .exit)) r × (r .fill .left ≤ 0) ⌝ }
@@ -330,7 +418,15 @@ fn visit_lis(run: Run, pyramid: &[i32], body: &[u8], s: &mut [u32], w: Stand, ou
 }
 
 // The refinement of a coefficient.
-fn refine(run: Run, pyramid: &[i32], body: &[u8], out: &mut [u8], d: &mut [i32], at: BitPosition, p: usize) -> BitPosition
+fn refine(
+    run: Run,
+    pyramid: &[i32],
+    body: &[u8],
+    out: &mut [u8],
+    d: &mut [i32],
+    at: BitPosition,
+    p: usize,
+) -> BitPosition
     requires { ⌜ (at .at < 2 ^ 62) × (run .plane .0 < mostPlanes) × (magnitude (now d) p < 2 ^ 30) ⌝ }
     ensures { λ r. ⌜ (chan (now (out .exit)) (now (d .exit)) (r .at) ≡ sharpened (side run (now (pyramid .entry)) (now (body .entry))) p (chan (now (out .entry)) (now (d .entry)) (at .at)))
         × (r .at ≡ at .at + 1) ⌝ }
@@ -341,7 +437,16 @@ fn refine(run: Run, pyramid: &[i32], body: &[u8], out: &mut [u8], d: &mut [i32],
 }
 
 // Step 3: each of the m entries of LSP that came in at an earlier plane.
-fn refine_lsp(run: Run, pyramid: &[i32], body: &[u8], s: &[u32], m: usize, out: &mut [u8], d: &mut [i32], at: BitPosition) -> BitPosition
+fn refine_lsp(
+    run: Run,
+    pyramid: &[i32],
+    body: &[u8],
+    s: &[u32],
+    m: usize,
+    out: &mut [u8],
+    d: &mut [i32],
+    at: BitPosition,
+) -> BitPosition
     requires { ⌜ (run .plane .0 < mostPlanes) × (4 * run .n ≤ length (now s)) × (m ≤ run .n) × (at .at + m < 2 ^ 62) × Growth (run .plane .0) (2 ^ 30) (now d) (known (run .n) m (now s)) ⌝ }
     ensures { λ r. ⌜ (chan (now (out .exit)) (now (d .exit)) (r .at) ≡ sharpenedAll (side run (now (pyramid .entry)) (now (body .entry))) (known (run .n) m (now (s .entry))) (chan (now (out .entry)) (now (d .entry)) (at .at)))
         × (r .at ≡ at .at + m) ⌝ }
@@ -357,7 +462,15 @@ fn refine_lsp(run: Run, pyramid: &[i32], body: &[u8], s: &[u32], m: usize, out: 
 }
 
 // One part's pass in the level's stretch: the three steps.
-fn run_pass(run: Run, pyramid: &[i32], body: &[u8], s: &mut [u32], w: Stand, out: &mut [u8], d: &mut [i32]) -> Stand
+fn run_pass(
+    run: Run,
+    pyramid: &[i32],
+    body: &[u8],
+    s: &mut [u32],
+    w: Stand,
+    out: &mut [u8],
+    d: &mut [i32],
+) -> Stand
     requires { ⌜ Fresh run (now s) (now d) w ⌝ }
     ensures { λ r. ⌜ Ran (side run (now (pyramid .entry)) (now (body .entry))) run (now (s .entry)) (now (out .entry)) (now (d .entry)) w
         (now (s .exit)) (now (out .exit)) (now (d .exit)) r ⌝ }
@@ -367,7 +480,17 @@ fn run_pass(run: Run, pyramid: &[i32], body: &[u8], s: &mut [u32], w: Stand, out
     let at = w.at;
     let mut fill = w.fill;
     fill.lip = 0;
-    let tested = test_each(run, pyramid, body, s, Stand { fill, at }, out, d, Candidates::Waiting, waiting);
+    let tested = test_each(
+        run,
+        pyramid,
+        body,
+        s,
+        Stand { fill, at },
+        out,
+        d,
+        Candidates::Waiting,
+        waiting,
+    );
     let visited = visit_lis(run, pyramid, body, s, tested, out, d);
     let next = refine_lsp(run, pyramid, body, s, known, out, d, visited.at);
     let left = visited.fill;
@@ -507,7 +630,15 @@ fn stretch_to(z: Size, k: Level) -> usize
 }
 
 // The level's stretch, cut from the middle of the workspace and lent to its pass.
-fn run_level(run: Run, pyramid: &[i32], body: &[u8], work: &mut [u32], w: Stand, out: &mut [u8], d: &mut [i32]) -> Stand
+fn run_level(
+    run: Run,
+    pyramid: &[i32],
+    body: &[u8],
+    work: &mut [u32],
+    w: Stand,
+    out: &mut [u8],
+    d: &mut [i32],
+) -> Stand
     requires { ⌜ Lending run (now work) (now d) w ⌝ }
     ensures { λ r. ⌜ Lent (side run (now (pyramid .entry)) (now (body .entry))) run (now (work .entry)) (now (out .entry)) (now (d .entry)) w
         (now (work .exit)) (now (out .exit)) (now (d .exit)) r ⌝ }
@@ -524,7 +655,13 @@ fn hand_over(z: Size, k: Level, next: Level, work: &mut [u32], moved: usize, the
 {
     let from = stretch_from(z, k);
     let to = stretch_to(z, next);
-    lists::hand_on(&mut work[from..to], shape::level_size(z, k), moved, shape::level_size(z, next), there);
+    lists::hand_on(
+        &mut work[from..to],
+        shape::level_size(z, k),
+        moved,
+        shape::level_size(z, next),
+        there,
+    );
 }
 
 // What moved out of a level goes to the end of the next level's LIS. Nothing moves out of level 1.
@@ -542,7 +679,15 @@ fn hand_moved(z: Size, k: Level, work: &mut [u32], counts: Counts, moved: usize)
 }
 
 // A part: the pass of its level, and what moved out handed on.
-fn run_part(run: Run, pyramid: &[i32], body: &[u8], work: &mut [u32], counts: Counts, out: &mut [u8], d: &mut [i32]) -> Passed
+fn run_part(
+    run: Run,
+    pyramid: &[i32],
+    body: &[u8],
+    work: &mut [u32],
+    counts: Counts,
+    out: &mut [u8],
+    d: &mut [i32],
+) -> Passed
     requires { ⌜ Running run (now work) counts (now d) ⌝ }
     ensures { λ r. ⌜ PartRun (side run (now (pyramid .entry)) (now (body .entry))) run (now (work .entry)) counts (now (out .entry)) (now (d .entry))
         r (now (work .exit)) (now (out .exit)) (now (d .exit)) ⌝ }
@@ -558,7 +703,14 @@ fn run_part(run: Run, pyramid: &[i32], body: &[u8], work: &mut [u32], counts: Co
 }
 
 // The run of a part that goes on at a place.
-fn run_of(reads: bool, z: Size, plane: Plane, level: Level, counts: Counts, from: BitPosition) -> Run
+fn run_of(
+    reads: bool,
+    z: Size,
+    plane: Plane,
+    level: Level,
+    counts: Counts,
+    from: BitPosition,
+) -> Run
     requires { ⌜ (legalSize z ≡ true) × (1 ≤ level .0) × (level .0 ≤ levels z) ⌝ }
     ensures { λ r. ⌜ r ≡ runOf reads z plane level counts from ⌝ }
 {
@@ -577,7 +729,16 @@ fn run_of(reads: bool, z: Size, plane: Plane, level: Level, counts: Counts, from
 }
 
 // One part coded: its bits from a place on, and the lists after it. The coder writes no coefficient and reads no body.
-pub fn code_part(pyramid: &[i32], z: Size, plane: Plane, level: Level, work: &mut [u32], counts: Counts, out: &mut [u8], at: BitPosition) -> Passed
+pub fn code_part(
+    pyramid: &[i32],
+    z: Size,
+    plane: Plane,
+    level: Level,
+    work: &mut [u32],
+    counts: Counts,
+    out: &mut [u8],
+    at: BitPosition,
+) -> Passed
     requires { ⌜ Coding (now pyramid) z plane level (now work) counts at ⌝ }
     ensures { λ r. ⌜ Coded (now (pyramid .entry)) z plane level (now (work .entry)) counts (now (out .entry)) at r (now (work .exit)) (now (out .exit)) ⌝ }
 {
@@ -588,7 +749,15 @@ pub fn code_part(pyramid: &[i32], z: Size, plane: Plane, level: Level, work: &mu
 }
 
 // One part decoded from its body: the coefficients, and the lists after it. The decoder asks no pyramid and writes no bit.
-pub fn decode_part(body: &[u8], z: Size, plane: Plane, level: Level, work: &mut [u32], counts: Counts, pyramid: &mut [i32]) -> Passed
+pub fn decode_part(
+    body: &[u8],
+    z: Size,
+    plane: Plane,
+    level: Level,
+    work: &mut [u32],
+    counts: Counts,
+    pyramid: &mut [i32],
+) -> Passed
     requires { ⌜ Decoding z plane level (now work) counts (now pyramid) ⌝ }
     ensures { λ r. ⌜ Decoded (now (body .entry)) z plane level (now (work .entry)) counts (now (pyramid .entry)) r (now (work .exit)) (now (pyramid .exit)) ⌝ }
 {

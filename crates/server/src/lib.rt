@@ -23,10 +23,10 @@ pub enum Ended {
     Fault(Refusal),
 }
 
-fn refused(r: Refusal, out: &mut [u8]) -> Served
-    ensures { λ a. ⌜ Refusing r (now (out .entry)) a (now (out .exit)) ⌝ }
+fn refused(r: Refusal, lent: &mut [u8]) -> Served
+    ensures { λ a. ⌜ Refusing r (now (lent .entry)) a (now (lent .exit)) ⌝ }
 {
-    memory::zero_u8(out);
+    memory::zero_u8(lent);
     Served {
         verdict: Verdict::Refused(r),
         length: 0,

@@ -9,8 +9,6 @@ use Rattle.lists.proofs.Laws.{copy-next}
 use borrow.Author.Needs.{needs}
 use Rattle.lists.proofs.copy_on.Statement.{statement}
 use Rattle.lists.proofs.copy_on.Tie as tie
-use Rattle.lists.proofs.copy_on.Reads as reads
-use Rattle.lists.proofs.copy_on.Lts as lts
 
 abbrev Inv-loop : tie.InvT-loop
 Inv-loop s₀ from to count i₀ s i = (seg 0 to s ≡ seg 0 to s₀) × (seg to i s ≡ seg from i s₀) × (i ≤ count) × (length s ≡ length s₀)
@@ -18,51 +16,39 @@ Inv-loop s₀ from to count i₀ s i = (seg 0 to s ≡ seg 0 to s₀) × (seg to
 abbrev μ-loop : tie.MeasureT-loop
 μ-loop s₀ from to count i₀ s i = count - i
 
--- src/lib.rt:170:5
 loop-holds : tie.Need-loop-holds Inv-loop μ-loop
 loop-holds c = (refl, seg-none _ _ ∙ sym (seg-none _ _), omega arith, refl)
 
--- src/lib.rt:171:23
 add-s : tie.Need-add-s Inv-loop μ-loop
 add-s c = search needs
 
--- src/lib.rt:171:21
 mul-s : tie.Need-mul-s Inv-loop μ-loop
 mul-s c = search needs
 
--- src/lib.rt:171:21
 slice-read-s : tie.Need-slice-read-s Inv-loop μ-loop
 slice-read-s c = search needs
 
--- src/lib.rt:171:11
 add-s-2 : tie.Need-add-s-2 Inv-loop μ-loop
 add-s-2 c = search needs
 
--- src/lib.rt:171:9
 mul-s-2 : tie.Need-mul-s-2 Inv-loop μ-loop
 mul-s-2 c = search needs
 
--- src/lib.rt:171:9
 slice-write-s : tie.Need-slice-write-s Inv-loop μ-loop
 slice-write-s c = search needs
 
--- src/lib.rt:172:9
 add-i : tie.Need-add-i Inv-loop μ-loop
 add-i c = search needs
 
--- src/lib.rt:170:5
 loop-less : tie.Need-loop-less Inv-loop μ-loop
 loop-less c = search needs
 
--- src/lib.rt:170:5
 loop-again : tie.Need-loop-again Inv-loop μ-loop
 loop-again c = let v = c .before .before .loop .inv in (seg-above _ _ _ _ _ (omega arith) ∙ v .0, copy-next _ _ _ _ _ (omega arith) (omega (arith, v .3)) (v .0) (v .1), omega arith, search needs)
 
--- src/lib.rt:165:1
 same-length : tie.Need-same-length Inv-loop μ-loop
 same-length c = search needs
 
--- src/lib.rt:165:1
 returns : tie.Need-returns Inv-loop μ-loop
 returns c = let v = c .before .loop .inv in copied-all (v .0) (v .1) (omega (arith, v .2))
 

@@ -4,44 +4,31 @@ use Rattle.lists.proofs.Laws.{hand-on-law}
 use borrow.Author.Needs.{needs}
 use Rattle.lists.proofs.hand_on.Statement.{statement}
 use Rattle.lists.proofs.hand_on.Tie as tie
-use Rattle.lists.proofs.hand_on.Reads as reads
-use Rattle.lists.proofs.hand_on.Lts as lts
-use Rattle.lists.proofs.copy_on.Reads as copy-on-reads
-use Rattle.lists.proofs.lis_from.Reads as lis-from-reads
-use Rattle.lists.proofs.moved_from.Reads as moved-from-reads
 
--- src/lib.rt:182:16
 mul-next : tie.Need-mul-next
 mul-next c = search needs
 
--- src/lib.rt:183:16
 moved-from-requires : tie.Need-moved-from-requires
 moved-from-requires c κs = search needs
 
--- src/lib.rt:183:38
 lis-from-requires : tie.Need-lis-from-requires
 lis-from-requires c κs = search needs
 
--- src/lib.rt:183:31
 add-copy-on : tie.Need-add-copy-on
 unfolding lisFrom setRoom
 add-copy-on c = search needs
 
--- src/lib.rt:183:31
 add-copy-on-2 : tie.Need-add-copy-on-2
 unfolding lisFrom setRoom
 add-copy-on-2 c = search needs
 
--- src/lib.rt:183:5
 copy-on-requires : tie.Need-copy-on-requires
 unfolding movedFrom lisFrom setRoom
 copy-on-requires c κs = search needs
 
--- src/lib.rt:178:1
 same-length : tie.Need-same-length
 same-length c = search needs
 
--- src/lib.rt:178:1
 returns : tie.Need-returns
 returns c = let P = c .before .before .before .before .before .before .before .pre in hand-on-law _ _ _ _ _ _ _ _ (c .before .before .before .before .moved-from .ensures) (omega (arith, c .before .before .before .lis-from .ensures)) (P .3) (P .4) (c .before .before .copy-on .ensures)
 

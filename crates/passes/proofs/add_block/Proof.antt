@@ -3,43 +3,31 @@ use native.Mathlib.Omega.{arith}
 use borrow.Author.Needs.{needs}
 use Rattle.passes.proofs.add_block.Statement.{statement}
 use Rattle.passes.proofs.add_block.Tie as tie
-use Rattle.passes.proofs.add_block.Reads as reads
-use Rattle.passes.proofs.add_block.Lts as lts
-use Rattle.lists.proofs.add_set.Reads as add-set-reads
 
--- src/lib.rt:178:17
 add-below : tie.Need-add-below
 add-below c = search needs
 
--- src/lib.rt:179:9
 add-set-requires : tie.Need-add-set-requires
 add-set-requires c κs = search needs
 
--- src/lib.rt:180:52
 add-t14 : tie.Need-add-t14
 add-t14 c = search needs
 
--- src/lib.rt:180:9
 add-set-requires-2 : tie.Need-add-set-requires-2
 add-set-requires-2 c κs = (c .before .before .before .add-set .ensures .fits, omega arith, omega (arith, room-left 3 _ (c .before .before .before .add-set .ensures) (c .before .before .before .before .before .before .before .pre .2)), omega arith)
 
--- src/lib.rt:181:9
 add-set-requires-3 : tie.Need-add-set-requires-3
 add-set-requires-3 c κs = (c .before .before .before .add-set2 .ensures .fits, omega arith, omega (arith, room-left 2 _ (c .before .before .before .add-set2 .ensures) (room-left 3 _ (c .before .before .before .before .before .before .before .add-set .ensures) (c .before .before .before .before .before .before .before .before .before .before .before .pre .2))), omega arith)
 
--- src/lib.rt:182:44
 add-t14-2 : tie.Need-add-t14-2
 add-t14-2 c = search needs
 
--- src/lib.rt:182:5
 add-set-requires-4 : tie.Need-add-set-requires-4
 add-set-requires-4 c κs = (c .before .before .before .add-set3 .ensures .fits, omega arith, omega (arith, room-left 1 _ (c .before .before .before .add-set3 .ensures) (room-left 2 _ (c .before .before .before .before .before .before .before .add-set2 .ensures) (room-left 3 _ (c .before .before .before .before .before .before .before .before .before .before .before .add-set .ensures) (c .before .before .before .before .before .before .before .before .before .before .before .before .before .before .before .pre .2)))), omega arith)
 
--- src/lib.rt:174:1
 same-length : tie.Need-same-length
 same-length c = search needs
 
--- src/lib.rt:174:1
 returns : tie.Need-returns
 returns c = added-block _ _ (c .before .before .before .before .before .before .before .before .before .before .before .before .before .before .add-set .ensures) (c .before .before .before .before .before .before .before .before .before .before .add-set2 .ensures) (c .before .before .before .before .before .before .add-set3 .ensures) (c .before .before .add-set4 .ensures)
 

@@ -2,33 +2,22 @@ use Rattle.passes.proofs.Leaves.{replied-read, replied-said, says-negat
 use borrow.Author.Needs.{needs}
 use Rattle.passes.proofs.ask_negative.Statement.{statement}
 use Rattle.passes.proofs.ask_negative.Tie as tie
-use Rattle.passes.proofs.ask_negative.Reads as reads
-use Rattle.passes.proofs.ask_negative.Lts as lts
-use Rattle.bits.proofs.BitPosition.read.Reads as read-reads
-use Rattle.passes.proofs.say.Reads as say-reads
-use Rattle.shape.proofs.negative_at.Reads as negative-at-reads
 
--- src/lib.rt:65:9
 read-requires : tie.Need-read-requires
 read-requires c κs = search needs
 
--- src/lib.rt:65:9
 returns : tie.Need-returns
 returns c = replied-read _ (c .before .before .before .before .args .pyramid .now) (c .before .before .before .before .args .body .now) _ _ _ _ (c .before .if1 .taken) (c .read .ensures .0) (c .read .ensures .1)
 
--- src/lib.rt:67:18
 negative-at-requires : tie.Need-negative-at-requires
 negative-at-requires c κs = search needs
 
--- src/lib.rt:67:5
 say-requires : tie.Need-say-requires
 say-requires c κs = search needs
 
--- src/lib.rt:60:1
 same-length : tie.Need-same-length
 same-length c = search needs
 
--- src/lib.rt:60:1
 returns-2 : tie.Need-returns-2
 returns-2 c = replied-said _ (c .before .before .before .before .before .before .before .before .args .pyramid .now) (c .before .before .before .before .before .before .before .before .args .body .now) _ (c .before .before .before .before .before .before .before .before .args .at) _ _ (c .before .before .before .before .before .if1 .left) (says-negative _ _ (c .before .before .before .before .before .before .before .before .args .body .now) (c .before .before .before .before .before .before .before .before .args .out .now) (c .before .before .before .before .before .before .before .before .args .at) _ (c .before .before .before .negative-at .ensures)) (c .before .before .say .ensures .0) (c .before .before .say .ensures .1) (c .before .before .say .ensures .2)
 

@@ -2,38 +2,25 @@ use Rattle.passes.proofs.Leaves.{replied-read, replied-said, says-set}
 use borrow.Author.Needs.{needs}
 use Rattle.passes.proofs.ask_set.Statement.{statement}
 use Rattle.passes.proofs.ask_set.Tie as tie
-use Rattle.passes.proofs.ask_set.Reads as reads
-use Rattle.passes.proofs.ask_set.Lts as lts
-use Rattle.bits.proofs.BitPosition.read.Reads as read-reads
-use Rattle.passes.proofs.largest_in.Reads as largest-in-reads
-use Rattle.passes.proofs.say.Reads as say-reads
-use Rattle.shape.proofs.threshold_of.Reads as threshold-of-reads
 
--- src/lib.rt:252:9
 read-requires : tie.Need-read-requires
 read-requires c κs = search needs
 
--- src/lib.rt:252:9
 returns : tie.Need-returns
 returns c = replied-read _ (c .before .before .before .before .args .pyramid .now) (c .before .before .before .before .args .body .now) _ _ _ _ (c .before .if1 .taken) (c .read .ensures .0) (c .read .ensures .1)
 
--- src/lib.rt:254:18
 threshold-of-requires : tie.Need-threshold-of-requires
 threshold-of-requires c κs = search needs
 
--- src/lib.rt:254:52
 largest-in-requires : tie.Need-largest-in-requires
 largest-in-requires c κs = search needs
 
--- src/lib.rt:254:5
 say-requires : tie.Need-say-requires
 say-requires c κs = search needs
 
--- src/lib.rt:247:1
 same-length : tie.Need-same-length
 same-length c = search needs
 
--- src/lib.rt:247:1
 returns-2 : tie.Need-returns-2
 returns-2 c = replied-said _ (c .before .before .before .before .before .before .before .before .before .args .pyramid .now) (c .before .before .before .before .before .before .before .before .before .args .body .now) _ (c .before .before .before .before .before .before .before .before .before .args .at) _ _ (c .before .before .before .before .before .before .if1 .left) (says-set _ _ (c .before .before .before .before .before .before .before .before .before .args .body .now) (c .before .before .before .before .before .before .before .before .before .args .out .now) (c .before .before .before .before .before .before .before .before .before .args .at) _ (c .before .before .before .before .threshold-of .ensures) (c .before .before .before .largest-in .ensures)) (c .before .before .say .ensures .0) (c .before .before .say .ensures .1) (c .before .before .say .ensures .2)
 

@@ -3,43 +3,31 @@ use Rattle.passes.proofs.Tests.{choosing-waiting, chosen-waiting, choos
 use borrow.Author.Needs.{needs}
 use Rattle.passes.proofs.candidate.Statement.{statement}
 use Rattle.passes.proofs.candidate.Tie as tie
-use Rattle.passes.proofs.candidate.Reads as reads
-use Rattle.passes.proofs.candidate.Lts as lts
-use Rattle.lists.proofs.lip_at.Reads as lip-at-reads
 
--- src/lib.rt:154:32
 enum-told : tie.Need-enum-told
 enum-told c = search needs
 
--- src/lib.rt:154:32
 lip-at-requires : tie.Need-lip-at-requires
 lip-at-requires c κs = choosing-waiting (c .before .before .before .args .run) (c .before .before .before .args .i) (c .before .before .before .args .s .now) (c .enum-told .given .1) (c .before .before .before .pre)
 
--- src/lib.rt:155:26
 enum-known-from : tie.Need-enum-known-from
 enum-known-from c = search needs
 
--- src/lib.rt:157:24
 add-result : tie.Need-add-result
 add-result c = let Q = choosing-four (c .before .before .before .before .before .args .run) (c .before .before .before .before .before .args .i) (c .before .before .before .before .before .args .s .now) (c .before .before .from .given .1) (c .before .before .before .before .before .pre) in search needs
 
--- src/lib.rt:157:17
 returns : tie.Need-returns
 returns c = let Q = choosing-four (c .before .before .before .before .before .args .run) (c .before .before .before .before .before .args .i) (c .before .before .before .before .before .args .s .now) (c .before .before .from .given .1) (c .before .before .before .before .before .pre) in (chosen-first (c .before .before .before .before .before .args .run) (c .before .before .before .before .before .args .i) (c .before .before .before .before .before .args .s .now) (c .before .before .from .given .1) (c .before .before .before .before .before .pre) (c .if1 .taken), omega (arith, Q .0, Q .1))
 
--- src/lib.rt:159:13
 add-result-2 : tie.Need-add-result-2
 add-result-2 c = let Q = choosing-four (c .before .before .before .before .before .before .args .run) (c .before .before .before .before .before .before .args .i) (c .before .before .before .before .before .before .args .s .now) (c .before .before .before .from .given .1) (c .before .before .before .before .before .before .pre) in search needs
 
--- src/lib.rt:159:13
 add-result-3 : tie.Need-add-result-3
 add-result-3 c = let Q = choosing-four (c .before .before .before .before .before .before .args .run) (c .before .before .before .before .before .before .args .i) (c .before .before .before .before .before .before .args .s .now) (c .before .before .before .from .given .1) (c .before .before .before .before .before .before .pre) in search needs
 
--- src/lib.rt:149:1
 returns-2 : tie.Need-returns-2
 returns-2 c = (chosen-waiting (c .before .before .before .before .args .run) (c .before .before .before .before .args .i) (c .before .before .before .before .args .s .now) (c .before .enum-told .given .1) (c .lip-at .ensures .0), c .lip-at .ensures .1)
 
--- src/lib.rt:149:1
 returns-3 : tie.Need-returns-3
 returns-3 c = let Q = choosing-four (c .before .before .before .before .before .before .args .run) (c .before .before .before .before .before .before .args .i) (c .before .before .before .before .before .before .args .s .now) (c .before .before .before .from .given .1) (c .before .before .before .before .before .before .pre) in (chosen-below (c .before .before .before .before .before .before .args .run) (c .before .before .before .before .before .before .args .i) (c .before .before .before .before .before .before .args .s .now) (c .before .before .before .from .given .1) (c .before .before .before .before .before .before .pre) (c .before .if1 .left), omega (arith, Q .0, Q .1))
 

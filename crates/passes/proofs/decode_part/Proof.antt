@@ -2,36 +2,25 @@ use Rattle.passes.proofs.Parts.{decoding-runs, decoding-done}
 use borrow.Author.Needs.{needs}
 use Rattle.passes.proofs.decode_part.Statement.{statement}
 use Rattle.passes.proofs.decode_part.Tie as tie
-use Rattle.passes.proofs.decode_part.Reads as reads
-use Rattle.passes.proofs.decode_part.Lts as lts
-use Rattle.passes.proofs.run_of.Reads as run-of-reads
-use Rattle.passes.proofs.run_part.Reads as run-part-reads
 
--- src/lib.rt:515:9
 run-of-requires : tie.Need-run-of-requires
 run-of-requires c κs = search needs
 
--- src/lib.rt:516:19
 slice-aggregate-run-part : tie.Need-slice-aggregate-run-part
 slice-aggregate-run-part c = search needs
 
--- src/lib.rt:516:49
 slice-aggregate-run-part-2 : tie.Need-slice-aggregate-run-part-2
 slice-aggregate-run-part-2 c = search needs
 
--- src/lib.rt:516:5
 run-part-requires : tie.Need-run-part-requires
 run-part-requires c κs = decoding-runs (c .before .before .before .before .before .before .before .pre) (c .before .before .before .before .run-of .ensures)
 
--- src/lib.rt:509:1
 same-length : tie.Need-same-length
 same-length c = search needs
 
--- src/lib.rt:509:1
 same-length-2 : tie.Need-same-length-2
 same-length-2 c = search needs
 
--- src/lib.rt:509:1
 returns : tie.Need-returns
 returns c = decoding-done _ (c .before .before .before .before .before .before .before .before .before .before .before .before .pre) (c .before .before .before .before .before .before .before .before .before .run-of .ensures) (c .before .before .before .before .run-part .ensures)
 

@@ -6,28 +6,20 @@ use Rattle.shape.specs.Nodes.{offspring-nodes, block-bound}
 use borrow.Author.Needs.{needs}
 use Rattle.passes.proofs.first_of.Statement.{statement}
 use Rattle.passes.proofs.first_of.Tie as tie
-use Rattle.passes.proofs.first_of.Reads as reads
-use Rattle.passes.proofs.first_of.Lts as lts
-use Rattle.shape.proofs.offspring_in.Reads as offspring-in-reads
 
--- src/lib.rt:190:11
 offspring-in-requires : tie.Need-offspring-in-requires
 offspring-in-requires c κs = search needs
 
--- src/lib.rt:191:31
 enum-told : tie.Need-enum-told
 enum-told c = search needs
 
--- src/lib.rt:192:26
 enum-known-first : tie.Need-enum-known-first
 enum-known-first c = search needs
 
--- src/lib.rt:186:1
 returns : tie.Need-returns
 unfolding offspringList
 returns c = absurd (omega (arith, ap length (ap (offspringList (c .before .before .before .args .z)) (sym (c .enum-told .given .1)) ∙ c .before .before .offspring-in .ensures), c .before .before .before .pre .1))
 
--- src/lib.rt:186:1
 returns-2 : tie.Need-returns-2
 returns-2 c = let b = ap (offspringList (c .before .before .before .before .args .z)) (sym (c .before .first .given .1)) ∙ c .before .before .before .offspring-in .ensures in (b, block-bound (offspring-nodes (c .before .before .before .before .pre .0) _ b))
 

@@ -3,54 +3,37 @@ use Rattle.passes.proofs.Workspace.{both-room, handed-back}
 use borrow.Author.Needs.{needs}
 use Rattle.passes.proofs.hand_over.Statement.{statement}
 use Rattle.passes.proofs.hand_over.Tie as tie
-use Rattle.passes.proofs.hand_over.Reads as reads
-use Rattle.passes.proofs.hand_over.Lts as lts
-use Rattle.lists.proofs.hand_on.Reads as hand-on-reads
-use Rattle.passes.proofs.stretch_from.Reads as stretch-from-reads
-use Rattle.passes.proofs.stretch_to.Reads as stretch-to-reads
-use Rattle.shape.proofs.level_size.Reads as level-size-reads
 
--- src/lib.rt:443:9
 stretch-from-requires : tie.Need-stretch-from-requires
 stretch-from-requires c κs = search needs
 
--- src/lib.rt:444:9
 stretch-to-requires : tie.Need-stretch-to-requires
 stretch-to-requires c κs = search needs
 
--- src/lib.rt:445:20
 mul-hand-on : tie.Need-mul-hand-on
 mul-hand-on c = search needs
 
--- src/lib.rt:445:20
 sub-hand-on : tie.Need-sub-hand-on
 sub-hand-on c = let B = both-room _ _ _ (c .before .before .before .pre) _ _ (c .before .stretch-from .ensures .0) (c .stretch-to .ensures .0) in search needs
 
--- src/lib.rt:445:20
 part-hand-on-start : tie.Need-part-hand-on-start
 part-hand-on-start c = let B = both-room _ _ _ (c .before .before .before .pre) _ _ (c .before .stretch-from .ensures .0) (c .stretch-to .ensures .0) in search needs
 
--- src/lib.rt:445:20
 part-hand-on-end : tie.Need-part-hand-on-end
 part-hand-on-end c = search needs
 
--- src/lib.rt:445:41
 level-size-requires : tie.Need-level-size-requires
 level-size-requires c κs = search needs
 
--- src/lib.rt:445:73
 level-size-requires-2 : tie.Need-level-size-requires-2
 level-size-requires-2 c κs = search needs
 
--- src/lib.rt:445:5
 hand-on-requires : tie.Need-hand-on-requires
 hand-on-requires c κs = let H = c .before .before .before .before .before .before .pre in let B = both-room _ _ _ H _ _ (c .before .before .before .before .stretch-from .ensures .0) (c .before .before .before .stretch-to .ensures .0) in rw (c .before .level-size .ensures, c .level-size2 .ensures) (B .1, B .2, B .3, H .gone, H .lis)
 
--- src/lib.rt:439:1
 same-length : tie.Need-same-length
 same-length c = search needs
 
--- src/lib.rt:439:1
 returns : tie.Need-returns
 returns c = let K = c .before .before .hand-on .kept in handed-back _ _ _ (c .before .before .before .before .before .before .before .before .before .pre) _ _ (c .before .before .before .before .before .before .before .stretch-from .ensures .0) (c .before .before .before .before .before .before .stretch-to .ensures .0) (rw (c .before .before .before .before .level-size .ensures, c .before .before .before .level-size2 .ensures) at (c .before .before .hand-on .ensures)) (omega (arith, K))
 

@@ -10,40 +10,28 @@ use Rattle.passes.proofs.Sets.{level-few, node-A, node-B, largest-A, la
 use borrow.Author.Needs.{needs}
 use Rattle.passes.proofs.largest_in.Statement.{statement}
 use Rattle.passes.proofs.largest_in.Tie as tie
-use Rattle.passes.proofs.largest_in.Reads as reads
-use Rattle.passes.proofs.largest_in.Lts as lts
-use Rattle.largest.proofs.max_d.Reads as max-d-reads
-use Rattle.largest.proofs.max_l.Reads as max-l-reads
 
--- src/lib.rt:242:20
 enum-known-e : tie.Need-enum-known-e
 enum-known-e c = search needs
 
--- src/lib.rt:242:66
 add-t7 : tie.Need-add-t7
 add-t7 c = omega (arith, level-few _ (c .before .before .before .before .pre .0))
 
--- src/lib.rt:242:26
 max-d-requires : tie.Need-max-d-requires
 max-d-requires c κs = let P = c .before .before .before .before .pre in node-A _ (P .0) _ (subst (λ x. Met (familyOf (c .before .before .before .before .args .run)) (c .before .before .before .before .args .run .level .0) (entryOf x)) (c .before .before .e .given .1) (P .1)) .0
 
--- src/lib.rt:243:20
 enum-known-e-2 : tie.Need-enum-known-e-2
 enum-known-e-2 c = search needs
 
--- src/lib.rt:243:66
 add-t9 : tie.Need-add-t9
 add-t9 c = omega (arith, level-few _ (c .before .before .before .before .pre .0))
 
--- src/lib.rt:243:26
 max-l-requires : tie.Need-max-l-requires
 max-l-requires c κs = let P = c .before .before .before .before .pre in node-B _ (P .0) _ (subst (λ x. Met (familyOf (c .before .before .before .before .args .run)) (c .before .before .before .before .args .run .level .0) (entryOf x)) (c .before .before .e2 .given .1) (P .1)) .0
 
--- src/lib.rt:237:1
 returns : tie.Need-returns
 returns c = let P = c .before .before .before .before .before .pre in largest-A _ (P .0) _ _ (subst (λ x. Met (familyOf (c .before .before .before .before .before .args .run)) (c .before .before .before .before .before .args .run .level .0) (entryOf x)) (c .before .before .before .e .given .1) (P .1)) (c .max-d .ensures) ∙ ap (λ x. greatest (magnitude (c .before .before .before .before .before .args .pyramid .now)) (members (familyOf (c .before .before .before .before .before .args .run)) (entryOf x))) (sym (c .before .before .before .e .given .1))
 
--- src/lib.rt:237:1
 returns-2 : tie.Need-returns-2
 returns-2 c = let P = c .before .before .before .before .before .pre in largest-B _ (P .0) _ _ (subst (λ x. Met (familyOf (c .before .before .before .before .before .args .run)) (c .before .before .before .before .before .args .run .level .0) (entryOf x)) (c .before .before .before .e2 .given .1) (P .1)) (c .max-l .ensures) ∙ ap (λ x. greatest (magnitude (c .before .before .before .before .before .args .pyramid .now)) (members (familyOf (c .before .before .before .before .before .args .run)) (entryOf x))) (sym (c .before .before .before .e2 .given .1))
 

@@ -8,9 +8,6 @@ use Rattle.passes.proofs.Begin.{Left, left-band, left-first, left-rest,
 use borrow.Author.Needs.{needs}
 use Rattle.passes.proofs.list_band.Statement.{statement}
 use Rattle.passes.proofs.list_band.Tie as tie
-use Rattle.passes.proofs.list_band.Reads as reads
-use Rattle.passes.proofs.list_band.Lts as lts
-use Rattle.passes.proofs.list_row.Reads as list-row-reads
 
 abbrev Inv-loop : tie.InvT-loop
 Inv-loop z s₀ n r₀ end row₀ s r row = Left z (bandLL z) n s₀ r₀ (rows z row (end - row)) s r × (length s ≡ length s₀)
@@ -18,35 +15,27 @@ Inv-loop z s₀ n r₀ end row₀ s r row = Left z (bandLL z) n s₀ r₀ (rows 
 abbrev μ-loop : tie.MeasureT-loop
 μ-loop z s₀ n r₀ end row₀ s r row = end - row
 
--- src/lib.rt:454:15
 shr-end : tie.Need-shr-end Inv-loop μ-loop
 shr-end c = omega (arith, legal _ (c .before .before .pre .legal) .few)
 
--- src/lib.rt:456:5
 loop-holds : tie.Need-loop-holds Inv-loop μ-loop
 loop-holds c = (left-band (c .before .before .pre), refl)
 
--- src/lib.rt:458:9
 add-row : tie.Need-add-row Inv-loop μ-loop
 add-row c = omega (arith, row-under _ _ (c .before .before .before .before .pre .legal) (c .loop-test .taken))
 
--- src/lib.rt:459:9
 list-row-requires : tie.Need-list-row-requires Inv-loop μ-loop
 list-row-requires c κs = (left-first _ (rows-next _ _ _ (c .before .loop-test .taken)) (c .before .before .loop .inv .0), row-under _ _ (c .before .before .before .before .before .pre .legal) (c .before .loop-test .taken))
 
--- src/lib.rt:456:5
 loop-less : tie.Need-loop-less Inv-loop μ-loop
 loop-less c = search needs
 
--- src/lib.rt:456:5
 loop-again : tie.Need-loop-again Inv-loop μ-loop
 loop-again c = (left-rest (rows-next _ _ _ (c .before .before .before .before .loop-test .taken)) (c .before .before .before .before .before .loop .inv .0) (c .before .before .list-row .ensures), omega (arith, c .before .before .list-row .kept, c .before .before .before .before .before .loop .inv .1))
 
--- src/lib.rt:442:1
 same-length : tie.Need-same-length Inv-loop μ-loop
 same-length c = search needs
 
--- src/lib.rt:442:1
 returns : tie.Need-returns Inv-loop μ-loop
 returns c = left-none (rows-none _ _ _ (omega arith)) (c .before .loop .inv .0)
 

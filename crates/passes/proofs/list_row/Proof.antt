@@ -9,9 +9,6 @@ use Rattle.passes.proofs.Begin.{Left, left-row, left-first, left-rest, 
 use borrow.Author.Needs.{needs}
 use Rattle.passes.proofs.list_row.Statement.{statement}
 use Rattle.passes.proofs.list_row.Tie as tie
-use Rattle.passes.proofs.list_row.Reads as reads
-use Rattle.passes.proofs.list_row.Lts as lts
-use Rattle.passes.proofs.list_one.Reads as list-one-reads
 
 abbrev Inv-loop : tie.InvT-loop
 Inv-loop z s₀ n row p₀ end r₀ s p r = Left z (rowOf z row) n s₀ r₀ (from p (end - p)) s r × (length s ≡ length s₀)
@@ -19,43 +16,33 @@ Inv-loop z s₀ n row p₀ end r₀ s p r = Left z (rowOf z row) n s₀ r₀ (fr
 abbrev μ-loop : tie.MeasureT-loop
 μ-loop z s₀ n row p₀ end r₀ s p r = end - p
 
--- src/lib.rt:430:17
 mul-p : tie.Need-mul-p Inv-loop μ-loop
 mul-p c = omega (arith, row-end _ _ (c .before .before .pre .0 .legal) (c .before .before .pre .1))
 
--- src/lib.rt:431:20
 shr-end : tie.Need-shr-end Inv-loop μ-loop
 shr-end c = omega (arith, legal _ (c .before .before .before .pre .0 .legal) .few)
 
--- src/lib.rt:431:15
 add-end : tie.Need-add-end Inv-loop μ-loop
 add-end c = omega (arith, row-end _ _ (c .before .before .before .pre .0 .legal) (c .before .before .before .pre .1))
 
--- src/lib.rt:433:5
 loop-holds : tie.Need-loop-holds Inv-loop μ-loop
 loop-holds c = (left-row _ _ refl (c .before .before .before .pre .0), refl)
 
--- src/lib.rt:435:9
 add-p : tie.Need-add-p Inv-loop μ-loop
 add-p c = omega (arith, row-end _ _ (c .before .before .before .before .before .pre .0 .legal) (c .before .before .before .before .before .pre .1))
 
--- src/lib.rt:436:9
 list-one-requires : tie.Need-list-one-requires Inv-loop μ-loop
 list-one-requires c κs = left-first _ (from-next _ _ (c .before .loop-test .taken)) (c .before .before .loop .inv .0)
 
--- src/lib.rt:433:5
 loop-less : tie.Need-loop-less Inv-loop μ-loop
 loop-less c = search needs
 
--- src/lib.rt:433:5
 loop-again : tie.Need-loop-again Inv-loop μ-loop
 loop-again c = (left-rest (from-next _ _ (c .before .before .before .before .loop-test .taken)) (c .before .before .before .before .before .loop .inv .0) (c .before .before .list-one .ensures), omega (arith, c .before .before .list-one .kept, c .before .before .before .before .before .loop .inv .1))
 
--- src/lib.rt:426:1
 same-length : tie.Need-same-length Inv-loop μ-loop
 same-length c = search needs
 
--- src/lib.rt:426:1
 returns : tie.Need-returns Inv-loop μ-loop
 returns c = left-none (from-none _ _ (omega arith)) (c .before .loop .inv .0)
 

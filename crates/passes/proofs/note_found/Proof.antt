@@ -3,24 +3,17 @@ use Rattle.passes.proofs.Leaves.{noted-written, noted-none}
 use borrow.Author.Needs.{needs}
 use Rattle.passes.proofs.note_found.Statement.{statement}
 use Rattle.passes.proofs.note_found.Tie as tie
-use Rattle.passes.proofs.note_found.Reads as reads
-use Rattle.passes.proofs.note_found.Lts as lts
-use Rattle.shape.proofs.write_found.Reads as write-found-reads
 
--- src/lib.rt:87:9
 write-found-requires : tie.Need-write-found-requires
 write-found-requires c κs = search needs
 
--- src/lib.rt:82:1
 same-length : tie.Need-same-length
 same-length c = search needs
 
--- src/lib.rt:82:1
 returns : tie.Need-returns
 unfolding written
 returns c = noted-written _ _ _ (c .before .before .before .if1 .taken) (c .before .write-found .ensures)
 
--- src/lib.rt:82:1
 returns-2 : tie.Need-returns-2
 returns-2 c = noted-none _ _ _ (c .if1 .left)
 

@@ -3,24 +3,17 @@ use Rattle.passes.proofs.Leaves.{noted-written, noted-none}
 use borrow.Author.Needs.{needs}
 use Rattle.passes.proofs.note_refined.Statement.{statement}
 use Rattle.passes.proofs.note_refined.Tie as tie
-use Rattle.passes.proofs.note_refined.Reads as reads
-use Rattle.passes.proofs.note_refined.Lts as lts
-use Rattle.shape.proofs.write_refined.Reads as write-refined-reads
 
--- src/lib.rt:97:9
 write-refined-requires : tie.Need-write-refined-requires
 write-refined-requires c κs = search needs
 
--- src/lib.rt:92:1
 same-length : tie.Need-same-length
 same-length c = search needs
 
--- src/lib.rt:92:1
 returns : tie.Need-returns
 unfolding written
 returns c = noted-written _ _ _ (c .before .before .before .if1 .taken) (c .before .write-refined .ensures)
 
--- src/lib.rt:92:1
 returns-2 : tie.Need-returns-2
 returns-2 c = noted-none _ _ _ (c .if1 .left)
 

@@ -4,57 +4,40 @@ use Rattle.passes.proofs.Sets.{level-few, node-index, node-A, opening-r
 use borrow.Author.Needs.{needs}
 use Rattle.passes.proofs.open_a.Statement.{statement}
 use Rattle.passes.proofs.open_a.Tie as tie
-use Rattle.passes.proofs.open_a.Reads as reads
-use Rattle.passes.proofs.open_a.Lts as lts
-use Rattle.lists.proofs.add_set.Reads as add-set-reads
-use Rattle.passes.proofs.first_of.Reads as first-of-reads
-use Rattle.passes.proofs.test_each.Reads as test-each-reads
 
--- src/lib.rt:202:42
 add-t13 : tie.Need-add-t13
 add-t13 c = omega (arith, level-few _ (c .before .before .before .before .pre .proper))
 
--- src/lib.rt:202:9
 first-of-requires : tie.Need-first-of-requires
 first-of-requires c κs = let O = c .before .before .before .before .pre in let N = node-A _ (O .proper) _ (O .met) in (N .0, N .1)
 
--- src/lib.rt:203:9
 test-each-requires : tie.Need-test-each-requires
 test-each-requires c κs = let O = c .before .before .before .before .before .before .before .before .pre in let N = node-A _ (O .proper) _ (O .met) in let l = opens-A _ (O .proper) _ (N .1) _ (c .before .before .before .first-of .ensures .0) in record { plane = O .proper .plane; fits = O .fits; room = omega (arith, opening-room _ (O .proper) O .0); place = omega (arith, O .place); suited = (omega arith, c .before .before .before .first-of .ensures .1) }
 
--- src/lib.rt:205:13
 add-set-requires : tie.Need-add-set-requires
 add-set-requires c κs = let O = c .before .before .before .before .before .before .before .before .before .before .before .before .before .before .before .before .before .pre in let N = node-A _ (O .proper) _ (O .met) in let T = c .before .before .before .before .before .before .before .before .test-each .ensures in (T .fits, omega (arith, O .proper .size), omega (arith, T .visited, T .left, opening-room _ (O .proper) O .1, adds-A _ (O .proper) _ (O .met) (c .before .if1 .taken)), node-index _ (O .proper) (N .2))
 
--- src/lib.rt:207:9
 same-length : tie.Need-same-length
 same-length c = search needs
 
--- src/lib.rt:207:9
 same-length-2 : tie.Need-same-length-2
 same-length-2 c = search needs
 
--- src/lib.rt:207:9
 same-length-3 : tie.Need-same-length-3
 same-length-3 c = search needs
 
--- src/lib.rt:207:9
 returns : tie.Need-returns
 returns c = let O = c .before .before .before .before .before .before .before .before .before .before .before .before .before .before .before .before .before .before .before .before .before .pre in opened-A-more _ (O .proper) _ (O .met) (c .before .before .before .before .before .before .before .before .before .before .before .before .before .before .before .before .first-of .ensures .0) (four-tested _ _ (c .before .before .before .before .before .before .before .before .before .before .before .before .test-each .ensures)) (c .before .before .before .before .before .if1 .taken) (c .before .before .before .add-set .ensures)
 
--- src/lib.rt:197:1
 same-length-4 : tie.Need-same-length-4
 same-length-4 c = search needs
 
--- src/lib.rt:197:1
 same-length-5 : tie.Need-same-length-5
 same-length-5 c = search needs
 
--- src/lib.rt:197:1
 same-length-6 : tie.Need-same-length-6
 same-length-6 c = search needs
 
--- src/lib.rt:197:1
 returns-2 : tie.Need-returns-2
 returns-2 c = let O = c .before .before .before .before .before .before .before .before .before .before .before .before .before .before .before .before .pre in opened-A-less _ (O .proper) _ (O .met) (c .before .before .before .before .before .before .before .before .before .before .before .first-of .ensures .0) (four-tested _ _ (c .before .before .before .before .before .before .before .test-each .ensures)) (c .if1 .left)
 

@@ -10,28 +10,19 @@ use Rattle.shape.specs.Nodes.{node-level}
 use borrow.Author.Needs.{needs}
 use Rattle.passes.proofs.open_b.Statement.{statement}
 use Rattle.passes.proofs.open_b.Tie as tie
-use Rattle.passes.proofs.open_b.Reads as reads
-use Rattle.passes.proofs.open_b.Lts as lts
-use Rattle.passes.proofs.add_block.Reads as add-block-reads
-use Rattle.passes.proofs.first_of.Reads as first-of-reads
 
--- src/lib.rt:217:42
 add-t8 : tie.Need-add-t8
 add-t8 c = omega (arith, level-few _ (c .before .before .pre .proper))
 
--- src/lib.rt:217:9
 first-of-requires : tie.Need-first-of-requires
 first-of-requires c κs = let O = c .before .before .pre in let N = node-B _ (O .proper) _ (O .met) in (N .0, N .1)
 
--- src/lib.rt:218:9
 add-block-requires : tie.Need-add-block-requires
 add-block-requires c κs = let O = c .before .before .before .before .pre in (O .fits, O .proper .size, omega (arith, opening-room _ (O .proper) O .1, adds-B _ (O .proper) _ _ (c .before .first-of .ensures .0)), c .before .first-of .ensures .1)
 
--- src/lib.rt:213:1
 same-length : tie.Need-same-length
 same-length c = search needs
 
--- src/lib.rt:213:1
 returns : tie.Need-returns
 returns c = (added-same (c .before .before .before .before .before .first-of .ensures .0) (c .before .before .before .add-block .ensures), refl)
 

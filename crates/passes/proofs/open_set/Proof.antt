@@ -6,48 +6,34 @@ use Rattle.passes.proofs.Sets.{opened-B, opened-as}
 use borrow.Author.Needs.{needs}
 use Rattle.passes.proofs.open_set.Statement.{statement}
 use Rattle.passes.proofs.open_set.Tie as tie
-use Rattle.passes.proofs.open_set.Reads as reads
-use Rattle.passes.proofs.open_set.Lts as lts
-use Rattle.passes.proofs.open_a.Reads as open-a-reads
-use Rattle.passes.proofs.open_b.Reads as open-b-reads
 
--- src/lib.rt:231:20
 enum-known-e : tie.Need-enum-known-e
 enum-known-e c = search needs
 
--- src/lib.rt:231:26
 open-a-requires : tie.Need-open-a-requires
 open-a-requires c κs = subst (λ x. Opening (c .before .before .before .before .before .before .before .before .before .args .run) (entryOf x) (c .before .before .before .before .before .before .before .before .before .args .s .now) (c .before .before .before .before .before .before .before .before .before .args .w)) (c .before .before .before .before .e .given .1) (c .before .before .before .before .before .before .before .before .before .pre)
 
--- src/lib.rt:232:20
 enum-known-e-2 : tie.Need-enum-known-e-2
 enum-known-e-2 c = search needs
 
--- src/lib.rt:232:26
 open-b-requires : tie.Need-open-b-requires
 open-b-requires c κs = subst (λ x. Opening (c .before .before .before .before .before .before .before .args .run) (entryOf x) (c .before .before .before .before .before .before .before .args .s .now) (c .before .before .before .before .before .before .before .args .w)) (c .before .before .e2 .given .1) (c .before .before .before .before .before .before .before .pre)
 
--- src/lib.rt:225:1
 same-length : tie.Need-same-length
 same-length c = search needs
 
--- src/lib.rt:225:1
 same-length-2 : tie.Need-same-length-2
 same-length-2 c = search needs
 
--- src/lib.rt:225:1
 same-length-3 : tie.Need-same-length-3
 same-length-3 c = search needs
 
--- src/lib.rt:225:1
 returns : tie.Need-returns
 returns c = opened-as (ap entryOf (c .before .before .before .before .before .before .before .before .before .before .e .given .1)) (c .before .before .before .before .before .open-a .ensures)
 
--- src/lib.rt:225:1
 same-length-4 : tie.Need-same-length-4
 same-length-4 c = search needs
 
--- src/lib.rt:225:1
 returns-2 : tie.Need-returns-2
 returns-2 c = opened-as (ap entryOf (c .before .before .before .before .before .e2 .given .1)) (opened-B _ (c .before .before .before .before .before .before .before .before .before .before .pre .proper) (c .before .before .before .before .before .before .before .before .before .before .pre .fits) (c .before .before .open-b .ensures .0) (c .before .before .open-b .ensures .1))
 

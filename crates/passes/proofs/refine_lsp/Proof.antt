@@ -9,10 +9,6 @@ use Rattle.passes.proofs.Refining.{refined-none, refined-next, refining
 use borrow.Author.Needs.{needs}
 use Rattle.passes.proofs.refine_lsp.Statement.{statement}
 use Rattle.passes.proofs.refine_lsp.Tie as tie
-use Rattle.passes.proofs.refine_lsp.Reads as reads
-use Rattle.passes.proofs.refine_lsp.Lts as lts
-use Rattle.lists.proofs.lsp_at.Reads as lsp-at-reads
-use Rattle.passes.proofs.refine.Reads as refine-reads
 
 abbrev Inv-loop : tie.InvT-loop
 Inv-loop run pyramid body s m out₀ d₀ next₀ i₀ out d next i = (chan out d (next .at) ≡ sharpenedAll (side run pyramid body) (known (run .n) i s) (chan out₀ d₀ (next₀ .at))) × (next .at ≡ next₀ .at + i) × (i ≤ m) × (length out ≡ length out₀) × (length d ≡ length d₀)
@@ -20,39 +16,30 @@ Inv-loop run pyramid body s m out₀ d₀ next₀ i₀ out d next i = (chan out 
 abbrev μ-loop : tie.MeasureT-loop
 μ-loop run pyramid body s m out₀ d₀ next₀ i₀ out d next i = m - i
 
--- src/lib.rt:336:5
 loop-holds : tie.Need-loop-holds Inv-loop μ-loop
 loop-holds c = (refined-none _ _ _ _, omega arith, omega arith, refl, refl)
 
--- src/lib.rt:337:13
 lsp-at-requires : tie.Need-lsp-at-requires Inv-loop μ-loop
 lsp-at-requires c κs = (c .before .before .before .before .before .pre .1, omega arith)
 
--- src/lib.rt:338:9
 add-i : tie.Need-add-i Inv-loop μ-loop
 add-i c = omega arith
 
--- src/lib.rt:339:9
 refine-requires : tie.Need-refine-requires Inv-loop μ-loop
 refine-requires c κs = let v = c .before .before .before .before .loop .inv in let P = c .before .before .before .before .before .before .before .before .pre in (omega (arith, v .1), P .0, refining-small _ (c .before .before .before .before .before .before .before .before .args .pyramid .now) (c .before .before .before .before .before .before .before .before .args .body .now) _ _ _ _ _ _ _ (v .2) (P .4) (v .0) _)
 
--- src/lib.rt:336:5
 loop-less : tie.Need-loop-less Inv-loop μ-loop
 loop-less c = omega arith
 
--- src/lib.rt:336:5
 loop-again : tie.Need-loop-again Inv-loop μ-loop
 loop-again c = let v = c .before .before .before .before .before .before .before .before .loop .inv in let K = c .before .before .before .refine .kept in (refined-next _ _ _ _ _ _ (v .0) (c .before .before .before .before .before .before .lsp-at .ensures) (c .before .before .before .refine .ensures .0), omega (arith, v .1, c .before .before .before .refine .ensures .1), omega arith, omega (arith, K, v .3), omega (arith, K, v .4))
 
--- src/lib.rt:329:1
 same-length : tie.Need-same-length Inv-loop μ-loop
 same-length c = c .before .loop .inv .3
 
--- src/lib.rt:329:1
 same-length-2 : tie.Need-same-length-2 Inv-loop μ-loop
 same-length-2 c = c .before .loop .inv .4
 
--- src/lib.rt:329:1
 returns : tie.Need-returns Inv-loop μ-loop
 returns c = let v = c .before .loop .inv in (refined-done _ _ _ _ (omega arith) (v .0), omega (arith, v .1))
 

@@ -3,53 +3,37 @@ use Rattle.passes.proofs.Workspace.{lent-fresh, lent-back}
 use borrow.Author.Needs.{needs}
 use Rattle.passes.proofs.run_level.Statement.{statement}
 use Rattle.passes.proofs.run_level.Tie as tie
-use Rattle.passes.proofs.run_level.Reads as reads
-use Rattle.passes.proofs.run_level.Lts as lts
-use Rattle.passes.proofs.run_pass.Reads as run-pass-reads
-use Rattle.passes.proofs.stretch_from.Reads as stretch-from-reads
-use Rattle.passes.proofs.stretch_to.Reads as stretch-to-reads
 
--- src/lib.rt:433:9
 stretch-from-requires : tie.Need-stretch-from-requires
 stretch-from-requires c κs = search needs
 
--- src/lib.rt:434:9
 stretch-to-requires : tie.Need-stretch-to-requires
 stretch-to-requires c κs = search needs
 
--- src/lib.rt:435:34
 mul-run-pass : tie.Need-mul-run-pass
 mul-run-pass c = search needs
 
--- src/lib.rt:435:34
 sub-run-pass : tie.Need-sub-run-pass
 sub-run-pass c = search needs
 
--- src/lib.rt:435:34
 part-run-pass-start : tie.Need-part-run-pass-start
 part-run-pass-start c = search needs
 
--- src/lib.rt:435:34
 part-run-pass-end : tie.Need-part-run-pass-end
 part-run-pass-end c = search needs
 
--- src/lib.rt:435:5
 run-pass-requires : tie.Need-run-pass-requires
 run-pass-requires c κs = lent-fresh _ (c .before .before .before .before .before .before .before .before .pre) _ _ (c .before .before .before .before .stretch-from .ensures .0) (c .before .before .before .stretch-to .ensures .0)
 
--- src/lib.rt:428:1
 same-length : tie.Need-same-length
 same-length c = search needs
 
--- src/lib.rt:428:1
 same-length-2 : tie.Need-same-length-2
 same-length-2 c = search needs
 
--- src/lib.rt:428:1
 same-length-3 : tie.Need-same-length-3
 same-length-3 c = search needs
 
--- src/lib.rt:428:1
 returns : tie.Need-returns
 returns c = let K = c .before .before .before .before .before .run-pass .kept in lent-back _ (c .before .before .before .before .before .before .before .before .before .before .before .before .before .before .pre) _ _ (c .before .before .before .before .before .before .before .before .before .before .stretch-from .ensures .0) (c .before .before .before .before .before .before .before .before .before .stretch-to .ensures .0) (c .before .before .before .before .before .run-pass .ensures) (omega (arith, K))
 

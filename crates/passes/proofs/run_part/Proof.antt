@@ -3,42 +3,28 @@ use Rattle.passes.proofs.Parts.{part-few, part-lending, part-hands, par
 use borrow.Author.Needs.{needs}
 use Rattle.passes.proofs.run_part.Statement.{statement}
 use Rattle.passes.proofs.run_part.Tie as tie
-use Rattle.passes.proofs.run_part.Reads as reads
-use Rattle.passes.proofs.run_part.Lts as lts
-use Rattle.passes.proofs.fill_of.Reads as fill-of-reads
-use Rattle.passes.proofs.hand_moved.Reads as hand-moved-reads
-use Rattle.passes.proofs.run_level.Reads as run-level-reads
-use Rattle.passes.proofs.with_lists.Reads as with-lists-reads
 
--- src/lib.rt:468:9
 fill-of-requires : tie.Need-fill-of-requires
 fill-of-requires c κs = part-few _ (c .before .before .before .pre)
 
--- src/lib.rt:470:9
 run-level-requires : tie.Need-run-level-requires
 run-level-requires c κs = part-lending _ (c .before .before .before .before .before .before .before .before .pre) _ (c .before .before .before .before .fill-of .ensures .0)
 
--- src/lib.rt:473:9
 with-lists-requires : tie.Need-with-lists-requires
 with-lists-requires c κs = part-few _ (c .before .before .before .before .before .before .before .before .before .before .before .before .before .before .before .before .pre)
 
--- src/lib.rt:474:9
 hand-moved-requires : tie.Need-hand-moved-requires
 hand-moved-requires c κs = part-hands _ (c .before .before .before .before .before .before .before .before .before .before .before .before .before .before .before .before .before .before .pre) (c .before .before .before .before .before .before .before .before .before .before .before .before .before .before .fill-of .ensures .1) (c .before .before .before .before .before .before .before .before .before .before .before .before .before .before .fill-of .ensures .0) (c .before .before .before .before .before .before .before .before .before .run-level .ensures) (c .before .with-lists .ensures)
 
--- src/lib.rt:463:1
 same-length : tie.Need-same-length
 same-length c = search needs
 
--- src/lib.rt:463:1
 same-length-2 : tie.Need-same-length-2
 same-length-2 c = search needs
 
--- src/lib.rt:463:1
 same-length-3 : tie.Need-same-length-3
 same-length-3 c = search needs
 
--- src/lib.rt:463:1
 returns : tie.Need-returns
 returns c = part-done _ (c .before .before .before .before .before .before .before .before .before .before .before .before .before .before .before .before .before .before .before .before .before .pre) (c .before .before .before .before .before .before .before .before .before .before .before .before .before .before .before .before .before .fill-of .ensures .1) (c .before .before .before .before .before .before .before .before .before .before .before .before .before .before .before .before .before .fill-of .ensures .0) (c .before .before .before .before .before .before .before .before .before .before .before .before .run-level .ensures) (c .before .before .before .before .with-lists .ensures) (c .before .before .hand-moved .ensures) refl
 

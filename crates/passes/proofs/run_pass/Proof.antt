@@ -4,37 +4,25 @@ use mathlib.Core.Path.{refl}
 use borrow.Author.Needs.{needs}
 use Rattle.passes.proofs.run_pass.Statement.{statement}
 use Rattle.passes.proofs.run_pass.Tie as tie
-use Rattle.passes.proofs.run_pass.Reads as reads
-use Rattle.passes.proofs.run_pass.Lts as lts
-use Rattle.passes.proofs.refine_lsp.Reads as refine-lsp-reads
-use Rattle.passes.proofs.test_each.Reads as test-each-reads
-use Rattle.passes.proofs.visit_lis.Reads as visit-lis-reads
 
--- src/lib.rt:355:9
 test-each-requires : tie.Need-test-each-requires
 test-each-requires c κs = let H = c .before .before .before .before .before .before .before .before .pre in record { plane = H .proper .plane; fits = first-fits _ H; room = omega (arith, both-fit _ H); place = omega (arith, both-fit _ H, H .place, H .proper .from, H .fits .lip); suited = omega arith }
 
--- src/lib.rt:356:9
 visit-lis-requires : tie.Need-visit-lis-requires
 visit-lis-requires c κs = let H = c .before .before .before .before .before .before .before .before .before .before .before .before .before .before .before .before .before .pre in (H .proper, tested-ready _ H (c .before .before .before .before .before .before .before .before .test-each .ensures))
 
--- src/lib.rt:357:9
 refine-lsp-requires : tie.Need-refine-lsp-requires
 refine-lsp-requires c κs = let H = c .before .before .before .before .before .before .before .before .before .before .before .before .before .before .before .before .before .before .before .before .before .before .before .before .before .before .pre in let T = c .before .before .before .before .before .before .before .before .before .before .before .before .before .before .before .before .before .test-each .ensures in let U = c .before .before .before .before .before .before .before .before .visit-lis .ensures in (H .proper .plane, U .0 .ready .fits .room, omega (arith, both-fit _ H), visited-place _ H T (U .0) (U .1), refining-growth _ H _ _ T (U .0) (U .1))
 
--- src/lib.rt:345:1
 same-length : tie.Need-same-length
 same-length c = search needs
 
--- src/lib.rt:345:1
 same-length-2 : tie.Need-same-length-2
 same-length-2 c = search needs
 
--- src/lib.rt:345:1
 same-length-3 : tie.Need-same-length-3
 same-length-3 c = search needs
 
--- src/lib.rt:345:1
 returns : tie.Need-returns
 returns c = let H = c .before .before .before .before .before .before .before .before .before .before .before .before .before .before .before .before .before .before .before .before .before .before .before .before .before .before .before .before .before .before .before .pre in let T = c .before .before .before .before .before .before .before .before .before .before .before .before .before .before .before .before .before .before .before .before .before .before .test-each .ensures in let U = c .before .before .before .before .before .before .before .before .before .before .before .before .before .visit-lis .ensures in let R = c .before .before .before .before .refine-lsp .ensures in ran _ H T (U .0) (U .1) refl refl (R .0)
 

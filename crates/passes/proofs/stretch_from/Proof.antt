@@ -5,19 +5,13 @@ use Prim.Native.Nat.{ℕ, _*_}
 use borrow.Author.Needs.{needs}
 use Rattle.passes.proofs.stretch_from.Statement.{statement}
 use Rattle.passes.proofs.stretch_from.Tie as tie
-use Rattle.passes.proofs.stretch_from.Reads as reads
-use Rattle.passes.proofs.stretch_from.Lts as lts
-use Rattle.shape.proofs.level_start.Reads as level-start-reads
 
--- src/lib.rt:417:9
 level-start-requires : tie.Need-level-start-requires
 level-start-requires c κs = search needs
 
--- src/lib.rt:417:5
 mul-result : tie.Need-mul-result
 mul-result c = let P = c .before .pre in let F = from-fits _ (P .0) _ (P .1) (P .2) _ (refl) in record { fits = omega (arith, F .1, c .level-start .ensures) }
 
--- src/lib.rt:413:1
 returns : tie.Need-returns
 returns c = let P = c .before .pre in let e = ap (λ (x : ℕ). 4 * x) (c .level-start .ensures) in let F = from-fits _ (P .0) _ (P .1) (P .2) _ e in (e, F .0, F .1)
 

@@ -5,19 +5,13 @@ use Prim.Native.Nat.{ℕ, _*_}
 use borrow.Author.Needs.{needs}
 use Rattle.passes.proofs.stretch_to.Statement.{statement}
 use Rattle.passes.proofs.stretch_to.Tie as tie
-use Rattle.passes.proofs.stretch_to.Reads as reads
-use Rattle.passes.proofs.stretch_to.Lts as lts
-use Rattle.shape.proofs.level_end.Reads as level-end-reads
 
--- src/lib.rt:424:9
 level-end-requires : tie.Need-level-end-requires
 level-end-requires c κs = search needs
 
--- src/lib.rt:424:5
 mul-result : tie.Need-mul-result
 mul-result c = let P = c .before .pre in let F = to-fits _ (P .0) _ (P .1) (P .2) _ (refl) in record { fits = omega (arith, F .2, c .level-end .ensures) }
 
--- src/lib.rt:420:1
 returns : tie.Need-returns
 returns c = let P = c .before .pre in let e = ap (λ (x : ℕ). 4 * x) (c .level-end .ensures) in to-fits _ (P .0) _ (P .1) (P .2) _ e
 

@@ -9,9 +9,6 @@ use Rattle.passes.proofs.Visits.{visited-none, visited-on}
 use borrow.Author.Needs.{needs}
 use Rattle.passes.proofs.visit_lis.Statement.{statement}
 use Rattle.passes.proofs.visit_lis.Tie as tie
-use Rattle.passes.proofs.visit_lis.Reads as reads
-use Rattle.passes.proofs.visit_lis.Lts as lts
-use Rattle.passes.proofs.visit_set.Reads as visit-set-reads
 
 abbrev Inv-loop : tie.InvT-loop
 Inv-loop run pyramid body s₀ out₀ d₀ r₀ s out d r = Visited (side run pyramid body) run s₀ out₀ d₀ r₀ s out d r × (length s ≡ length s₀) × (length out ≡ length out₀) × (length d ≡ length d₀)
@@ -19,35 +16,27 @@ Inv-loop run pyramid body s₀ out₀ d₀ r₀ s out d r = Visited (side run py
 abbrev μ-loop : tie.MeasureT-loop
 μ-loop run pyramid body s₀ out₀ d₀ r₀ s out d r = setRoom (run .n) - r .fill .visited
 
--- src/lib.rt:311:5
 loop-holds : tie.Need-loop-holds Inv-loop μ-loop
 loop-holds c = (visited-none _ _ _ _ _ _ (c .before .before .before .pre .1), refl, refl, refl)
 
--- src/lib.rt:312:9
 visit-set-requires : tie.Need-visit-set-requires Inv-loop μ-loop
 visit-set-requires c κs = (c .before .before .before .before .before .before .before .before .before .pre .0, c .before .before .before .before .before .loop .inv .0 .ready, c .before .before .before .if1 .taken)
 
--- src/lib.rt:311:5
 loop-less : tie.Need-loop-less Inv-loop μ-loop
 loop-less c = omega (arith, c .before .before .before .before .before .visit-set .ensures .1, c .before .before .before .before .before .before .before .before .before .before .before .loop .inv .0 .ready .fits .visits, c .before .before .before .before .before .before .before .before .before .if1 .taken)
 
--- src/lib.rt:311:5
 loop-again : tie.Need-loop-again Inv-loop μ-loop
 loop-again c = let v = c .before .before .before .before .before .before .before .before .before .before .before .loop .inv in let K = c .before .before .before .before .before .visit-set .kept in (visited-on (v .0) (c .before .before .before .before .before .visit-set .ensures .0), omega (arith, K, v .1), omega (arith, K, v .2), omega (arith, K, v .3))
 
--- src/lib.rt:305:1
 same-length : tie.Need-same-length Inv-loop μ-loop
 same-length c = c .before .before .loop .inv .1
 
--- src/lib.rt:305:1
 same-length-2 : tie.Need-same-length-2 Inv-loop μ-loop
 same-length-2 c = c .before .before .loop .inv .2
 
--- src/lib.rt:305:1
 same-length-3 : tie.Need-same-length-3 Inv-loop μ-loop
 same-length-3 c = c .before .before .loop .inv .3
 
--- src/lib.rt:305:1
 returns : tie.Need-returns Inv-loop μ-loop
 returns c = (c .before .before .loop .inv .0, c .if1 .left)
 

@@ -6,49 +6,34 @@ use Rattle.passes.proofs.Sets.{hand-met, hand-place, hand-opening, hand
 use borrow.Author.Needs.{needs}
 use Rattle.passes.proofs.weigh.Statement.{statement}
 use Rattle.passes.proofs.weigh.Tie as tie
-use Rattle.passes.proofs.weigh.Reads as reads
-use Rattle.passes.proofs.weigh.Lts as lts
-use Rattle.lists.proofs.keep_set.Reads as keep-set-reads
-use Rattle.passes.proofs.ask_set.Reads as ask-set-reads
-use Rattle.passes.proofs.open_set.Reads as open-set-reads
 
--- src/lib.rt:277:9
 ask-set-requires : tie.Need-ask-set-requires
 ask-set-requires c κs = let P = c .before .before .before .before .pre in (hand-place _ (P .0) (P .1), P .0, hand-met _ (P .0) (P .1))
 
--- src/lib.rt:281:9
 open-set-requires : tie.Need-open-set-requires
 open-set-requires c κs = let P = c .before .before .before .before .before .before .before .before .before .before .before .before .before .pre in hand-opening _ (P .0) (P .1) _ (c .before .before .before .before .before .before .before .before .ask-set .ensures .place)
 
--- src/lib.rt:281:9
 same-length : tie.Need-same-length
 same-length c = search needs
 
--- src/lib.rt:281:9
 same-length-2 : tie.Need-same-length-2
 same-length-2 c = search needs
 
--- src/lib.rt:281:9
 same-length-3 : tie.Need-same-length-3
 same-length-3 c = search needs
 
--- src/lib.rt:281:9
 returns : tie.Need-returns
 returns c = let P = c .before .before .before .before .before .before .before .before .before .before .before .before .before .before .before .before .before .before .before .pre in hand-opened _ (P .0) (P .1) (c .before .before .before .before .before .before .before .before .before .before .before .before .before .before .ask-set .ensures) (c .before .before .before .before .before .before .before .before .before .if1 .taken) (c .before .before .before .before .before .open-set .ensures)
 
--- src/lib.rt:283:9
 keep-set-requires : tie.Need-keep-set-requires
 keep-set-requires c κs = search needs
 
--- src/lib.rt:272:1
 same-length-4 : tie.Need-same-length-4
 same-length-4 c = search needs
 
--- src/lib.rt:272:1
 same-length-5 : tie.Need-same-length-5
 same-length-5 c = search needs
 
--- src/lib.rt:272:1
 returns-2 : tie.Need-returns-2
 returns-2 c = let P = c .before .before .before .before .before .before .before .before .before .before .before .before .before .before .pre in let a = c .before .before .before .before .before .before .before .before .before .before .before .before .before .before .args in hand-kept _ (P .0) (P .1) (c .before .before .before .before .before .before .before .before .before .ask-set .ensures) (λ x t. notes (a .run) (a .pyramid .now) (a .body .now) _ x (a .d .now) t ∙ ap (λ y. chan x y t) (quiet-stays (a .run) _ (a .d .now))) (c .before .before .before .before .if1 .left) (c .before .before .keep-set .ensures)
 

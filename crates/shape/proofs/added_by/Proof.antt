@@ -2,19 +2,13 @@ use mathlib.Core.Path.{refl}
 use borrow.Author.Needs.{needs}
 use Rattle.shape.proofs.added_by.Statement.{statement}
 use Rattle.shape.proofs.added_by.Tie as tie
-use Rattle.shape.proofs.added_by.Reads as reads
-use Rattle.shape.proofs.added_by.Lts as lts
-use Rattle.shape.proofs.threshold_of.Reads as threshold-of-reads
 
--- src/lib.rt:249:9
 threshold-of-requires : tie.Need-threshold-of-requires
 threshold-of-requires c κs = search needs
 
--- src/lib.rt:249:9
 returns : tie.Need-returns
 returns c = rw (c .before .if1 .taken) (c .threshold-of .ensures)
 
--- src/lib.rt:244:1
 returns-2 : tie.Need-returns-2
 returns-2 c = rw (c .if1 .left) refl
 

@@ -3,34 +3,22 @@ use Rattle.shape.proofs.Signed.{grown-small, grown-read}
 use borrow.Author.Needs.{needs}
 use Rattle.shape.proofs.grown_by.Statement.{statement}
 use Rattle.shape.proofs.grown_by.Tie as tie
-use Rattle.shape.proofs.grown_by.Reads as reads
-use Rattle.shape.proofs.grown_by.Lts as lts
-use Rattle.shape.proofs.added_by.Reads as added-by-reads
-use Rattle.shape.proofs.is_negative.Reads as is-negative-reads
-use Rattle.shape.proofs.magnitude_of.Reads as magnitude-of-reads
-use Rattle.shape.proofs.signed_of.Reads as signed-of-reads
 
--- src/lib.rt:258:15
 is-negative-requires : tie.Need-is-negative-requires
 is-negative-requires c κs = search needs
 
--- src/lib.rt:258:31
 magnitude-of-requires : tie.Need-magnitude-of-requires
 magnitude-of-requires c κs = search needs
 
--- src/lib.rt:258:49
 added-by-requires : tie.Need-added-by-requires
 added-by-requires c κs = search needs
 
--- src/lib.rt:258:31
 add-signed-of : tie.Need-add-signed-of
 add-signed-of c = let s = c .before .before .before in let small = grown-small _ (s .fits .v) _ _ _ (s .args .bit) (c .before .magnitude-of .ensures) (c .added-by .ensures) (s .pre .0) (s .pre .1) in record { fits = omega arith }
 
--- src/lib.rt:258:5
 signed-of-requires : tie.Need-signed-of-requires
 signed-of-requires c κs = let s = c .before .before .before in grown-small _ (s .fits .v) _ _ _ (s .args .bit) (c .before .magnitude-of .ensures) (c .added-by .ensures) (s .pre .0) (s .pre .1)
 
--- src/lib.rt:254:1
 returns : tie.Need-returns
 returns c = let s = c .before .before .before .before in grown-read _ (s .fits .v) _ _ _ (s .args .bit) (c .before .before .magnitude-of .ensures) (c .before .added-by .ensures) _ _ (c .before .before .before .is-negative .ensures) (c .signed-of .ensures) (c .signed-of .ok)
 
