@@ -9,7 +9,7 @@ use lib.Seq.{sets}
 use Rattle.rules.specs.Document.Notation.{flat}
 use Rattle.rules.specs.Document.Layout.{numberBytes, bytesFor, packed}
 use Rattle.memory.specs.Stores.{sets-append}
-use Rattle.numbers.specs.Written.{numberBytes-last, numberBytes-length}
+use Rattle.rules.specs.Laws.NumberBytes.{numberBytes-last, numberBytes-length}
 use Rattle.bits.specs.Packed.{length-packed}
 use Rattle.coder.specs.Writing.{Wrote, shortHead, madeWay, headOf, Headed}
 use Rattle.coder.proofs.Stores.{sets-beside, sets-covered, stored-again}

@@ -21,7 +21,7 @@ use Rattle.rules.specs.Laws.StateParts.{OfLevel, coded-sound, coded-bits}
 use Rattle.rules.specs.Laws.StateRecord.{SoundLists}
 use Rattle.rules.specs.Laws.Sizes.{area-bound}
 use Rattle.memory.specs.Stores.{sets-append}
-use Rattle.numbers.specs.Written.{numberBytes-length}
+use Rattle.rules.specs.Laws.NumberBytes.{numberBytes-length}
 use Rattle.bits.specs.Packed.{length-packed}
 use Rattle.coder.specs.Writing.{headOf, Stage, courseOf, bytesOf, bytesOfParts, onward, through, partMost, Going}
 use Rattle.coder.proofs.Stores.{getD-sets-behind}

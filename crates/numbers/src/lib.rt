@@ -4,7 +4,7 @@ ghost use Prim.Native.Nat.{_+_, _*_, _^_, _≤_, _<_};
 ghost use lib.ListN.{length, getD, set};
 ghost use lib.Seq.{sets};
 ghost use Rattle.rules.specs.Document.Layout.{numberBytes, readNumber};
-ghost use Rattle.numbers.specs.Written.{lastByte};
+ghost use Rattle.numbers.specs.LastByte.{lastByte};
 use rules::Number;
 
 fn byte_at(s: &[u8], at: usize) -> usize

@@ -3,7 +3,7 @@ use mathlib.Core.Logic.{⊎-elim}
 use mathlib.Core.Path.{sym, ap, _∙_}
 use native.Mathlib.Omega.{arith}
 use borrow.Author.Needs.{needs}
-use Rattle.numbers.specs.Written.{lastByte-long, lastByte-value}
+use Rattle.numbers.specs.LastByte.{lastByte-long, lastByte-value}
 use Rattle.rules.specs.declared.Number.the-variants.{Value}
 use Rattle.numbers.proofs.last_byte.Statement.{statement}
 use Rattle.numbers.proofs.last_byte.Tie as tie
