@@ -10,7 +10,7 @@ use Rattle.rules.specs.Document.Notation.{flat}
 use Rattle.rules.specs.Document.Layout.{numberBytes, bytesFor, packed}
 use Rattle.memory.specs.Stores.{sets-append}
 use Rattle.rules.specs.Laws.NumberBytes.{numberBytes-last, numberBytes-length}
-use Rattle.bits.specs.Packed.{length-packed}
+use Rattle.rules.specs.Laws.ReadBackBody.{packed-length}
 use Rattle.coder.specs.Writing.{Wrote, shortHead, madeWay, headOf, Headed}
 use Rattle.coder.proofs.Stores.{sets-beside, sets-covered, stored-again}
 
@@ -66,7 +66,7 @@ headed-whole out place n k bits a b =
     let start : ℕ = place + shortHead in
     let there : ℕ = start + (length (numberBytes (length bits)) - 1) in
     let behind : place + length head ≡ there = omega (arith, headOf-length n k (length bits) a b, numberBytes-length (length bits)) in
-    let l : length body ≡ bytesFor (length bits) = length-packed bits in
+    let l : length body ≡ bytesFor (length bits) = packed-length bits in
     rw (← l, stored-again 0 out start body there (omega arith))
     (sets-beside (sets out start body) there body place head (omega arith)
     ∙ ap (λ i. sets (sets (sets out start body) place head) i body) (sym behind)

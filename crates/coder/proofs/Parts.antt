@@ -18,7 +18,7 @@ use Rattle.rules.specs.Document.Layout.{packed, bytesFor}
 use Rattle.rules.specs.Laws.Sizes.{legal}
 use Rattle.rules.specs.Laws.StateParts.{OfLevel}
 use Rattle.rules.specs.Laws.Sizes.{area-bound}
-use Rattle.bits.specs.Packed.{length-packed}
+use Rattle.rules.specs.Laws.ReadBackBody.{packed-length}
 use Rattle.bits.specs.Written.{writeBits-packed}
 use Rattle.bits.specs.Bits.{writeBits}
 use Rattle.passes.specs.Standing.{named, stateOf, agree-same, Coding, Coded, courseC}
@@ -84,7 +84,7 @@ module _ (pyramid : List ℤ) (z : Size) (n : Plane) (k : Level) (work : List �
                 w .after,
                 ap (λ i. length (headOf (n .0) (k .0) i)) count,
                 ap bytesFor count,
-                length-packed side,
+                packed-length side,
                 length-append (headOf (n .0) (k .0) (length side)) (packed side),
                 ap length same,
               ));

@@ -22,7 +22,7 @@ use Rattle.rules.specs.Laws.StateRecord.{SoundLists}
 use Rattle.rules.specs.Laws.Sizes.{area-bound}
 use Rattle.memory.specs.Stores.{sets-append}
 use Rattle.rules.specs.Laws.NumberBytes.{numberBytes-length}
-use Rattle.bits.specs.Packed.{length-packed}
+use Rattle.rules.specs.Laws.ReadBackBody.{packed-length}
 use Rattle.coder.specs.Writing.{headOf, Stage, courseOf, bytesOf, bytesOfParts, onward, through, partMost, Going}
 use Rattle.coder.proofs.Stores.{getD-sets-behind}
 use Rattle.coder.proofs.Heads.{headOf-length}
@@ -79,7 +79,7 @@ module _ (pyramid : List ℤ) (z : Size) where
           length-append (headOf (p .plane) (p .level) (length bits)) (packed bits),
           headOf-length (p .plane) (p .level) (length bits) a b,
           numberBytes-length (length bits),
-          length-packed bits,
+          packed-length bits,
           bits-few p s o h,
         )
 

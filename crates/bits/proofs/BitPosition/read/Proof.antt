@@ -2,7 +2,7 @@
 use mathlib.Core.Path.{refl, sym}
 use native.Mathlib.Omega.{arith}
 use borrow.Author.Needs.{needs}
-use Rattle.bits.specs.Packed.{bitAt-past}
+use Rattle.rules.specs.Laws.ReadBackBody.{bit-past}
 use Rattle.rules.specs.Document.Layout.{bitAt}
 use Rattle.bits.proofs.BitPosition.read.Statement.{statement}
 use Rattle.bits.proofs.BitPosition.read.Tie as tie
@@ -21,7 +21,7 @@ unfolding bitAt
 returns c = (c .bit-of .ensures, refl)
 
 returns-2 : tie.Need-returns-2
-returns-2 c = (sym (bitAt-past _ _ (omega arith)), refl)
+returns-2 c = (sym (bit-past _ _ (omega arith)), refl)
 
 pub read-spec : {M : Type 1} → statement M
 read-spec = tie.close (tie.spec add-if1 shared-slice-read-bit-of bit-of-requires returns returns-2)
