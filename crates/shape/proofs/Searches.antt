@@ -1,7 +1,7 @@
 -- The loops' searches: the first over, the largest, the count of planes.
 use mathlib.Core.Path.{_≡_, ap, sym, _∙_}
 use mathlib.Core.List.{List}
-use mathlib.Core.Bool.{Bool, true, false, cond}
+use mathlib.Core.Bool.{Bool, false, cond}
 use Prim.Native.Nat.{ℕ, zero, suc, _+_, _-_, _^_, _≤_, _<_, max}
 use native.Mathlib.Nat.{zero-max, max-zero}
 use native.Mathlib.Numerals.{add-one}
@@ -11,23 +11,14 @@ use lib.Dec.{leb, ltb}
 use lib.ListN.{length, drop, drop-of-length-le}
 use lib.Seq.{drop-cons}
 use lib.IntN.{ℤ, pos, natAbs}
-use borrow.Author.Tests.{lt-ltb, le-ltb, le-leb, lt-leb}
-use Rattle.rules.specs.Document.Notation.{lowest, greatest}
+use borrow.Author.Tests.{lt-ltb, le-ltb, le-leb, lt-leb, eq-eqb, ne-eqb}
+use Rattle.rules.specs.Document.Notation.{greatest}
 use Rattle.rules.specs.Document.Pyramid.{magnitude, mostMagnitude, mostPlanes, log2Up, planesOf}
 use Rattle.rules.specs.Document.Calls.{firstOver}
-use Rattle.shape.specs.Planes.{planes-some}
+use Rattle.rules.specs.Laws.Tests.{lowest-found}
 
 max-assoc : (a b c : ℕ) → max (max a b) c ≡ max a (max b c)
 max-assoc a b c = omega arith
-
--- the lowest is what a search from 0 finds
-lowest-found : (t : ℕ → Bool) (m i : ℕ) → i ≤ m → ((k : ℕ) → k < i → t k ≡ false) → (i < m → t i ≡ true) → i ≡ lowest t m
-unfolding lowest
-lowest-found t zero i h before here = omega arith
-lowest-found t (suc m) zero h before here = rw (here (omega arith))
-lowest-found t (suc m) (suc i) h before here =
-    rw (before 0 (omega arith))
-    (ap suc (lowest-found (λ k. t (suc k)) m i (omega arith) (λ k l. before (suc k) (omega arith)) (λ l. here (omega arith))))
 
 module _ (pyramid : List ℤ) where
   abbrev pub over : ℕ → Bool
@@ -70,6 +61,14 @@ module _ (pyramid : List ℤ) where
   seen-all m q h e = sym (max-zero m) ∙ rw (drop-of-length-le pyramid h) at e
 
 module _ (m : ℕ) where
+  pub planes-none : m ≡ 0 → planesOf m ≡ 0
+  unfolding planesOf
+  planes-none e = rw (eq-eqb m 0 e)
+
+  planes-some : (m ≡ 0 → ⊥) → planesOf m ≡ suc (log2Up mostPlanes m)
+  unfolding planesOf
+  planes-some d = rw (ne-eqb m 0 d)
+
   abbrev pub Reaching : ℕ → Type 0
   Reaching e = log2Up e m ≡ log2Up mostPlanes m
 
@@ -80,12 +79,12 @@ module _ (m : ℕ) where
 
   module _ (e t : ℕ) (h : 0 < e) (i : t ≡ 2 ^ (e - 1)) (going : Reaching e) where
     pub planes-found : (m ≡ 0 → ⊥) → t < m → e + 1 ≡ planesOf m
-    planes-found d l = add-one e ∙ ap suc (sym (log2-step e t h i ∙ rw (lt-leb m t l)) ∙ going) ∙ sym (planes-some m d)
+    planes-found d l = add-one e ∙ ap suc (sym (log2-step e t h i ∙ rw (lt-leb m t l)) ∙ going) ∙ sym (planes-some d)
 
     pub planes-onward : m ≤ t → Reaching (e - 1)
     planes-onward l = sym (log2-step e t h i ∙ rw (le-leb m t l)) ∙ going
 
   pub planes-one : (m ≡ 0 → ⊥) → (e : ℕ) → e ≤ 0 → Reaching e → 1 ≡ planesOf m
   unfolding log2Up
-  planes-one d zero h r = ap suc r ∙ sym (planes-some m d)
+  planes-one d zero h r = ap suc r ∙ sym (planes-some d)
   planes-one d (suc e) h r = absurd (omega arith)

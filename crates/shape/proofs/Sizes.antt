@@ -11,10 +11,9 @@ use borrow.Author.Tests.{lt-ltb, le-ltb, le-leb, lt-leb, ne-eqb}
 use Rattle.rules.specs.declared.Size.{Size}
 use Rattle.rules.specs.Document.Pyramid.{leastSide, greatestSide, mostDecompositions, legalSide, legalSize}
 use Rattle.rules.specs.Document.Pyramid.{levels, row, column, within, levelUpTo, levelOf, offspringOf}
+use Rattle.rules.specs.Laws.Sizes.{span, levelStart, levelEnd, legal, area-bound, levelStart-top, levelSize-end, span-most}
+use Rattle.rules.specs.Laws.Offspring.Level.{within-true}
 use Rattle.shape.specs.declared.Offspring.the-variants.{Nothing, Block}
-use Rattle.rules.specs.Laws.Sizes.{legal, area-bound}
-use Rattle.shape.specs.Levels.{within-bounds}
-use Rattle.rules.specs.Laws.Sizes.{span, levelStart, levelEnd, levelStart-top, levelSize-end, span-most}
 use Rattle.shape.specs.Offspring.{offspringList, folded, block-first, offspring-band}
 
 -- a shift of 1 that stays under the width
@@ -109,7 +108,7 @@ folded-small i side h l = let p : i % 2 ≤ 1 = omega arith in omega (arith, mul
 
 module _ (z : Size) (e : legalSize z ≡ true) (q : ℕ) where
   pub band-row : within z (z .n) q ≡ true → row z q < greatestSide
-  band-row t = omega (arith, within-bounds z (z .n) q t .0, shr-le (z .h) (z .n), legal z e .height .most)
+  band-row t = omega (arith, within-true z (z .n) q t .0, shr-le (z .h) (z .n), legal z e .height .most)
 
   pub column-small : column z q < greatestSide
   column-small = omega (arith, mod-lt q {m = z .w} (omega (arith, legal z e .width .least)), legal z e .width .most)

@@ -1,5 +1,2 @@
-pub mod Levels
 pub mod Offspring
 pub mod Nodes
-pub mod Planes
-pub mod Magnitudes

@@ -1,7 +1,7 @@
 -- The offspring that the code names, as document 01's list, and which they are in the LL band and elsewhere.
 use mathlib.Core.Path.{_≡_, refl, ap₂, subst}
 use mathlib.Core.List.{List, [], _∷_}
-use mathlib.Core.Bool.{true, false, cond}
+use mathlib.Core.Bool.{true, cond}
 use Prim.Native.Nat.{ℕ, zero, suc, _+_, _*_, _/_, _%_, _^_, _<_}
 use native.Mathlib.Nat.{mod-lt, div-add-mod'}
 use native.Mathlib.Omega.{arith}
@@ -32,14 +32,6 @@ module _ (z : Size) where
   block-twice q =
       subst (λ (f : ℕ). offspringList z (Block f) ≡ block z (2 * row z q) (2 * column z q)) (omega (arith, div-add-mod' q (z .w)))
       (block-first (2 * row z q) (2 * column z q))
-
-  pub offspring-elsewhere : (q : ℕ) → within z (z .n) q ≡ false → within z 1 q ≡ true → offspringOf z q ≡ block z (2 * row z q) (2 * column z q)
-  unfolding offspringOf offspringAt
-  offspring-elsewhere q a b = rw (a, b)
-
-  pub offspring-finest : (q : ℕ) → within z (z .n) q ≡ false → within z 1 q ≡ false → offspringOf z q ≡ []
-  unfolding offspringOf offspringAt
-  offspring-finest q a b = rw (a, b)
 
   -- in the LL band, where (even, even) has none
   abbrev pub bandBlock : ℕ → List ℕ

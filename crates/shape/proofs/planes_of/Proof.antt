@@ -4,8 +4,7 @@ use Prim.Native.Nat.{_≤_}
 use native.Mathlib.Omega.{arith}
 use borrow.Author.Needs.{needs}
 use Rattle.rules.specs.Document.Pyramid.{mostPlanes}
-use Rattle.shape.specs.Planes.{planes-none}
-use Rattle.shape.proofs.Searches.{Reaching, planes-found, planes-onward, planes-one}
+use Rattle.shape.proofs.Searches.{planes-none, Reaching, planes-found, planes-onward, planes-one}
 use Rattle.shape.proofs.planes_of.Statement.{statement}
 use Rattle.shape.proofs.planes_of.Tie as tie
 
