@@ -1,23 +1,19 @@
 -- Numbers written one after the other, and a part whose body was there before its head.
 use mathlib.Core.Path.{_≡_, refl, sym, ap, ap₂, _∙_}
 use mathlib.Core.Bool.{Bool}
-use mathlib.Core.List.{List, [], _∷_, _++_, append-assoc, append-nil}
+use mathlib.Core.List.{List, [], _∷_, _++_, append-nil}
 use Prim.Native.Nat.{ℕ, _+_, _-_, _*_, _≤_, _<_}
 use native.Mathlib.Omega.{arith}
 use lib.ListN.{length, take, drop, length-append}
 use lib.Seq.{sets}
 use Rattle.rules.specs.Document.Notation.{flat}
 use Rattle.rules.specs.Document.Layout.{numberBytes, bytesFor, packed}
-use Rattle.memory.specs.Stores.{sets-append}
+use Rattle.rules.specs.Laws.Count.{flat-append}
 use Rattle.rules.specs.Laws.NumberBytes.{numberBytes-last, numberBytes-length}
 use Rattle.rules.specs.Laws.ReadBackBody.{packed-length}
+use Rattle.memory.specs.Stores.{sets-append}
 use Rattle.coder.specs.Writing.{Wrote, shortHead, madeWay, headOf, Headed}
 use Rattle.coder.proofs.Stores.{sets-beside, sets-covered, stored-again}
-
-pub flat-append : {X Y : Type 0} (f : X → List Y) (xs ys : List X) → flat f (xs ++ ys) ≡ flat f xs ++ flat f ys
-unfolding flat
-flat-append f [] ys = refl
-flat-append f (x ∷ xs) ys = ap (λ l. f x ++ l) (flat-append f xs ys) ∙ sym (append-assoc (f x) (flat f xs) (flat f ys))
 
 -- Wrote
 pub wrote-none : (out : List ℕ) (at : ℕ) → Wrote out at [] at out

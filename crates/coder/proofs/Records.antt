@@ -9,17 +9,16 @@ use lib.Seq.{sets}
 use Rattle.rules.specs.declared.Size.{Size}
 use Rattle.passes.specs.declared.Counts.{Counts}
 use Rattle.rules.specs.Document.Notation.{flat, greatest, zeros}
-use Rattle.rules.specs.Document.Pyramid.{levels, family, magnitude, negative, mostPlanes, planesOf}
+use Rattle.rules.specs.Document.Pyramid.{levels, mostPlanes, planesOf}
 use Rattle.rules.specs.Document.Passes.{start, PartName, partNames}
-use Rattle.rules.specs.Document.Layout.{version, numberBytes, headerBytes, partBytes, codedParts, planesIn, partsOf, recordOf}
+use Rattle.rules.specs.Document.Layout.{version, numberBytes, headerBytes, planesIn, partsOf, recordOf}
 use Rattle.rules.specs.Laws.Sizes.{legal}
 use Rattle.rules.specs.Laws.Planes.{planesOf-most, range-greatest}
 use Rattle.rules.specs.Laws.StateRecord.{SoundLists, start-sound}
-use Rattle.memory.specs.Stores.{sets-append}
+use Rattle.memory.specs.Stores.{sets-append, getD-sets-behind}
 use Rattle.passes.specs.Standing.{Started, agree-same}
 use Rattle.coder.specs.declared.Progress.{Progress}
 use Rattle.coder.specs.Writing.{Given, Wrote, Stage, stageOf, through, Clear, Going, Reached, headerMost, bytesOfParts, Stored}
-use Rattle.coder.proofs.Stores.{getD-sets-behind}
 use Rattle.coder.proofs.Heads.{wrote-near}
 use Rattle.coder.proofs.Stages.{through-out, through-place}
 use Rattle.coder.proofs.Turns.{given-same}

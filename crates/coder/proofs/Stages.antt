@@ -1,5 +1,5 @@
 -- From stage to stage: one part and several, what they leave to do, and what all of them make.
-use mathlib.Core.Path.{_≡_, refl, sym, ap, fun-ext, _∙_}
+use mathlib.Core.Path.{_≡_, refl, sym, ap, _∙_}
 use mathlib.Core.List.{List, [], _∷_, _++_}
 use mathlib.Core.Bool.{Bool, true}
 use Prim.Native.Nat.{ℕ, zero, suc, _+_, _^_, _≤_, _<_}
@@ -10,21 +10,19 @@ use lib.IntN.{ℤ}
 use lib.Seq.{sets}
 use Rattle.rules.specs.declared.Size.{Size}
 use Rattle.rules.specs.Document.Notation.{flat}
-use Rattle.rules.specs.Document.Pyramid.{legalSize, area, levels, family, magnitude, negative, mostPlanes}
+use Rattle.rules.specs.Document.Pyramid.{legalSize, area, levels, magnitude, negative, mostPlanes}
 use Rattle.rules.specs.Document.Passes.{State, PartName, partsOfPlane}
 use Rattle.rules.specs.Document.Layout.{packed, partBytes, codedParts}
 use Rattle.rules.specs.Document.Numbers.{mostBits}
 use Rattle.rules.specs.Laws.Count.{All, from-length}
-use Rattle.rules.specs.Laws.Sizes.{legal}
+use Rattle.rules.specs.Laws.Sizes.{legal, area-bound}
 use Rattle.rules.specs.Laws.Offspring.Lawful.{lawful}
 use Rattle.rules.specs.Laws.StateParts.{OfLevel, coded-sound, coded-bits}
 use Rattle.rules.specs.Laws.StateRecord.{SoundLists}
-use Rattle.rules.specs.Laws.Sizes.{area-bound}
-use Rattle.memory.specs.Stores.{sets-append}
 use Rattle.rules.specs.Laws.NumberBytes.{numberBytes-length}
 use Rattle.rules.specs.Laws.ReadBackBody.{packed-length}
+use Rattle.memory.specs.Stores.{sets-append, getD-sets-behind}
 use Rattle.coder.specs.Writing.{headOf, Stage, courseOf, bytesOf, bytesOfParts, onward, through, partMost, Going}
-use Rattle.coder.proofs.Stores.{getD-sets-behind}
 use Rattle.coder.proofs.Heads.{headOf-length}
 
 -- Lists that agree at every level are the same.

@@ -5,16 +5,10 @@ use Prim.Native.Nat.{ℕ, zero, suc, _+_, _-_, _≤_, _<_, min}
 use native.Mathlib.Omega.{arith}
 use native.Mathlib.Decide.{ℕ-discrete}
 use lib.ListN.{length, getD, set, take, drop, length-set, length-take, length-drop}
-use lib.Seq.{sets, length-sets, set-comm, set-set, drop-cons, getD-set-same, getD-set-other, take-take}
+use lib.Seq.{sets, length-sets, set-comm, set-set, drop-cons, getD-set-same, take-take}
 use Rattle.memory.specs.Stores.{sets-cut, getD-sets-before, set-sets-before}
 
 module _ {A : Type 0} where
-  -- What stands behind the last store is not touched.
-  pub getD-sets-behind : (l : List A) (i : ℕ) (vs : List A) (j : ℕ) (d : A) → i + length vs ≤ j → getD (sets l i vs) j d ≡ getD l j d
-  getD-sets-behind l i [] j d h = refl
-  getD-sets-behind l i (v ∷ vs) j d h =
-      getD-sets-behind (set l i v) (suc i) vs j d (omega arith) ∙ getD-set-other l i j v d (λ e. omega arith)
-
   -- Of two runs of stores, one before the other, either may come first.
   pub sets-beside : (l : List A) (i : ℕ) (vs : List A) (j : ℕ) (ws : List A) → j + length ws ≤ i → sets (sets l i vs) j ws ≡ sets (sets l j ws) i vs
   sets-beside l i vs j [] h = refl

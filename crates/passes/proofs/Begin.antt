@@ -19,7 +19,7 @@ use Rattle.rules.specs.Document.Notation.{flat, ifAny}
 use Rattle.rules.specs.Document.Pyramid.{greatestSide, legalSize, area, levels, offspringOf}
 use Rattle.rules.specs.Document.Passes.{typeA, Lists, from, rows, bandLL, rootOf, start}
 use Rattle.rules.specs.Document.Calls.{workFor}
-use Rattle.rules.specs.Laws.Count.{All, every-all, ifAny-some}
+use Rattle.rules.specs.Laws.Count.{All, every-all, ifAny-some, flat-append}
 use Rattle.rules.specs.Laws.Sizes.{Legal, legal, area-bound, span-most, levelStart, levelStart-top, levelSize, levelSize-top}
 use Rattle.rules.specs.Laws.Slots.{room-slots}
 use Rattle.rules.specs.Laws.StateRecord.{start-sound, part-room}
@@ -40,11 +40,6 @@ use Rattle.passes.specs.Standing.{stretchOf, countAt, nothing, listsAt, 
 use Rattle.passes.specs.Begin.{empty, lengths, rowOf, Listing, Listed}
 
 -- lists joined
-flat-append : {X Y : Type 0} (f : X → List Y) (xs ys : List X) → flat f (xs ++ ys) ≡ flat f xs ++ flat f ys
-unfolding flat
-flat-append f [] ys = refl
-flat-append f (x ∷ xs) ys = ap (λ l. f x ++ l) (flat-append f xs ys) ∙ sym (append-assoc (f x) (flat f xs) (flat f ys))
-
 all-first : {X : Type 0} (P : X → Type 0) (xs ys : List X) → All P (xs ++ ys) → All P xs
 unfolding All
 all-first P [] ys a = tt

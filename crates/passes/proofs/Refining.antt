@@ -2,7 +2,7 @@
 use mathlib.Core.Path.{_≡_, refl, sym, ap, ap₂, _∙_, subst}
 use mathlib.Core.Bool.{Bool, true, false, cond}
 use mathlib.Core.List.{List, [], _∷_, _++_}
-use Prim.Native.Nat.{ℕ, zero, suc, _+_, _-_, _*_, _≤_, _<_, _^_}
+use Prim.Native.Nat.{ℕ, _+_, _-_, _*_, _≤_, _<_, _^_}
 use native.Mathlib.Nat.{mul-le-mul-left}
 use native.Mathlib.Decide.{ℕ-discrete, decLt}
 use native.Mathlib.Omega.{arith}
@@ -16,6 +16,7 @@ use Rattle.rules.specs.Laws.PassSteps.{signNoted, bitNoted, sharpened, sharpene
 use Rattle.rules.specs.Document.Pyramid.{Family, magnitude}
 use Rattle.rules.specs.Laws.Count.{sum, is, sum-append, is-same}
 use Rattle.rules.specs.Laws.PassKept.{Kept}
+use Rattle.rules.specs.Laws.Rounding.{signed-magnitude}
 use Rattle.lists.specs.Seg.{seg}
 use Rattle.lists.specs.Stretch.{lspFrom, known, known-add, known-none}
 use Rattle.passes.specs.declared.Run.{Run}
@@ -64,12 +65,6 @@ grown-most false a v = omega arith
 grown-most true a (pos m) = omega arith
 grown-most true a (negsuc m) = omega arith
 
-signed-is : (b : Bool) (m : ℕ) → natAbs (signed b m) ≡ m
-unfolding signed
-signed-is false m = refl
-signed-is true zero = refl
-signed-is true (suc m) = refl
-
 sum-cons : (q p : ℕ) (ks : List ℕ) → sum (is q) (p ∷ ks) ≡ is q p + sum (is q) ks
 unfolding sum
 sum-cons q p ks = refl
@@ -97,7 +92,7 @@ module _ (run : Run) (pyramid : List ℤ) (body : List ℕ) where
   found-most : (p : ℕ) (b : Bool) (v : List ℤ) (q c : ℕ) → a ≤ c → magnitude v q ≤ c → magnitude (noted run (toLsp p b) v) q ≤ c
   unfolding noted written
   found-most p b v q c h i =
-      either-le (run .reads) (set v p (signed b a)) v q c (magnitude-set v p q (signed b a) c (λ e. rw (signed-is b a) h) i) i
+      either-le (run .reads) (set v p (signed b a)) v q c (magnitude-set v p q (signed b a) c (λ e. rw (signed-magnitude b a) h) i) i
 
   sharpened-most : (p : ℕ) (x : Chan) (q : ℕ) → magnitude (sharpened C p x .pyramid) q ≤ magnitude (x .pyramid) q + a * is q p
   unfolding sharpened bitNoted side

@@ -18,7 +18,7 @@ use Rattle.rules.specs.Document.Passes.{Question, Event, toLip, toLsp, stays, m
 use Rattle.rules.specs.Document.Passes.{Side, walk, Course, listed, withSide, listing, passed, State, after}
 use Rattle.rules.specs.Document.Passes.{coder, coded, Reader, decoder, decoded}
 use Rattle.rules.specs.Document.Layout.{bitAt}
-use Rattle.rules.specs.Laws.Count.{sum, one, is, from-once}
+use Rattle.rules.specs.Laws.Count.{sum, is, one-most, from-once}
 use Rattle.rules.specs.Laws.Family.{Lawful}
 use Rattle.rules.specs.Laws.PassKept.{kept-pass}
 use Rattle.rules.specs.Laws.PassSteps.{begun}
@@ -154,11 +154,6 @@ module _ (run : Run) (pyramid : List ℤ) (body : List ℕ) where
         record { under = λ q. omega (arith, H .small q) }
 
 -- In sound lists each coefficient is in one LSP at most, and there once.
-one-most : (b : Bool) → one b ≤ 1
-unfolding one
-one-most true = omega arith
-one-most false = omega arith
-
 pub sound-lsp : (z : Size) (s : State) → SoundLists z s → (k : ℕ) → k ≤ levels z → (q : ℕ) → sum (is q) (s k .lsp) ≤ 1
 unfolding listsWeight
 sound-lsp z s h k l q =

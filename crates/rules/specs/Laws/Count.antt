@@ -8,7 +8,7 @@
 --   q ∈ xs        q stands in xs, once or more
 --   Every P xs    P of each q that stands in xs: All, said by count
 use mathlib.Core.Path.{_≡_, refl, ap, ap₂, sym, _∙_, subst}
-use mathlib.Core.List.{List, [], _∷_, _++_, map}
+use mathlib.Core.List.{List, [], _∷_, _++_, map, append-assoc}
 use mathlib.Core.Bool.{Bool, true, false, _&&_, _||_, true≢false, false≢true}
 use mathlib.Core.Logic.{_≢_}
 use Prim.Native.Nat.{ℕ, zero, suc, _+_, _*_, _≤_, _<_}
@@ -136,6 +136,11 @@ sum-one w [] a = refl
 sum-one w (x ∷ xs) a = omega (arith, a .0, sum-one w xs (a .1))
 
 -- one
+pub one-most : (b : Bool) → one b ≤ 1
+unfolding one
+one-most true = omega arith
+one-most false = omega arith
+
 pub one-and : (a b : Bool) → one (a && b) ≡ one a * one b
 unfolding one
 one-and true true = refl
@@ -154,20 +159,9 @@ is-no q p d = rw (ne-eqb p q d)
 pub is-same : (q : ℕ) → is q q ≡ 1
 is-same q = is-yes q q refl
 
-pub is-eq : (q p : ℕ) → 1 ≤ is q p → p ≡ q
-is-eq q p h = go (ℕ-discrete p q)
-  where
-    go : Dec (p ≡ q) → p ≡ q
-    go (yes e) = e
-    go (no d) = absurd (omega (arith, is-no q p d))
-
 pub is-most : (q p : ℕ) → is q p ≤ 1
-unfolding is one
-is-most q p = go (eqb p q)
-  where
-    go : (b : Bool) → one b ≤ 1
-    go true = omega arith
-    go false = omega arith
+unfolding is
+is-most q p = one-most (eqb p q)
 
 -- what holds together with p ≡ u, counted once at most
 pub is-count : (c u p : ℕ) → c ≤ 1 → (1 ≤ c → p ≡ u) → (p ≡ u → 1 ≤ c) → c ≡ is u p
@@ -257,6 +251,11 @@ pub flat-same : {X Y : Type 0} (f g : X → List Y) (xs : List X) → All (λ x.
 unfolding All flat
 flat-same f g [] a = refl
 flat-same f g (x ∷ xs) a = ap₂ _++_ (a .0) (flat-same f g xs (a .1))
+
+pub flat-append : {X Y : Type 0} (f : X → List Y) (xs ys : List X) → flat f (xs ++ ys) ≡ flat f xs ++ flat f ys
+unfolding flat
+flat-append f [] ys = refl
+flat-append f (x ∷ xs) ys = ap (λ l. f x ++ l) (flat-append f xs ys) ∙ sym (append-assoc (f x) (flat f xs) (flat f ys))
 
 pub any-false : (t : ℕ → Bool) (xs : List ℕ) → any t xs ≡ false → Every (λ q. t q ≡ false) xs
 any-false t xs h = all-every _ xs (each xs h)

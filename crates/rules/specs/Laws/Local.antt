@@ -11,7 +11,7 @@ use Rattle.rules.specs.declared.Header.{Header}
 use Rattle.rules.specs.declared.HeaderRead.the-variants as header
 use Rattle.rules.specs.declared.Part.{Part}
 use Rattle.rules.specs.declared.PartRead.the-variants as part
-use Rattle.rules.specs.Document.Layout.{bitAt, readNumber, bytesFor, wholeOf, bodyOf, nameOf}
+use Rattle.rules.specs.Document.Layout.{bitAt, readNumber, bytesFor, bodyOf, nameOf}
 use Rattle.rules.specs.Document.Passes.{PartName}
 use Rattle.rules.specs.Document.Numbers.{readHeader, legalHead, readPart}
 use Rattle.rules.specs.Laws.Parts.{legal-head}
@@ -106,12 +106,6 @@ movedTo b p =
 
 module _ (s : List ℕ) (t : List ℕ) (b : ℕ) (p : Part) (m : Same s (p .place) t b (p .end - p .place)) (in-order : p .place ≤ p .body)
     (ends : p .end ≡ p .body + bytesFor (p .bits)) (inside : p .end ≤ length s) where
-  pub movedTo-whole : wholeOf t (movedTo b p) ≡ wholeOf s p
-  unfolding wholeOf movedTo
-  movedTo-whole =
-      let e : b + (p .end - p .place) - b ≡ p .end - p .place = omega arith in
-      ap (λ (n : ℕ). take n (drop b t)) e ∙ same-stretch s (p .place) t b (p .end - p .place) m (omega arith)
-
   pub movedTo-body : bodyOf t (movedTo b p) ≡ bodyOf s p
   unfolding bodyOf movedTo
   movedTo-body =

@@ -37,11 +37,6 @@ unfolding greatest All
 greatest-most m [] = tt
 greatest-most m (x ∷ xs) = (omega arith, all-then _ _ xs (λ y h. omega arith) (greatest-most m xs))
 
-pub greatest-within : {X : Type 0} (m : X → ℕ) (xs : List X) (bound : ℕ) → All (λ x. m x ≤ bound) xs → greatest m xs ≤ bound
-unfolding greatest All
-greatest-within m [] bound a = omega arith
-greatest-within m (x ∷ xs) bound a = omega (arith, a .0, greatest-within m xs bound (a .1))
-
 pub greatest-at : {X : Type 0} (m : X → ℕ) (xs : List X) (i : ℕ) (d : X) → i < length xs → m (getD xs i d) ≤ greatest m xs
 unfolding greatest
 greatest-at m [] i d h = absurd (omega arith)
@@ -86,21 +81,6 @@ module _ (z : Size) (m : ℕ → ℕ) where
       (greatest-same (maxD z m g) (λ p. greatest m (generations z g p)) (offspringOf z q) (all-of _ (offspringOf z q) (maxD-generations g))
       ∙ sym (greatest-flat m (generations z g) (offspringOf z q)))
       ∙ sym (greatest-append m (offspringOf z q) (flat (generations z g) (offspringOf z q)))
-
-  pub maxL-generations : (g q : ℕ) → maxL z m g q ≡ greatest m (flat (generations z g) (offspringOf z q))
-  unfolding maxL
-  maxL-generations g q =
-      greatest-same (maxD z m g) (λ p. greatest m (generations z g p)) (offspringOf z q) (all-of _ (offspringOf z q) (maxD-generations g))
-      ∙ sym (greatest-flat m (generations z g) (offspringOf z q))
-
-  -- each from the other
-  pub maxD-next : (g q : ℕ) → maxD z m (suc g) q ≡ max (greatest m (offspringOf z q)) (maxL z m g q)
-  unfolding maxD maxL
-  maxD-next g q = refl
-
-  pub maxL-next : (g q : ℕ) → maxL z m g q ≡ greatest (maxD z m g) (offspringOf z q)
-  unfolding maxL
-  maxL-next g q = refl
 
   -- The maximum of D, by the level.
   pub maxD-A : (q : ℕ) → greatest m (members (family z) (typeA q)) ≡ maxD z m (levelOf z q) q

@@ -70,23 +70,6 @@ pub numberBytes-length : (v : ℕ) → (1 ≤ length (numberBytes v)) × (length
 unfolding numberBytes
 numberBytes-length v = groups-length 3 v
 
--- Each of them is a byte.
-pub numberBytes-bytes : (v : ℕ) → v < tooLarge → (i : ℕ) → getD (numberBytes v) i 0 < 256
-unfolding numberBytes
-numberBytes-bytes v h =
-    by-groups (λ more v. (i : ℕ) → getD (groups more v) i 0 < 256)
-    (λ more v g i. rw (groups-last more v g) (one v g i))
-    (λ more v g all i. rw (groups-next more v g) (another more v all i)) 3 v h
-  where
-    one : (v : ℕ) → v < 128 → (i : ℕ) → getD (v ∷ []) i 0 < 256
-    one v g zero = omega arith
-    one v g (suc i) = omega arith
-
-    another : (more v : ℕ) → ((i : ℕ) → getD (groups more (v / 128)) i 0 < 256) → (i : ℕ)
-        → getD ((v % 128 + 128) ∷ groups more (v / 128)) i 0 < 256
-    another more v all zero = omega arith
-    another more v all (suc i) = all i
-
 -- Reading, one byte at a time: there is none, one that goes on, or a last one, which is not 0 if there are several.
 module _ (more : ℕ) (s : List ℕ) (at worth value : ℕ) where
   pub numberFrom-cut : length s ≤ at → numberFrom (suc more) s at worth value ≡ CutOff

@@ -2,7 +2,7 @@
 -- all the parts there are.
 use mathlib.Core.Path.{_≡_, refl, ap, sym, _∙_, subst}
 use mathlib.Core.List.{List, [], _∷_, _++_, append-assoc}
-use mathlib.Core.Bool.{Bool, true, false, cond, _&&_, _||_, true≢false}
+use mathlib.Core.Bool.{Bool, true, false, cond, _&&_, true≢false}
 use mathlib.Core.Logic.{⊎-elim}
 use Prim.Native.Nat.{ℕ, suc, _≤_, _<_}
 use native.Mathlib.Omega.{arith}
@@ -15,7 +15,7 @@ use Rattle.rules.specs.Document.Layout.{sameName, usable, reached}
 use Rattle.rules.specs.Laws.Count.{All}
 use Rattle.rules.specs.Laws.Tests.{same-test, not-test, both, both-left, both-right, either, either-right, lowest-same}
 use Rattle.rules.specs.Laws.Parts.{at, Named, present, After, InOrder, same-name, name-same, present-append, absent, order-behind, order-front}
-use Rattle.rules.specs.Laws.Usable.{Usable, usable-every, every-usable, usable-there, usable-rises, reached-within, usable-reached, reached-usable, reached-beyond}
+use Rattle.rules.specs.Laws.Usable.{Usable, usable-every, every-usable, usable-there, usable-rises, reached-within, usable-reached, reached-usable}
 
 -- With R the planes reached by the parts that came by: a part is usable if its level had reached the plane above, and the next coarser level
 -- its own plane; and the planes reached with it.
@@ -24,17 +24,6 @@ usableNow R p = eqb (R (p .level)) (suc (p .plane)) && leb (R (suc (p .level))) 
 
 unfoldable pub reachedNow : (ℕ → ℕ) → PartName → ℕ → ℕ
 reachedNow R p k = cond (eqb k (p .level) && usableNow R p) (p .plane) (R k)
-
--- at the top level there is no coarser one to ask
-pub top-alone : (top planes : ℕ) (there : List PartName) (n k : ℕ) → k ≤ top
-    → eqb k top || leb (reached top planes there (suc k)) n ≡ leb (reached top planes there (suc k)) n
-top-alone top planes there n k l = cases (eqb k top) refl
-  where
-    cases : (b : Bool) → eqb k top ≡ b → b || leb (reached top planes there (suc k)) n ≡ leb (reached top planes there (suc k)) n
-    cases false e = refl
-    cases true e =
-        let none : reached top planes there (suc k) ≡ 0 = reached-beyond top planes there (suc k) (omega (arith, eqb-true k top e)) in
-        sym (le-leb (reached top planes there (suc k)) n (omega (arith, none)))
 
 module _ (top planes : ℕ) (seen : List PartName) (p : PartName) (front : All (λ q. After q p) seen) where
   -- the parts that came by, p the last

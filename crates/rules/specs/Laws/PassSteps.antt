@@ -4,7 +4,7 @@ use mathlib.Core.List.{List, [], _∷_, _++_}
 use mathlib.Core.Bool.{Bool, true, false}
 use Prim.Native.Nat.{ℕ, zero, suc}
 use Rattle.rules.specs.Document.Pyramid.{Family}
-use Rattle.rules.specs.Document.Passes.{Entry, significant?, negative?, bit?, set?, toLip, toLsp, stays, moves, refined, Talk, done, ask}
+use Rattle.rules.specs.Document.Passes.{Entry, significant?, negative?, bit?, set?, toLip, toLsp, stays, moves, refined, Talk, done}
 use Rattle.rules.specs.Document.Passes.{Lists, inLevel, tested, tests, opened, added, weighed, visited, visits, turns, sets, refines, pass}
 use Rattle.rules.specs.Document.Passes.{Reply, Side, walk, Course, listed, withSide, listing, passed}
 use Rattle.rules.specs.Laws.Family.{Lawful}
@@ -41,11 +41,6 @@ sharpenedAll C [] s = s
 sharpenedAll C (p ∷ ps) s = sharpenedAll C ps (sharpened C p s)
 
 -- Step 1, and the offspring of an opened set.
-pub tests-append : (F : Family) (ps qs : List ℕ) (next : Talk) → tests F (ps ++ qs) next ≡ tests F ps (tests F qs next)
-unfolding tests
-tests-append F [] qs next = refl
-tests-append F (p ∷ ps) qs next = ap (λ t. ask (significant? p) (tested F p t)) (tests-append F ps qs next)
-
 module _ {S : Type 0} (C : Side S) where
   pub tried-insignificant : (p : ℕ) (s : S) → C .reply (significant? p) s .bit ≡ false
       → tried C p s ≡ C .note (toLip p) (C .reply (significant? p) s .next)

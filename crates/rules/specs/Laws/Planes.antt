@@ -20,15 +20,6 @@ use Rattle.rules.specs.Laws.Causes.{InRange, FirstOver}
 use Rattle.rules.specs.Laws.Maxima.{greatest-at, greatest-each}
 
 -- The least exponent, of those up to e, whose power of two is not under m.
-pub log2Up-within : (e m : ℕ) → log2Up e m ≤ e
-unfolding log2Up
-log2Up-within zero m = omega arith
-log2Up-within (suc e) m = cases (leb m (2 ^ e)) (log2Up-within e m)
-  where
-    cases : (b : Bool) → log2Up e m ≤ e → cond b (log2Up e m) (suc e) ≤ suc e
-    cases true h = omega arith
-    cases false h = omega arith
-
 pub log2Up-not-under : (e m : ℕ) → m ≤ 2 ^ e → m ≤ 2 ^ log2Up e m
 unfolding log2Up
 log2Up-not-under zero m h = h
@@ -115,9 +106,3 @@ module _ (v : List ℤ) where
   pub range-greatest : firstOver v ≡ length v → greatest natAbs v ≤ mostMagnitude
   unfolding magnitude
   range-greatest e = greatest-each natAbs v (pos 0) mostMagnitude (subst (InRange v) e under-first)
-
-  pub range-most : firstOver v ≡ length v → (q : ℕ) → magnitude v q ≤ mostMagnitude
-  range-most e q = omega (arith, magnitude-most v q, range-greatest e)
-
-  pub greatest-range : greatest natAbs v ≤ mostMagnitude → firstOver v ≡ length v
-  greatest-range h = none-over (λ q l. omega (arith, magnitude-most v q))

@@ -15,7 +15,7 @@ use Rattle.rules.specs.Document.Pyramid.{Family, mostPlanes, legalSize, 
 use Rattle.rules.specs.Document.Passes.{State, after, PartName, partNames, coded}
 use Rattle.rules.specs.Document.Layout.{packed, headerBytes, CodedPart, partBytes, codedParts, wholeOf, bodyOf, nameOf}
 use Rattle.rules.specs.Document.Numbers.{mostBits, follows, legalHead, headed, readPart, tail, Reading, goOn, readFrom, readParts}
-use Rattle.rules.specs.Laws.Count.{All}
+use Rattle.rules.specs.Laws.Count.{All, flat-append}
 unfoldable pub use Rattle.rules.specs.Laws.Tests.{selection}
 use Rattle.rules.specs.Laws.Parts.{at, Named, InOrder, names-in-order, names-named, follows-follows, LegalHead, legal-head, head-legal, legal-behind}
 use Rattle.rules.specs.Laws.ReadBackNumber.{left-none, left-behind}
@@ -128,11 +128,6 @@ legal-split h before (p ∷ ps) q later ok =
     let more : LegalParts h (p .name) ps × (legalHead h (lastName (p .name) ps) (q .name) (length (q .bits)) ≡ true)
     = legal-split h (p .name) ps q later (ok .1) in
     ((ok .0, more .0), more .1)
-
-flat-append : {X Y : Type 0} (f : X → List Y) (xs ys : List X) → flat f (xs ++ ys) ≡ flat f xs ++ flat f ys
-unfolding flat
-flat-append f [] ys = refl
-flat-append f (x ∷ xs) ys = ap (λ l. f x ++ l) (flat-append f xs ys) ∙ sym (append-assoc (f x) (flat f xs) (flat f ys))
 
 cut-bytes : (z : Size) (planes : ℕ) (ps : List CodedPart) (q : CodedPart) (later : List CodedPart) (c : ℕ) → c ≤ length (partBytes q)
     → take (length (recordBytes z planes ps) + c) (recordBytes z planes (ps ++ q ∷ later)) ≡ recordBytes z planes ps ++ take c (partBytes q)

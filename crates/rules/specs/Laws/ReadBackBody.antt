@@ -76,15 +76,6 @@ pack-byte bits i zero j h = absurd (omega arith)
 pack-byte bits i (suc m) zero h = ap (λ x. eightBits bits x 8) (omega arith)
 pack-byte bits i (suc m) (suc j) h = pack-byte bits (i + 8) m j (omega arith) ∙ ap (λ x. eightBits bits x 8) (omega arith)
 
-pub packed-byte : (bits : List Bool) (j : ℕ) → getD (packed bits) j 0 < 256
-unfolding packed
-packed-byte bits j = cases (decLt j (bytesFor (length bits)))
-  where
-    cases : Dec (j < bytesFor (length bits)) → getD (packFrom bits 0 (bytesFor (length bits))) j 0 < 256
-    cases (yes l) = rw (pack-byte bits 0 (bytesFor (length bits)) j l) (eight-under bits (0 + 8 * j) 8)
-    cases (no l) =
-        omega (arith, List·getD-eq-default (packFrom bits 0 (bytesFor (length bits))) 0 {n = j} (omega (arith, pack-length bits 0 (bytesFor (length bits)))))
-
 -- past the end a bit is 0
 pub bit-past : (body : List ℕ) (i : ℕ) → length body ≤ i / 8 → bitAt body i ≡ false
 unfolding bitAt

@@ -19,7 +19,7 @@ use Rattle.rules.specs.Document.Layout.{headerBytes, CodedPart, nameOf, 
 use Rattle.rules.specs.Document.Numbers.{tail}
 use Rattle.rules.specs.Document.Calls.{accepted, unless, workFor, onHeader, onEnding, Progress, going, unfit, decodeParts, levelPlaces, reachedPlane, reachedPlanes, planeIn}
 use Rattle.rules.specs.Document.Calls.{pictured, decodedParts, decoding}
-use Rattle.rules.specs.Laws.Count.{sum, one, is, _∈_, All, Every, all-then, all-every, from-length, from-all, from-once}
+use Rattle.rules.specs.Laws.Count.{sum, one, one-most, is, _∈_, All, Every, all-then, all-every, from-length, from-all, from-once}
 use Rattle.rules.specs.Laws.Sizes.{Legal, legal}
 use Rattle.rules.specs.Laws.Offspring.Level.{level-most, level-least}
 use Rattle.rules.specs.Laws.Offspring.Lawful.{lawful}
@@ -136,12 +136,7 @@ module _ (z : Size) (ok : legalSize z ≡ true) (planes : ℕ) (few : planes ≤
   blank = replicate (area z) (pos 0)
 
   once : (q : ℕ) → sum (is q) all ≤ 1
-  unfolding one
-  once q = rw (from-once q (area z)) (by (ltb q (area z)))
-    where
-      by : (b : Bool) → one b ≤ 1
-      by true = omega arith
-      by false = omega arith
+  once q = rw (from-once q (area z)) (one-most (ltb q (area z)))
 
   inside : Every (λ q. q < area z) all
   inside = all-every _ all (all-then _ _ all (λ q i. omega arith) (from-all 0 (area z)))

@@ -84,13 +84,6 @@ module _ (s : List ℕ) (r p : ℕ) (x : Portion) (v : IsServed s r p x) where
       readParts-from (v .head) (x .bytes) (header-within (readHeader-stands (x .bytes) (v .head) served-header))
       ∙ subst₂ (λ (l : List ℕ) (k : ℕ). partsFrom (v .head) l first k ≡ record { parts = placedFrom k named; ending = tail 0 }) (sym (v .bytes)) n c
 
--- Serving accepts whatever reads without a fault, where the request is legal and there is room.
-pub serving-accepts : (s : List ℕ) (h : Header) (r p k room : ℕ) → readHeader s ≡ header.Header h → legalAsk h r p ≡ true → readParts h s .ending ≡ tail k
-    → length (servedBytes h s r p (readParts h s .parts)) ≤ room
-    → serving s r p room ≡ accepted (record { bytes = servedBytes h s r p (readParts h s .parts); tail = k })
-unfolding serving onHeader onEnding unless portioned
-serving-accepts s h r p k room a b c d = rw (a, b, c, le-leb (length (servedBytes h s r p (readParts h s .parts))) room d)
-
 -- A record is its header, its parts and its tail.
 module _ (h : Header) (s : List ℕ) where
   tail-rest : (place k : ℕ) → place ≤ length s → tail (length s - place) ≡ tail k → drop (length s - k) s ≡ drop place s

@@ -4,22 +4,17 @@
 --   levelStart z k    coefficients of the levels over k: where level k starts when they are laid out coarsest first
 --   levelEnd z k      and where it ends
 --   levelSize z k     n_k
---   sumTo f k         f 1 up to f k, added
 use mathlib.Core.Path.{_≡_, ap, ap₂, sym, _∙_}
 use mathlib.Core.Bool.{true, cond, _&&_, and-eq-true-iff}
 use Prim.Native.Nat.{ℕ, zero, suc, _+_, _-_, _*_, _/_, _%_, _^_, _≤_}
 use native.Mathlib.Omega.{arith}
-use native.Mathlib.Nat.{mul-assoc, pow-suc, div-add-mod', add-sub-of-le, div-one, mul-comm, mul-le-mul, mul-mod-right}
+use native.Mathlib.Nat.{mul-assoc, pow-suc, div-add-mod', add-sub-of-le, div-one, mul-comm, mul-le-mul}
 use native.Mathlib.Decide.{decLe}
 use lib.Pow.{pow-add, shl-shr, shr-shr, shr-le}
 use lib.Dec.{leb, eqb}
 use borrow.Author.Tests.{leb-true, eqb-true, le-leb, lt-leb, eq-eqb}
 use Rattle.rules.specs.declared.Size.{Size}
 use Rattle.rules.specs.Document.Pyramid.{leastSide, greatestSide, mostDecompositions, legalSide, legalSize, area, levels}
-
-unfoldable pub sumTo : (ℕ → ℕ) → ℕ → ℕ
-sumTo f zero = 0
-sumTo f (suc k) = f (suc k) + sumTo f k
 
 module _ (z : Size) where
   unfoldable pub span : ℕ → ℕ
@@ -125,12 +120,9 @@ module _ (z : Size) where
   unfolding levelEnd
   levelEnd-next k = ap (span z) (omega arith)
 
-  -- The levels lie end to end: where level k starts, level k + 1 ends; and the finest ends with the pyramid.
+  -- The levels lie end to end: where level k starts, level k + 1 ends.
   pub levelEnd-start : (k : ℕ) → k ≤ z .n → levelEnd z (suc k) ≡ levelStart z k
   levelEnd-start k h = levelEnd-next k ∙ sym (levelStart-fine k h)
-
-  pub levelEnd-finest : levelEnd z 1 ≡ area z
-  levelEnd-finest = levelEnd-next 0 ∙ span-whole
 
 module _ (z : Size) (Z : Legal z) where
   pub span-some : (k : ℕ) → k ≤ levels z → 1 ≤ span z k
@@ -163,23 +155,3 @@ module _ (z : Size) (Z : Legal z) where
       go : Dec (suc k ≤ z .n) → levelStart z (suc k) + (levelEnd z (suc k) - levelStart z (suc k)) ≡ levelEnd z (suc k)
       go (yes a) = omega (arith, levelEnd-next z k, levelStart-fine z (suc k) a, span-quarter k (omega arith))
       go (no a) = let e : k ≡ z .n = omega arith in rw e (omega (arith, levelStart-top z))
-
-  -- n_k is a multiple of 4
-  pub levelSize-four : (k : ℕ) → 1 ≤ k → k ≤ levels z → levelSize z k % 4 ≡ 0
-  levelSize-four k h l = go (decLe k (z .n))
-    where
-      go : Dec (k ≤ z .n) → levelSize z k % 4 ≡ 0
-      go (yes a) =
-          let e : levelSize z k ≡ 4 * (3 * span z (suc k)) = omega (arith, levelSize-fine k h a, span-quarter k a) in
-          rw e (mul-mod-right 4 (3 * span z (suc k)))
-      go (no a) = let e : k ≡ levels z = omega arith in rw e (omega (arith, levelSize-top, span-quarter (z .n) (omega arith)))
-
-  -- all levels together
-  sizes-up-to : (k : ℕ) → k ≤ z .n → sumTo (levelSize z) k + span z k ≡ area z
-  unfolding sumTo
-  sizes-up-to zero h = omega (arith, span-whole z)
-  sizes-up-to (suc k) h = omega (arith, sizes-up-to k (omega arith), levelSize-fine (suc k) (omega arith) h, span-quarter k (omega arith))
-
-  pub sizes-sum : sumTo (levelSize z) (levels z) ≡ area z
-  unfolding sumTo
-  sizes-sum = omega (arith, sizes-up-to (z .n) (omega arith), levelSize-top)
