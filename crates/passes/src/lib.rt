@@ -1,4 +1,5 @@
-// One part's pass over one level, run by coder and decoder alike in the level's lent stretch of the workspace.
+// One part, for coder and decoder alike: the pass over its level, in the level's stretch lent from the workspace, and what moved out handed on to the
+// next level; and the lists at the start.
 ghost use mathlib.Core.Path.{_≡_};
 ghost use mathlib.Core.Bool.{true};
 ghost use mathlib.Core.List.{[], _∷_, map};
