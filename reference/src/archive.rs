@@ -1,7 +1,6 @@
-//! The product's archive, libportal.a, linked under the feature `archive`; under
-//! `archive-serve` only its call for serving.
+//! The product's archive, libportal.a, linked under the feature `archive`.
 
-use crate::compare::{Routine, Subject};
+use crate::compare::Subject;
 
 // Takes no part in the program: it makes cargo notice a new archive.
 const _: &[u8] = include_bytes!(concat!(
@@ -14,7 +13,6 @@ const _: &[u8] = include_bytes!(concat!(
 
 #[link(name = "portal", kind = "static")]
 extern "C" {
-    #[cfg(feature = "archive")]
     fn afs_code(
         pyramid: *const i32,
         pyramid_len: usize,
@@ -40,7 +38,6 @@ extern "C" {
         answer_len: usize,
     ) -> u64;
 
-    #[cfg(feature = "archive")]
     fn afs_decode(
         record: *const u8,
         record_len: usize,
@@ -53,22 +50,12 @@ extern "C" {
     ) -> u64;
 }
 
-/// The archive's calls, as many as are linked.
+/// The archive's calls.
 pub struct Archive;
-
-#[cfg(feature = "archive")]
-const LINKED: &[Routine] = &Routine::EXPORTED;
-#[cfg(not(feature = "archive"))]
-const LINKED: &[Routine] = &[Routine::Serve];
 
 // In each call the pointers and lengths are those of slices that live through
 // it, and the borrow checker keeps them apart, as the calls ask.
 impl Subject for Archive {
-    fn routines(&self) -> &[Routine] {
-        LINKED
-    }
-
-    #[cfg(feature = "archive")]
     fn code(
         &self,
         pyramid: &[i32],
@@ -118,7 +105,6 @@ impl Subject for Archive {
         }
     }
 
-    #[cfg(feature = "archive")]
     fn decode(&self, record: &[u8], out: &mut [i32], work: &mut [u32], answer: &mut [u64]) -> u64 {
         unsafe {
             afs_decode(
@@ -132,24 +118,5 @@ impl Subject for Archive {
                 answer.len(),
             )
         }
-    }
-
-    #[cfg(not(feature = "archive"))]
-    fn code(
-        &self,
-        _: &[i32],
-        _: u64,
-        _: u64,
-        _: u64,
-        _: &mut [u8],
-        _: &mut [u32],
-        _: &mut [u64],
-    ) -> u64 {
-        unreachable!("only serving is linked")
-    }
-
-    #[cfg(not(feature = "archive"))]
-    fn decode(&self, _: &[u8], _: &mut [i32], _: &mut [u32], _: &mut [u64]) -> u64 {
-        unreachable!("only serving is linked")
     }
 }

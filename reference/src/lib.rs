@@ -40,7 +40,7 @@ pub mod server;
 pub mod size;
 pub mod slip;
 
-#[cfg(feature = "archive-serve")]
+#[cfg(feature = "archive")]
 pub mod archive;
 
 pub use coder::{code, CodeAnswer};

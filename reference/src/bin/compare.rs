@@ -1,15 +1,15 @@
 //! Compares the product with the reference on many seeded cases: the archive's
-//! exported calls (with the feature `archive`, or `archive-serve` for serving
-//! alone, else the reference's own portal), or what a part list program prints.
+//! exported calls (with the feature `archive`, else the reference's own portal),
+//! or what a part list program prints.
 
 use reference::compare::{run, run_partlist, Difference, Routine, Subject, Tally};
 use std::path::Path;
 use std::process::ExitCode;
 use std::time::{Duration, Instant};
 
-#[cfg(feature = "archive-serve")]
+#[cfg(feature = "archive")]
 const SUBJECT: (&str, &dyn Subject) = ("the archive", &reference::archive::Archive);
-#[cfg(not(feature = "archive-serve"))]
+#[cfg(not(feature = "archive"))]
 const SUBJECT: (&str, &dyn Subject) = ("the reference's own portal", &reference::compare::Own);
 
 const USAGE: &str = "usage: compare code|serve|decode COUNT [SEED]
@@ -37,7 +37,7 @@ fn compare(arguments: &[String]) -> Option<Result<Tally, Difference>> {
         return Some(run_partlist(program, count, seed, &mut progress(count)));
     }
     let (whose, subject) = SUBJECT;
-    let mut routines = subject.routines().iter().copied();
+    let mut routines = Routine::EXPORTED.iter().copied();
     let routine = routines.find(|routine| routine.name() == name)?;
     let (count, seed) = count_and_seed(rest)?;
     eprintln!("{name} of {whose}, {count} cases, seed {seed}");

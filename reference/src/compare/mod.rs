@@ -27,11 +27,6 @@ pub use tally::{Difference, Tally};
 
 /// What is compared with the library.
 pub trait Subject {
-    /// The routines that it has; no other is called.
-    fn routines(&self) -> &[Routine] {
-        &Routine::EXPORTED
-    }
-
     #[allow(clippy::too_many_arguments)]
     fn code(
         &self,
