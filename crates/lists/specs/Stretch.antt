@@ -177,6 +177,10 @@ pub sets-fit : (n x : ℕ) → 4 * x ≤ 3 * n → x ≤ setRoom n
 unfolding setRoom
 sets-fit n x h = omega arith
 
+pub sets-few : (n x : ℕ) → x ≤ setRoom n → x ≤ n
+unfolding setRoom
+sets-few n x h = omega arith
+
 pub todo-length : (n : ℕ) (s : List ℕ) (f : Fill) → Fits n s f → length (held n s f .todo) ≡ f .left
 unfolding held sets lisFrom setRoom
 todo-length n s f h =

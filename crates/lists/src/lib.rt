@@ -3,7 +3,7 @@ ghost use mathlib.Core.Path.{_≡_};
 ghost use mathlib.Core.List.{[], _∷_, _++_};
 ghost use Prim.Native.Nat.{_+_, _*_, _^_, _≤_, _<_};
 ghost use lib.ListN.{length};
-ghost use Rattle.lists.specs.Stretch.{setRoom, lspFrom, lisFrom, movedFrom, entry, entryOf, indexOf, waiting, known, held, past};
+ghost use Rattle.lists.specs.Stretch.{setRoom, lspFrom, lisFrom, movedFrom, entry, entryOf, indexOf, waiting, known, held, past, emptied};
 ghost use Rattle.lists.specs.Stretch.{Fits, LipPushed, LspPushed, NextSet, SetAdded, SetKept, SetMoved, CopiedOn, HandedOn};
 
 // How full the lists are, in the midst of a pass: of LIS so many sets were kept, so many visited, so many are left to visit.
@@ -79,6 +79,15 @@ pub fn lsp_at(s: &[u32], n: usize, i: usize) -> usize
 {
     let at = lsp_from(n) + i;
     s[at] as usize
+}
+
+// LIP counts as empty: its entries are read from its front while those that stay are put back there.
+pub fn empty_lip(f: Fill) -> Fill
+    ensures { λ r. ⌜ r ≡ emptied f ⌝ }
+{
+    let mut r = f;
+    r.lip = 0;
+    r
 }
 
 // A coefficient to the end of LIP.

@@ -16,11 +16,12 @@ use Rattle.rules.specs.Laws.PassKept.{kept-triedAll, kept-visitedAll}
 use Rattle.rules.specs.Laws.PassSteps.{triedAll, visitedAll, visitedAll-none, sharpenedAll, begun, passed-steps, sharpened-lists}
 use Rattle.rules.specs.Laws.Slots.{Room, room-tests, room-held, room-slots}
 use Rattle.lists.specs.declared.Fill.{Fill}
-use Rattle.lists.specs.Stretch.{waiting, known, held, Fits, sets-fit, todo-length, todo-none, held-fresh, held-waiting, held-known, waiting-length}
+use Rattle.lists.specs.Stretch.{waiting, known, held, emptied, Fits, sets-fit, todo-length, todo-none, held-fresh, held-waiting, held-known, waiting-length}
 use Rattle.passes.specs.declared.Run.{Run}
 use Rattle.passes.specs.declared.Stand.{Stand}
+use Rattle.passes.specs.declared.Candidates.the-variants.{Waiting}
 use Rattle.passes.specs.Exchange.{Chan, chan, familyOf, side}
-use Rattle.passes.specs.Steps.{courseOf, course, visitsOf, listsOf, Tested, Proper, Underway, Visited, Growth, Fresh, Ran}
+use Rattle.passes.specs.Steps.{courseOf, course, visitsOf, listsOf, Testing, Tested, Proper, Underway, Visited, Growth, Fresh, Ran}
 use Rattle.passes.proofs.Refining.{growth-kept}
 
 module _ (run : Run) {s : List ℕ} {d : List ℤ} {w : Stand} (H : Fresh run s d w) where
@@ -52,6 +53,24 @@ module _ (run : Run) {s : List ℕ} {d : List ℤ} {w : Stand} (H : Fresh run s 
 
   first-todo : held (run .n) s (first .fill) .todo ≡ held (run .n) s (w .fill) .todo
   first-todo = ap (λ h. h .todo) (held-fresh (run .n) s (w .fill) (H .kept) (H .moved))
+
+  -- what the code has made of the fill
+  module _ {f : Fill} (e : f ≡ emptied (w .fill)) where
+    pub lip-testing : Testing run Waiting (w .fill .lip) s (record { fill = f; at = w .at })
+    lip-testing =
+        subst (λ x. Testing run Waiting (w .fill .lip) s (record { fill = x; at = w .at })) (sym e)
+        (record {
+          plane = H .proper .plane;
+          fits = first-fits;
+          room = omega (arith, both-fit);
+          place = omega (arith, both-fit, H .place, H .proper .from, H .fits .lip);
+          suited = omega arith;
+        })
+
+    pub lip-tested : {C : Side Chan} {ps out s₁ out₁ : List ℕ} {d₁ : List ℤ} {w₁ : Stand}
+        → Tested C ps (run .n) s out d (record { fill = f; at = w .at }) s₁ out₁ d₁ w₁ → Tested C ps (run .n) s out d first s₁ out₁ d₁ w₁
+    lip-tested {C} {ps} {out} {s₁} {out₁} {d₁} {w₁} T =
+        subst (λ x. Tested C ps (run .n) s out d (record { fill = x; at = w .at }) s₁ out₁ d₁ w₁) e T
 
   -- after step 1
   module _ {C : Side Chan} {out s₁ out₁ : List ℕ} {d₁ : List ℤ} {w₁ : Stand}

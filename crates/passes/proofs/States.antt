@@ -16,7 +16,7 @@ use Rattle.rules.specs.Document.Pyramid.{levels}
 use Rattle.rules.specs.Document.Calls.{workFor}
 use Rattle.rules.specs.Document.Passes.{Entry, Lists, State}
 use Rattle.rules.specs.Laws.Sizes.{Legal, legal, area-bound, levelSize}
-use Rattle.lists.specs.Stretch.{setRoom, listsIn, sets-none}
+use Rattle.lists.specs.Stretch.{setRoom, sets-few, listsIn, sets-none}
 use Rattle.passes.specs.declared.Counts.{Counts}
 use Rattle.passes.specs.Standing.{stretchOf, countAt, withLists, withSets, nothing, listsAt, stateOf}
 use Rattle.passes.proofs.Workspace.{from-fits}
@@ -86,12 +86,11 @@ module _ (z : Size) (k : Level) {work : List ℕ} {counts : Counts} {moved : ℕ
     next-few = (omega arith, omega (arith, H .level, legal z (H .legal) .few))
 
     pub next-more : (1 ≤ next .0) × (next .0 ≤ 6) × (countAt (counts .lis) (next .0) + moved < 2 ^ 32)
-    unfolding setRoom
     next-more =
         let Z : Legal z = legal z (H .legal) in
         let b : next .0 ≤ levels z = omega (arith, H .level) in
         let g : 4 * levelSize z (next .0) ≤ workFor z = omega (arith, from-fits z (H .legal) (next .0) (next-few .0) b _ refl .0) in
-        (next-few .0, next-few .1, omega (arith, rw (← e) at (H .lis (omega arith)), g, area-bound z (H .legal)))
+        (next-few .0, next-few .1, omega (arith, sets-few (levelSize z (next .0)) _ (rw (← e) at (H .lis (omega arith))), g, area-bound z (H .legal)))
 
     pub handing-over : (there : ℕ) → there ≡ countAt (counts .lis) (next .0) → HandingOver z k next work moved there
     handing-over there i =

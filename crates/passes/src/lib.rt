@@ -479,8 +479,7 @@ fn run_pass(
     let waiting = w.fill.lip;
     let known = w.fill.lsp;
     let at = w.at;
-    let mut fill = w.fill;
-    fill.lip = 0;
+    let fill = lists::empty_lip(w.fill);
     let tested = test_each(
         run,
         pyramid,
