@@ -102,14 +102,39 @@ thirty =
     ∷ 0x00 ∷ 0x02 ∷ 0x05 ∷ 0xC0
     ∷ 0x00 ∷ 0x01 ∷ 0x0B ∷ 0x0C ∷ 0x20 ∷ []
 
--- the example's record without one of its parts
-unfoldable pub unlessNamed : PartName → CodedPart → List ℕ
-unfolding sameName
-unlessNamed lost p = cond (sameName lost (p .name)) [] (partBytes p)
+-- What is left of it where a request or a link leaves some of its parts out, each written out.
+unfoldable pub servedAtTwo : List ℕ
+servedAtTwo =
+    0x01 ∷ 0x04 ∷ 0x04 ∷ 0x01 ∷ 0x03
+    ∷ 0x02 ∷ 0x02 ∷ 0x05 ∷ 0x80
+    ∷ 0x01 ∷ 0x02 ∷ 0x05 ∷ 0x40
+    ∷ 0x00 ∷ 0x02 ∷ 0x05 ∷ 0xC0 ∷ []
 
-unfoldable pub without : ℕ → ℕ → List ℕ
-unfolding unlessNamed four example
-without n k = headerBytes four (planesIn example) ++ flat (unlessNamed (record { plane = n; level = k })) (partsOf four example)
+unfoldable pub servedToPlaneOne : List ℕ
+servedToPlaneOne =
+    0x01 ∷ 0x04 ∷ 0x04 ∷ 0x01 ∷ 0x03
+    ∷ 0x02 ∷ 0x02 ∷ 0x05 ∷ 0x80
+    ∷ 0x02 ∷ 0x01 ∷ 0x03 ∷ 0x00
+    ∷ 0x01 ∷ 0x02 ∷ 0x05 ∷ 0x40
+    ∷ 0x01 ∷ 0x01 ∷ 0x08 ∷ 0x8C ∷ []
+
+unfoldable pub without12 : List ℕ
+without12 =
+    0x01 ∷ 0x04 ∷ 0x04 ∷ 0x01 ∷ 0x03
+    ∷ 0x02 ∷ 0x02 ∷ 0x05 ∷ 0x80
+    ∷ 0x02 ∷ 0x01 ∷ 0x03 ∷ 0x00
+    ∷ 0x01 ∷ 0x01 ∷ 0x08 ∷ 0x8C
+    ∷ 0x00 ∷ 0x02 ∷ 0x05 ∷ 0xC0
+    ∷ 0x00 ∷ 0x01 ∷ 0x0B ∷ 0x0C ∷ 0x20 ∷ []
+
+unfoldable pub without11 : List ℕ
+without11 =
+    0x01 ∷ 0x04 ∷ 0x04 ∷ 0x01 ∷ 0x03
+    ∷ 0x02 ∷ 0x02 ∷ 0x05 ∷ 0x80
+    ∷ 0x02 ∷ 0x01 ∷ 0x03 ∷ 0x00
+    ∷ 0x01 ∷ 0x02 ∷ 0x05 ∷ 0x40
+    ∷ 0x00 ∷ 0x02 ∷ 0x05 ∷ 0xC0
+    ∷ 0x00 ∷ 0x01 ∷ 0x0B ∷ 0x0C ∷ 0x20 ∷ []
 
 -- what was decoded: the pyramid, the tail, the reached planes of levels 1 and 2
 unfoldable pub shown : List ℤ → ℕ → ℕ → ℕ → Result Picture
@@ -125,7 +150,7 @@ bytesIn (refused r) = []
 bytesIn (accepted x) = x .bytes
 
 unfoldable pub opensExample : Unit {0}
-unfolding four eight rowsOf example thirty unlessNamed without shown bytesIn
+unfolding four eight rowsOf example thirty servedAtTwo servedToPlaneOne without12 without11 shown bytesIn
 opensExample = tt
 
 -- What a row may speak of.
@@ -150,7 +175,7 @@ abbrev pub decodes : List ℕ → Shown
 decodes s = picture (length s) (decoding s 16 64)
 
 abbrev pub serves : ℕ → ℕ → Shown
-serves r p = decodes (bytesIn (serving thirty r p 30))
+serves r p = bytes (bytesIn (serving thirty r p 30))
 
 unfoldable pub table : List Row
 table =
@@ -166,13 +191,15 @@ table =
     ∷ (decodes thirty is picture 30 (shown example 0 0 0))
     ∷ (codes (coding (rowsOf (pos 0) (pos 0) (pos 0) (pos 0) (pos 0) (pos 0)) four 5 64) is codes (accepted (0x01 ∷ 0x04 ∷ 0x04 ∷ 0x01 ∷ 0x00 ∷ [])))
     -- P8 served for r = 2, p = 0: 17 bytes; decoded, the LL band is right and all else 0.
-    ∷ (serves 2 0 is picture 17 (shown (rowsOf (pos 4) (negsuc 0) (pos 2) (pos 0) (pos 0) (pos 0)) 0 3 0))
+    ∷ (serves 2 0 is bytes servedAtTwo)
+    ∷ (decodes servedAtTwo is picture 17 (shown (rowsOf (pos 4) (negsuc 0) (pos 2) (pos 0) (pos 0) (pos 0)) 0 3 0))
     -- P9 served for r = 1, p = 1: 21 bytes; decoded 4 0 / 2 0 in the LL band, -2 at (1,3), else 0.
-    ∷ (serves 1 1 is picture 21 (shown (rowsOf (pos 4) (pos 0) (pos 2) (pos 0) (negsuc 1) (pos 0)) 0 1 1))
+    ∷ (serves 1 1 is bytes servedToPlaneOne)
+    ∷ (decodes servedToPlaneOne is picture 21 (shown (rowsOf (pos 4) (pos 0) (pos 2) (pos 0) (negsuc 1) (pos 0)) 0 1 1))
     -- P10 part (1,2) lost: 4 at (0,0), else 0; reached 2 at both levels.
-    ∷ (decodes (without 1 2) is picture 26 (shown (rowsOf (pos 4) (pos 0) (pos 0) (pos 0) (pos 0) (pos 0)) 0 2 2))
+    ∷ (decodes without12 is picture 26 (shown (rowsOf (pos 4) (pos 0) (pos 0) (pos 0) (pos 0) (pos 0)) 0 2 2))
     -- P11 part (1,1) lost: LL band exact, reached 0; level 1 all 0, reached 2.
-    ∷ (decodes (without 1 1) is picture 26 (shown (rowsOf (pos 4) (negsuc 0) (pos 2) (pos 0) (pos 0) (pos 0)) 0 2 0))
+    ∷ (decodes without11 is picture 26 (shown (rowsOf (pos 4) (negsuc 0) (pos 2) (pos 0) (pos 0) (pos 0)) 0 2 0))
     -- P12 in 8 x 8, N = 2: (0,1) has the block at (0,2), (1,2) the block at (2,4).
     ∷ (places (offspringOf eight (0 * 8 + 1)) is places (block eight 0 2))
     ∷ (places (offspringOf eight (1 * 8 + 2)) is places (block eight 2 4))
