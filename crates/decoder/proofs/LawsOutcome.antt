@@ -20,7 +20,8 @@ use Rattle.rules.specs.Document.Calls.{Progress, going, unfit, used, onward}
 use Rattle.rules.specs.Laws.Tests.{clash}
 use Rattle.rules.specs.Laws.OneWalk.{usableNow}
 use Rattle.passes.specs.Standing.{Agree, agree-same}
-use Rattle.decoder.specs.Walking.{reachedAt, Outcome, fitting, gone, usedOn, metOn, Taken}
+use Rattle.reached.specs.Planes.{reachedAt}
+use Rattle.decoder.specs.Walking.{Outcome, fitting, gone, usedOn, metOn, Taken}
 
 -- What was taken by the lists of the workspace was taken by the definition's, which are the same.
 pub taken-alike : (bytes : List ℕ) (z : Size) (p : Part) (reached : List Plane) (s t : State) (v : List ℤ) → Agree z s t

@@ -29,7 +29,8 @@ use Rattle.rules.specs.Laws.Reading.{PartStands, readPart-stands}
 use Rattle.rules.specs.Laws.OneWalk.{usableNow}
 use Rattle.record.specs.Named.{named}
 use Rattle.passes.specs.Standing.{stateOf, Agree, Small, Decoded}
-use Rattle.decoder.specs.Walking.{reachedAt, fitting, gone, usedOn, metOn, decodedPart, metPart, Past, Taking, Taken, Standing, Turned}
+use Rattle.reached.specs.Planes.{reachedAt}
+use Rattle.decoder.specs.Walking.{fitting, gone, usedOn, metOn, decodedPart, metPart, Past, Taking, Taken, Standing, Turned}
 
 -- a usable part, decoded
 module _ (s : List ℕ) (z : Size) (p : Part) (w : Walk) (out : List ℤ) (work : List ℕ) (body : List ℕ) (b : body ≡ bodyOf s p)

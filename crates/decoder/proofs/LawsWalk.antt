@@ -32,8 +32,8 @@ use Rattle.rules.specs.Laws.Walk.{partsFrom, readParts-from, partsFrom-part, pa
 use Rattle.rules.specs.Laws.StateRecord.{SoundLists, SoundProgress, start-sound, onward-sound}
 use Rattle.record.specs.Named.{named}
 use Rattle.passes.specs.Standing.{stateOf, Agree, agree-same, Small}
-use Rattle.decoder.specs.Walking.{reachedAt, Outcome, gone, usedOn, metOn, metPart, Taken, Standing, Turned, Begun, Lent}
-use Rattle.decoder.proofs.LawsReached.{usableNow-same, size-levels, six-planes, reachedAt-planes, reachedPlanes-used, reachedPlanes-over}
+use Rattle.decoder.specs.Walking.{Outcome, gone, usedOn, metOn, metPart, Taken, Standing, Turned, Begun, Lent}
+use Rattle.reached.specs.Planes.{reachedAt, usableNow-same, size-levels, six-planes, reachedAt-planes, reachedPlanes-used, reachedPlanes-over}
 use Rattle.decoder.proofs.LawsPart.{small-more}
 use Rattle.decoder.proofs.LawsOutcome.{taken-alike, met-part, met-refused, met-no-tail}
 

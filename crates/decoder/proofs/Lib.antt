@@ -1,4 +1,3 @@
-pub mod LawsReached
 pub mod LawsAnswer
 pub mod LawsPart
 pub mod LawsOutcome

@@ -25,14 +25,11 @@ use Rattle.rules.specs.Document.Notation.{zeros}
 use Rattle.rules.specs.Document.Pyramid.{legalSize, area, mostPlanes, family}
 use Rattle.rules.specs.Document.Passes.{State, Course, Reader, start, after, decoded}
 use Rattle.rules.specs.Document.Layout.{bytesFor, bitAt, bodyOf, nameOf}
-use Rattle.rules.specs.Document.Calls.{workFor, levelPlaces, Result, Picture, planeIn, reachedPlanes, decodeOut, decodeAnswer}
+use Rattle.rules.specs.Document.Calls.{workFor, levelPlaces, Result, Picture, reachedPlanes, decodeOut, decodeAnswer}
 use Rattle.rules.specs.Laws.OneWalk.{usableNow}
 use Rattle.rules.specs.Laws.StateRecord.{SoundLists}
+use Rattle.reached.specs.Planes.{reachedAt}
 use Rattle.passes.specs.Standing.{stateOf, Agree, Small, Decoding}
-
--- the plane that level k reached, of planes that stand level 1 first
-abbrev pub reachedAt : List Plane → ℕ → ℕ
-reachedAt reached k = planeIn reached (k - 1)
 
 -- What becomes of a whole part: what is found, and the lists, the pyramid and the planes reached after it.
 pub record Outcome : Type 0 where

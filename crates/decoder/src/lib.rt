@@ -1,15 +1,8 @@
 // Decoding: from any bytes to a pyramid or a refusal, in one walk over the parts of the record, with exactly those that are usable.
-ghost use mathlib.Core.Path.{_≡_};
-ghost use mathlib.Core.Bool.{true};
-ghost use mathlib.Core.List.{[]};
-ghost use Prim.Native.Nat.{_-_, _≤_, _<_};
-ghost use lib.ListN.{length, set};
-ghost use Rattle.rules.specs.Document.Pyramid.{legalSize, mostPlanes};
 ghost use Rattle.rules.specs.Document.Numbers.{readParts, readPart};
-ghost use Rattle.rules.specs.Document.Calls.{Decoding, levelPlaces, reachedPlane, reachedPlanes, decodedParts};
-ghost use Rattle.rules.specs.Laws.OneWalk.{usableNow};
-ghost use Rattle.record.specs.Named.{named, nameBy};
-ghost use Rattle.decoder.specs.Walking.{reachedAt, Lent, Answered, Refusing, Accepting, Opening, Begun, Past, Taking, Taken, decodedPart, metPart, Standing, Turned};
+ghost use Rattle.rules.specs.Document.Calls.{Decoding, decodedParts};
+ghost use Rattle.record.specs.Named.{named};
+ghost use Rattle.decoder.specs.Walking.{Lent, Answered, Refusing, Accepting, Opening, Begun, Past, Taking, Taken, decodedPart, metPart, Standing, Turned};
 use passes::Counts;
 use record::Name;
 use rules::Decoded;
@@ -22,8 +15,6 @@ use rules::Plane;
 use rules::Refusal;
 use rules::Size;
 use rules::Verdict;
-
-const LEVEL_PLACES: usize = 6;
 
 // Where the walk stands between two parts: the part before, the place of the next one, the plane that each level reached, level 1 first,
 // and how full the lists are.
@@ -46,71 +37,6 @@ pub struct Turn {
     pub walk: Walk,
 }
 
-// The plane that a level reached. Above the sixth level there is nothing to reach.
-fn reached_plane(reached: [Plane; 6], level: Level) -> Plane
-    requires { ⌜ (1 ≤ level .0) × (length reached ≡ levelPlaces) ⌝ }
-    ensures { λ r. ⌜ r .0 ≡ reachedAt reached (level .0) ⌝ }
-{
-    let at = level.0 - 1;
-    if at < LEVEL_PLACES {
-        reached[at]
-    } else {
-        Plane(0)
-    }
-}
-
-// Whether a part is usable, by what was reached before it: its level the plane above, the next coarser level its plane.
-fn is_usable(reached: [Plane; 6], plane: Plane, level: Level) -> bool
-    requires { ⌜ (plane .0 < mostPlanes) × (1 ≤ level .0) × (level .0 ≤ levelPlaces) × (length reached ≡ levelPlaces) ⌝ }
-    ensures { λ r. ⌜ r ≡ usableNow (reachedAt reached) (nameBy plane level) ⌝ }
-{
-    let own = reached_plane(reached, level);
-    let coarser = reached_plane(reached, Level(level.0 + 1));
-    if own.0 == plane.0 + 1 {
-        return coarser.0 <= plane.0;
-    }
-    false
-}
-
-// A level has reached a plane.
-fn with_reached(reached: [Plane; 6], plane: Plane, level: Level) -> [Plane; 6]
-    requires { ⌜ (1 ≤ level .0) × (level .0 ≤ levelPlaces) ⌝ }
-    ensures { λ r. ⌜ r ≡ set reached (level .0 - 1) plane ⌝ }
-{
-    let at = level.0 - 1;
-    let mut next = reached;
-    next[at] = plane;
-    next
-}
-
-// What a level reaches without any part: no plane, or nothing where there is no such level.
-fn unreached(h: Header, level: Level) -> Plane
-    requires { ⌜ (legalSize (h .size) ≡ true) × (1 ≤ level .0) ⌝ }
-    ensures { λ r. ⌜ r ≡ reachedPlane h [] (level .0) ⌝ }
-{
-    let size = h.size;
-    if level.0 <= size.n + 1 {
-        Plane(h.planes)
-    } else {
-        Plane(0)
-    }
-}
-
-// What the six levels reach without any part.
-fn none_reached(h: Header) -> [Plane; 6]
-    requires { ⌜ legalSize (h .size) ≡ true ⌝ }
-    ensures { λ r. ⌜ r ≡ reachedPlanes h [] ⌝ }
-{
-    [
-        unreached(h, Level(1)),
-        unreached(h, Level(2)),
-        unreached(h, Level(3)),
-        unreached(h, Level(4)),
-        unreached(h, Level(5)),
-        unreached(h, Level(6)),
-    ]
-}
-
 // Before the first part: every coefficient is 0.
 fn first_walk(h: Header, pyramid: &mut [i32], work: &mut [u32]) -> Walk
     requires { ⌜ Opening h (now work) ⌝ }
@@ -124,7 +50,7 @@ fn first_walk(h: Header, pyramid: &mut [i32], work: &mut [u32]) -> Walk
             level: Level(0),
         },
         place: h.end,
-        reached: none_reached(h),
+        reached: reached::none_reached(h),
         counts,
     }
 }
@@ -165,7 +91,7 @@ fn decode_usable(
     let passed = passes::decode_part(body, z, plane, level, work, counts, out);
     let asked = passed.at;
     let filled = passed.counts;
-    let next = walk_past(p, with_reached(reached, plane, level), filled);
+    let next = walk_past(p, reached::with_reached(reached, plane, level), filled);
     if asked.at == p.bits {
         return Turn {
             found: Found::Part,
@@ -187,7 +113,7 @@ fn take_part(bytes: &[u8], z: Size, p: Part, walk: Walk, out: &mut [i32], work: 
 {
     let reached = walk.reached;
     let counts = walk.counts;
-    if is_usable(reached, p.plane, p.level) {
+    if reached::is_usable(reached, p.plane, p.level) {
         return decode_usable(bytes, z, p, walk, out, work);
     }
     Turn {

@@ -1,6 +1,6 @@
 use native.Mathlib.Omega.{arith}
 use Rattle.decoder.proofs.LawsPart.{part-fits, part-unfit}
-use Rattle.decoder.proofs.LawsReached.{size-levels}
+use Rattle.reached.specs.Planes.{size-levels}
 use borrow.Author.Needs.{needs}
 use Rattle.decoder.proofs.decode_usable.Statement.{statement}
 use Rattle.decoder.proofs.decode_usable.Tie as tie

@@ -1,7 +1,7 @@
 use native.Mathlib.Omega.{arith}
 use Rattle.rules.specs.Document.Layout.{nameOf}
 use Rattle.decoder.proofs.LawsPart.{part-decoded, part-over}
-use Rattle.decoder.proofs.LawsReached.{size-levels}
+use Rattle.reached.specs.Planes.{size-levels}
 use borrow.Author.Needs.{needs}
 use Rattle.decoder.proofs.take_part.Statement.{statement}
 use Rattle.decoder.proofs.take_part.Tie as tie

@@ -1,7 +1,7 @@
 use native.Mathlib.Omega.{arith}
-use Rattle.decoder.proofs.LawsReached.{size-levels, unreached-level, unreached-beyond}
-use Rattle.decoder.proofs.unreached.Statement.{statement}
-use Rattle.decoder.proofs.unreached.Tie as tie
+use Rattle.reached.specs.Planes.{size-levels, unreached-level, unreached-beyond}
+use Rattle.reached.proofs.unreached.Statement.{statement}
+use Rattle.reached.proofs.unreached.Tie as tie
 
 add-if1 : tie.Need-add-if1
 add-if1 c = record { fits = omega (arith, size-levels _ (c .before .before .pre .0)) }

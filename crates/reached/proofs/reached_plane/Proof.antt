@@ -1,10 +1,10 @@
 use mathlib.Core.Path.{refl}
 use native.Mathlib.Omega.{arith}
 use Rattle.rules.specs.Document.Calls.{planeIn}
-use Rattle.decoder.proofs.LawsReached.{reachedAt-beyond}
+use Rattle.reached.specs.Planes.{reachedAt-beyond}
 use borrow.Author.Needs.{needs}
-use Rattle.decoder.proofs.reached_plane.Statement.{statement}
-use Rattle.decoder.proofs.reached_plane.Tie as tie
+use Rattle.reached.proofs.reached_plane.Statement.{statement}
+use Rattle.reached.proofs.reached_plane.Tie as tie
 
 sub-at : tie.Need-sub-at
 sub-at c = search needs

@@ -1,7 +1,7 @@
-use Rattle.decoder.proofs.LawsReached.{six-unreached}
+use Rattle.reached.specs.Planes.{six-unreached}
 use borrow.Author.Needs.{needs}
-use Rattle.decoder.proofs.none_reached.Statement.{statement}
-use Rattle.decoder.proofs.none_reached.Tie as tie
+use Rattle.reached.proofs.none_reached.Statement.{statement}
+use Rattle.reached.proofs.none_reached.Tie as tie
 
 unreached-requires : tie.Need-unreached-requires
 unreached-requires c κs = search needs

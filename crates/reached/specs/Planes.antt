@@ -18,7 +18,10 @@ use Rattle.rules.specs.Document.Calls.{levelPlaces, planeIn, reachedPlane, reac
 use Rattle.rules.specs.Laws.Sizes.{legal}
 use Rattle.rules.specs.Laws.Usable.{reached-none, reached-beyond}
 use Rattle.rules.specs.Laws.OneWalk.{usableNow, reachedNow}
-use Rattle.decoder.specs.Walking.{reachedAt}
+
+-- the plane that level k reached, of planes that stand level 1 first
+abbrev pub reachedAt : List Plane → ℕ → ℕ
+reachedAt reached k = planeIn reached (k - 1)
 
 -- Beyond the sixth place there is nothing.
 pub reachedAt-beyond : (planes : List Plane) (k : ℕ) → length planes ≡ levelPlaces → levelPlaces ≤ k - 1 → 0 ≡ reachedAt planes k

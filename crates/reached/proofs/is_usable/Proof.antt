@@ -1,9 +1,9 @@
-use Rattle.decoder.proofs.LawsReached.{test-plane-above, test-other-plane}
+use Rattle.reached.specs.Planes.{test-plane-above, test-other-plane}
 use Rattle.record.specs.Named.{nameBy}
-use Rattle.decoder.specs.Walking.{reachedAt}
+use Rattle.reached.specs.Planes.{reachedAt}
 use borrow.Author.Needs.{needs}
-use Rattle.decoder.proofs.is_usable.Statement.{statement}
-use Rattle.decoder.proofs.is_usable.Tie as tie
+use Rattle.reached.proofs.is_usable.Statement.{statement}
+use Rattle.reached.proofs.is_usable.Tie as tie
 
 reached-plane-requires : tie.Need-reached-plane-requires
 reached-plane-requires c κs = search needs

@@ -1,0 +1,81 @@
+// The plane that each of six levels reached, level 1 first, and what it says of the next part: whether it is usable.
+ghost use mathlib.Core.Path.{_≡_};
+ghost use mathlib.Core.Bool.{true};
+ghost use mathlib.Core.List.{[]};
+ghost use Prim.Native.Nat.{_-_, _≤_, _<_};
+ghost use lib.ListN.{length, set};
+ghost use Rattle.rules.specs.Document.Pyramid.{legalSize, mostPlanes};
+ghost use Rattle.rules.specs.Document.Calls.{levelPlaces, reachedPlane, reachedPlanes};
+ghost use Rattle.rules.specs.Laws.OneWalk.{usableNow};
+ghost use Rattle.record.specs.Named.{nameBy};
+ghost use Rattle.reached.specs.Planes.{reachedAt};
+use rules::Header;
+use rules::Level;
+use rules::Plane;
+
+const LEVEL_PLACES: usize = 6;
+
+// The plane that a level reached. Above the sixth level there is nothing to reach.
+fn reached_plane(reached: [Plane; 6], level: Level) -> Plane
+    requires { ⌜ (1 ≤ level .0) × (length reached ≡ levelPlaces) ⌝ }
+    ensures { λ r. ⌜ r .0 ≡ reachedAt reached (level .0) ⌝ }
+{
+    let at = level.0 - 1;
+    if at < LEVEL_PLACES {
+        reached[at]
+    } else {
+        Plane(0)
+    }
+}
+
+// Whether a part is usable, by what was reached before it: its level the plane above, the next coarser level its plane.
+pub fn is_usable(reached: [Plane; 6], plane: Plane, level: Level) -> bool
+    requires { ⌜ (plane .0 < mostPlanes) × (1 ≤ level .0) × (level .0 ≤ levelPlaces) × (length reached ≡ levelPlaces) ⌝ }
+    ensures { λ r. ⌜ r ≡ usableNow (reachedAt reached) (nameBy plane level) ⌝ }
+{
+    let own = reached_plane(reached, level);
+    let coarser = reached_plane(reached, Level(level.0 + 1));
+    if own.0 == plane.0 + 1 {
+        return coarser.0 <= plane.0;
+    }
+    false
+}
+
+// A level has reached a plane.
+pub fn with_reached(reached: [Plane; 6], plane: Plane, level: Level) -> [Plane; 6]
+    requires { ⌜ (1 ≤ level .0) × (level .0 ≤ levelPlaces) ⌝ }
+    ensures { λ r. ⌜ r ≡ set reached (level .0 - 1) plane ⌝ }
+{
+    let at = level.0 - 1;
+    let mut next = reached;
+    next[at] = plane;
+    next
+}
+
+// What a level reaches without any part: no plane, or nothing where there is no such level.
+fn unreached(h: Header, level: Level) -> Plane
+    requires { ⌜ (legalSize (h .size) ≡ true) × (1 ≤ level .0) ⌝ }
+    ensures { λ r. ⌜ r ≡ reachedPlane h [] (level .0) ⌝ }
+{
+    let size = h.size;
+    if level.0 <= size.n + 1 {
+        Plane(h.planes)
+    } else {
+        Plane(0)
+    }
+}
+
+// What the six levels reach without any part.
+pub fn none_reached(h: Header) -> [Plane; 6]
+    requires { ⌜ legalSize (h .size) ≡ true ⌝ }
+    ensures { λ r. ⌜ r ≡ reachedPlanes h [] ⌝ }
+{
+    [
+        unreached(h, Level(1)),
+        unreached(h, Level(2)),
+        unreached(h, Level(3)),
+        unreached(h, Level(4)),
+        unreached(h, Level(5)),
+        unreached(h, Level(6)),
+    ]
+}
