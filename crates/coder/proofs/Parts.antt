@@ -11,7 +11,7 @@ use Rattle.rules.specs.declared.Size.{Size}
 use Rattle.rules.specs.declared.Plane.{Plane}
 use Rattle.rules.specs.declared.Level.{Level}
 use Rattle.bits.specs.declared.BitPosition.{BitPosition}
-use Rattle.passes.specs.declared.Passed.{Passed}
+use Rattle.parts.specs.declared.Passed.{Passed}
 use Rattle.rules.specs.Document.Pyramid.{legalSize, levels}
 use Rattle.rules.specs.Document.Passes.{State}
 use Rattle.rules.specs.Document.Layout.{packed, bytesFor}
@@ -21,7 +21,7 @@ use Rattle.rules.specs.Laws.Sizes.{area-bound}
 use Rattle.rules.specs.Laws.ReadBackBody.{packed-length}
 use Rattle.bits.specs.Written.{writeBits-packed}
 use Rattle.bits.specs.Bits.{writeBits}
-use Rattle.passes.specs.Standing.{named, stateOf, agree-same, Coding, Coded, courseC}
+use Rattle.parts.specs.Standing.{named, stateOf, agree-same, Coding, Coded, courseC}
 use Rattle.coder.specs.declared.Progress.{Progress}
 use Rattle.coder.specs.Writing.{shortHead, headOf, madeWay, HeadFits, Headed, Stage, stageOf, bytesOf, onward, Due, Reached}
 use Rattle.coder.proofs.Heads.{headed-whole}

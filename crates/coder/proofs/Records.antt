@@ -7,7 +7,7 @@ use lib.ListN.{length, getD, length-append}
 use lib.IntN.{ℤ, natAbs}
 use lib.Seq.{sets}
 use Rattle.rules.specs.declared.Size.{Size}
-use Rattle.passes.specs.declared.Counts.{Counts}
+use Rattle.parts.specs.declared.Counts.{Counts}
 use Rattle.rules.specs.Document.Notation.{flat, greatest, zeros}
 use Rattle.rules.specs.Document.Pyramid.{levels, mostPlanes, planesOf}
 use Rattle.rules.specs.Document.Passes.{start, PartName, partNames}
@@ -16,7 +16,7 @@ use Rattle.rules.specs.Laws.Sizes.{legal}
 use Rattle.rules.specs.Laws.Planes.{planesOf-most, range-greatest}
 use Rattle.rules.specs.Laws.StateRecord.{SoundLists, start-sound}
 use Rattle.memory.specs.Stores.{sets-append, getD-sets-behind}
-use Rattle.passes.specs.Standing.{Started, agree-same}
+use Rattle.parts.specs.Standing.{Started, agree-same}
 use Rattle.coder.specs.declared.Progress.{Progress}
 use Rattle.coder.specs.Writing.{Given, Wrote, Stage, stageOf, through, Clear, Going, Reached, headerMost, bytesOfParts, Stored}
 use Rattle.coder.proofs.Heads.{wrote-near}

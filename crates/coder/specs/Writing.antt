@@ -20,7 +20,7 @@ use Rattle.rules.specs.Document.Passes.{Course, State, after, PartName, coded}
 use Rattle.rules.specs.Document.Layout.{numberBytes, bytesFor, partBytes, codedParts}
 use Rattle.rules.specs.Document.Calls.{Result, workFor, firstOver, codeOut, codeAnswer}
 use Rattle.rules.specs.Laws.StateRecord.{SoundLists}
-use Rattle.passes.specs.Standing.{stateOf}
+use Rattle.parts.specs.Standing.{stateOf}
 use Rattle.coder.specs.declared.Progress.{Progress}
 
 -- The outcome x of a call: what is answered and what is left in the output.

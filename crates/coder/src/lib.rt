@@ -11,11 +11,11 @@ ghost use Rattle.rules.specs.Document.Pyramid.{legalSize, levels, mostPlanes, p
 ghost use Rattle.rules.specs.Document.Passes.{start, partsOfPlane, partNames};
 ghost use Rattle.rules.specs.Document.Layout.{version, recordOf};
 ghost use Rattle.rules.specs.Document.Calls.{refused, fitted, coding, Coding};
-ghost use Rattle.passes.specs.Standing.{named};
+ghost use Rattle.parts.specs.Standing.{named};
 ghost use Rattle.coder.specs.Writing.{Answered, judgedInput, Given, headerMost, Wrote, HeadFits, Headed};
 ghost use Rattle.coder.specs.Writing.{stageOf, onward, through, Clear, Going, Due, Reached, bytesOfParts, Stored};
 use bits::BitPosition;
-use passes::Counts;
+use parts::Counts;
 use rules::Coded;
 use rules::Level;
 use rules::Plane;
@@ -126,7 +126,7 @@ fn write_part(
     let place = progress.place;
     let counts = progress.counts;
     let start = 8 * (place + SHORT_HEAD);
-    let passed = passes::code_part(
+    let passed = parts::code_part(
         pyramid,
         z,
         plane,
@@ -200,7 +200,7 @@ fn write_parts(
     requires { ⌜ Given (now pyramid) z (now work) × (planes ≤ mostPlanes) × Clear (now out) place × (place ≤ headerMost) ⌝ }
     ensures { λ r. ⌜ Stored (now (out .entry)) place (bytesOfParts (now (pyramid .entry)) z (partNames (levels z) planes) (start z)) r (now (out .exit)) ⌝ }
 {
-    let counts = passes::start(z, work);
+    let counts = parts::start(z, work);
     let end = write_planes(pyramid, z, planes, out, work, Progress { counts, place });
     end.place
 }

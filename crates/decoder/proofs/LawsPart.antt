@@ -15,8 +15,8 @@ use Rattle.rules.specs.declared.Header.{Header}
 use Rattle.rules.specs.declared.Part.{Part}
 use Rattle.rules.specs.declared.PartRead.{PartRead}
 use Rattle.rules.specs.declared.PartRead.the-variants as part
-use Rattle.passes.specs.declared.Counts.{Counts}
-use Rattle.passes.specs.declared.Passed.{Passed}
+use Rattle.parts.specs.declared.Counts.{Counts}
+use Rattle.parts.specs.declared.Passed.{Passed}
 use Rattle.decoder.specs.declared.Walk.{Walk}
 use Rattle.decoder.specs.declared.Found.{Found}
 use Rattle.decoder.specs.declared.Found.the-variants as found
@@ -28,7 +28,7 @@ use Rattle.rules.specs.Document.Numbers.{readPart}
 use Rattle.rules.specs.Laws.Reading.{PartStands, readPart-stands}
 use Rattle.rules.specs.Laws.OneWalk.{usableNow}
 use Rattle.record.specs.Named.{named}
-use Rattle.passes.specs.Standing.{stateOf, Agree, Small, Decoded}
+use Rattle.parts.specs.Standing.{stateOf, Agree, Small, Decoded}
 use Rattle.reached.specs.Planes.{reachedAt}
 use Rattle.decoder.specs.Walking.{fitting, gone, usedOn, metOn, decodedPart, metPart, Past, Taking, Taken, Standing, Turned}
 

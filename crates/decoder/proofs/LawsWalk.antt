@@ -31,7 +31,7 @@ use Rattle.rules.specs.Laws.WholeParts.{WholeParts, parts-whole, usable-read, r
 use Rattle.rules.specs.Laws.Walk.{partsFrom, readParts-from, partsFrom-part, partsFrom-tail, partsFrom-fault}
 use Rattle.rules.specs.Laws.StateRecord.{SoundLists, SoundProgress, start-sound, onward-sound}
 use Rattle.record.specs.Named.{named}
-use Rattle.passes.specs.Standing.{stateOf, Agree, agree-same, Small}
+use Rattle.parts.specs.Standing.{stateOf, Agree, agree-same, Small}
 use Rattle.decoder.specs.Walking.{Outcome, gone, usedOn, metOn, metPart, Taken, Standing, Turned, Begun, Lent}
 use Rattle.reached.specs.Planes.{reachedAt, usableNow-same, size-levels, six-planes, reachedAt-planes, reachedPlanes-used, reachedPlanes-over}
 use Rattle.decoder.proofs.LawsPart.{small-more}

@@ -16,7 +16,7 @@ use Rattle.rules.specs.declared.PartRead.{PartRead}
 use Rattle.rules.specs.declared.PartRead.the-variants as part
 use Rattle.rules.specs.declared.Verdict.the-variants as verdict
 use Rattle.rules.specs.declared.Decoded.{Decoded}
-use Rattle.passes.specs.declared.Counts.{Counts}
+use Rattle.parts.specs.declared.Counts.{Counts}
 use Rattle.decoder.specs.declared.Walk.{Walk}
 use Rattle.decoder.specs.declared.Found.{Found}
 use Rattle.decoder.specs.declared.Found.the-variants as found
@@ -29,7 +29,7 @@ use Rattle.rules.specs.Document.Calls.{workFor, levelPlaces, Result, Picture, r
 use Rattle.rules.specs.Laws.OneWalk.{usableNow}
 use Rattle.rules.specs.Laws.StateRecord.{SoundLists}
 use Rattle.reached.specs.Planes.{reachedAt}
-use Rattle.passes.specs.Standing.{stateOf, Agree, Small, Decoding}
+use Rattle.parts.specs.Standing.{stateOf, Agree, Small, Decoding}
 
 -- What becomes of a whole part: what is found, and the lists, the pyramid and the planes reached after it.
 pub record Outcome : Type 0 where

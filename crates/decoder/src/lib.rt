@@ -3,7 +3,7 @@ ghost use Rattle.rules.specs.Document.Numbers.{readParts, readPart};
 ghost use Rattle.rules.specs.Document.Calls.{Decoding, decodedParts};
 ghost use Rattle.record.specs.Named.{named};
 ghost use Rattle.decoder.specs.Walking.{Lent, Answered, Refusing, Accepting, Opening, Begun, Past, Taking, Taken, decodedPart, metPart, Standing, Turned};
-use passes::Counts;
+use parts::Counts;
 use record::Name;
 use rules::Decoded;
 use rules::Header;
@@ -43,7 +43,7 @@ fn first_walk(h: Header, pyramid: &mut [i32], work: &mut [u32]) -> Walk
     ensures { λ r. ⌜ Begun h (now (pyramid .entry)) (now (work .entry)) r (now (pyramid .exit)) (now (work .exit)) ⌝ }
 {
     memory::zero_i32(pyramid);
-    let counts = passes::start(h.size, work);
+    let counts = parts::start(h.size, work);
     Walk {
         before: Name {
             plane: Plane(h.planes),
@@ -88,7 +88,7 @@ fn decode_usable(
     let reached = walk.reached;
     let counts = walk.counts;
     let body = record::body(bytes, p);
-    let passed = passes::decode_part(body, z, plane, level, work, counts, out);
+    let passed = parts::decode_part(body, z, plane, level, work, counts, out);
     let asked = passed.at;
     let filled = passed.counts;
     let next = walk_past(p, reached::with_reached(reached, plane, level), filled);

@@ -4,8 +4,3 @@ pub mod Sets
 pub mod Visits
 pub mod Refining
 pub mod Pass
-pub mod Workspace
-pub mod States
-pub mod Sides
-pub mod Parts
-pub mod Begin

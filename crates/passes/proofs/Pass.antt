@@ -22,7 +22,7 @@ use Rattle.passes.specs.declared.Stand.{Stand}
 use Rattle.passes.specs.declared.Candidates.the-variants.{Waiting}
 use Rattle.passes.specs.Exchange.{Chan, chan, familyOf, side}
 use Rattle.passes.specs.Steps.{courseOf, course, visitsOf, listsOf, Testing, Tested, Proper, Underway, Visited, Growth, Fresh, Ran}
-use Rattle.passes.proofs.Refining.{growth-kept}
+use Rattle.passes.specs.Growing.{growth-kept}
 
 module _ (run : Run) {s : List ℕ} {d : List ℤ} {w : Stand} (H : Fresh run s d w) where
   abbrev F : Family

@@ -2,7 +2,7 @@
 use mathlib.Core.Path.{_≡_, refl, sym, ap, ap₂, _∙_, subst}
 use mathlib.Core.Bool.{Bool, true, false, cond}
 use mathlib.Core.List.{List, [], _∷_, _++_, map, append-assoc, append-nil}
-use Prim.Native.Nat.{ℕ, zero, suc, _+_, _-_, _*_, _≤_, _<_, _^_}
+use Prim.Native.Nat.{ℕ, suc, _+_, _-_, _≤_, _<_, _^_}
 use native.Mathlib.Nat.{add-zero}
 use native.Mathlib.Numerals.{add-one}
 use native.Mathlib.Omega.{arith}
@@ -12,9 +12,9 @@ use lib.IntN.{ℤ}
 use borrow.Author.Tests.{lt-ltb, le-ltb, ltb-true, le-leb, lt-leb}
 use Rattle.rules.specs.declared.Size.{Size}
 use Rattle.rules.specs.Document.Notation.{greatest}
-use Rattle.rules.specs.Document.Pyramid.{Family, legalSize, area, levels, levelOf, offspringOf, magnitude, maxD, maxL}
-use Rattle.rules.specs.Document.Passes.{Entry, typeA, typeB, set?, stays, moves, members, inLevel, opened, added, Side, Course, listed, listing, done}
-use Rattle.rules.specs.Laws.Count.{All, _∈_, some-in, in-some, every-all}
+use Rattle.rules.specs.Document.Pyramid.{Family, area, levelOf, offspringOf, magnitude, maxD, maxL}
+use Rattle.rules.specs.Document.Passes.{Entry, typeA, typeB, set?, stays, members, inLevel, opened, added, Side, Course, listed, listing, done}
+use Rattle.rules.specs.Laws.Count.{All, _∈_, some-in}
 use Rattle.rules.specs.Laws.Family.{Lawful, level-some, offspring-descend, grandchild, grandchild-in}
 use Rattle.rules.specs.Laws.Sizes.{Legal, legal}
 use Rattle.rules.specs.Laws.Offspring.Level.{level-most}
@@ -23,7 +23,7 @@ use Rattle.rules.specs.Laws.Offspring.Lawful.{lawful}
 use Rattle.rules.specs.Laws.Offspring.Tests.{inLevel-A, inLevel-B, added-A}
 use Rattle.rules.specs.Laws.Maxima.{maxD-A, maxL-B}
 use Rattle.rules.specs.Laws.PassLevels.{Met, Settled, nodeOf, met-settled, settled-offspring, typeA-met}
-use Rattle.rules.specs.Laws.PassSteps.{triedAll, visitedAll, walk-moves, walk-stays, walk-opens}
+use Rattle.rules.specs.Laws.PassSteps.{triedAll, walk-stays, walk-opens}
 use Rattle.rules.specs.Laws.Slots.{Room, room-past, room-open, room-tests, room-slots, room-held}
 use Rattle.rules.specs.Laws.StateRecord.{node-area}
 use Rattle.shape.specs.Offspring.{offspringList}
@@ -33,12 +33,12 @@ use Rattle.shape.specs.Nodes.{Node}
 use Rattle.bits.specs.declared.BitPosition.{BitPosition}
 use Rattle.bits.specs.declared.BitRead.{BitRead}
 use Rattle.lists.specs.declared.Fill.{Fill}
-use Rattle.lists.specs.Stretch.{setRoom, Held, held, past, Fits, NextSet, SetAdded, SetKept, SetMoved, sets-fit, todo-length}
+use Rattle.lists.specs.Stretch.{setRoom, held, past, Fits, SetAdded, SetKept, sets-fit, todo-length}
 use Rattle.passes.specs.declared.Run.{Run}
 use Rattle.passes.specs.declared.Stand.{Stand}
-use Rattle.passes.specs.Exchange.{Chan, chan, familyOf, side, Replied}
-use Rattle.passes.specs.Steps.{courseOf, course, visitsOf, Tested, Proper, Added, Opened, Opening, hasMember, Queued, Underway, InHand, Weighed, Visited}
-use Rattle.passes.proofs.Tests.{notes, quiet-stays, quiet-moves, tested-none}
+use Rattle.passes.specs.Exchange.{Chan, chan, familyOf, Replied}
+use Rattle.passes.specs.Steps.{courseOf, course, visitsOf, Tested, Proper, Added, Opened, Opening, hasMember, Queued, InHand, Weighed}
+use Rattle.passes.proofs.Tests.{tested-none}
 
 -- Sets at the end of LIS: none, one, and more.
 pub added-none : (n : ℕ) (s : List ℕ) (f : Fill) → Fits n s f → Added [] n s f s f

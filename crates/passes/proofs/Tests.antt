@@ -1,14 +1,13 @@
 -- Step 1, and the offspring of an opened set: what the test of a coefficient makes of lists and side, and several tests in order.
 use mathlib.Core.Path.{_≡_, refl, sym, ap, ap₂, _∙_, subst}
-use mathlib.Core.Bool.{Bool, true, false, cond}
+use mathlib.Core.Bool.{true, false}
 use mathlib.Core.List.{List, [], _∷_, _++_}
 use Prim.Native.Nat.{ℕ, zero, suc, _+_, _-_, _*_, _≤_, _<_}
 use native.Mathlib.Omega.{arith}
 use lib.ListN.{length, length-append}
 use lib.IntN.{ℤ}
-use Rattle.bits.specs.declared.BitPosition.{BitPosition}
 use Rattle.bits.specs.declared.BitRead.{BitRead}
-use Rattle.rules.specs.Document.Passes.{Entry, significant?, negative?, Event, toLip, toLsp, stays, moves, Side, Course, listing, written}
+use Rattle.rules.specs.Document.Passes.{significant?, negative?, Event, toLip, toLsp, Side, listing}
 use Rattle.rules.specs.Laws.PassSteps.{signNoted, tried, triedAll, tried-insignificant, tried-significant, tried-toLip, tried-toLsp, triedAll-append}
 use Rattle.rules.specs.declared.Size.{Size}
 use Rattle.rules.specs.Document.Pyramid.{greatestSide}
@@ -16,34 +15,17 @@ use Rattle.shape.specs.declared.Offspring.the-variants.{Block}
 use Rattle.shape.specs.Offspring.{offspringList}
 use Rattle.lists.specs.declared.Fill.{Fill}
 use Rattle.lists.specs.Seg.{seg}
-use Rattle.lists.specs.Stretch.{waiting, Held, held, Fits, LipPushed, LspPushed, waiting-add, waiting-none, waiting-length}
+use Rattle.lists.specs.Stretch.{waiting, Fits, LipPushed, LspPushed, waiting-add, waiting-none, waiting-length}
 use Rattle.passes.specs.declared.Run.{Run}
 use Rattle.passes.specs.declared.Stand.{Stand}
 use Rattle.passes.specs.declared.Candidates.{Candidates}
 use Rattle.passes.specs.declared.Candidates.the-variants.{Waiting, Four}
-use Rattle.passes.specs.Exchange.{Chan, chan, noted, side, Replied}
+use Rattle.passes.specs.Exchange.{Chan, chan, noted, side, Replied, quiet-toLip}
 use Rattle.passes.specs.Steps.{courseOf, course, candidates, Choosing, Suited, Testing, Tested}
 
 one-tried : {S : Type 0} (C : Side S) (p : ℕ) (s : S) → triedAll C (p ∷ []) s ≡ tried C p s
 unfolding triedAll
 one-tried C p s = refl
-
-either : {X : Type 0} (b : Bool) (x : X) → cond b x x ≡ x
-either true x = refl
-either false x = refl
-
--- what is noted of what stays as it is: nothing
-pub quiet-toLip : (run : Run) (p : ℕ) (d : List ℤ) → noted run (toLip p) d ≡ d
-unfolding noted written
-quiet-toLip run p d = either (run .reads) d
-
-pub quiet-stays : (run : Run) (e : Entry) (d : List ℤ) → noted run (stays e) d ≡ d
-unfolding noted written
-quiet-stays run e d = either (run .reads) d
-
-pub quiet-moves : (run : Run) (e : Entry) (d : List ℤ) → noted run (moves e) d ≡ d
-unfolding noted written
-quiet-moves run e d = either (run .reads) d
 
 module _ (run : Run) (pyramid : List ℤ) (body : List ℕ) where
   pub notes : (e : Event) (out : List ℕ) (d : List ℤ) (t : ℕ) → side run pyramid body .note e (chan out d t) ≡ chan out (noted run e d) t

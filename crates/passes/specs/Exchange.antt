@@ -1,7 +1,7 @@
 -- The side of the conversation that the code is: the decoder reads a body and writes coefficients; the coder answers from coefficients and sets
 -- bits.
-use mathlib.Core.Path.{_≡_}
-use mathlib.Core.Bool.{Bool, cond}
+use mathlib.Core.Path.{_≡_, refl}
+use mathlib.Core.Bool.{Bool, true, false, cond}
 use mathlib.Core.List.{List}
 use Prim.Native.Nat.{ℕ, _+_}
 use lib.IntN.{ℤ}
@@ -9,7 +9,7 @@ use Rattle.bits.specs.declared.BitPosition.{BitPosition}
 use Rattle.bits.specs.declared.BitRead.{BitRead}
 use Rattle.bits.specs.Bits.{setBit}
 use Rattle.rules.specs.Document.Pyramid.{Family, family, magnitude, negative}
-use Rattle.rules.specs.Document.Passes.{Question, Event, Side, truth, written}
+use Rattle.rules.specs.Document.Passes.{Entry, Question, Event, toLip, stays, moves, Side, truth, written}
 use Rattle.rules.specs.Document.Layout.{bitAt}
 use Rattle.passes.specs.declared.Run.{Run}
 
@@ -28,6 +28,23 @@ familyOf run = family (run .z)
 -- what becomes of the coefficients: the decoder writes what is found and what is refined, the coder writes nothing
 unfoldable pub noted : Run → Event → List ℤ → List ℤ
 noted run e d = cond (run .reads) (written (run .plane .0) e d) d
+
+either : {X : Type 0} (b : Bool) (x : X) → cond b x x ≡ x
+either true x = refl
+either false x = refl
+
+-- what is noted of what stays as it is: nothing
+pub quiet-toLip : (run : Run) (p : ℕ) (d : List ℤ) → noted run (toLip p) d ≡ d
+unfolding noted written
+quiet-toLip run p d = either (run .reads) d
+
+pub quiet-stays : (run : Run) (e : Entry) (d : List ℤ) → noted run (stays e) d ≡ d
+unfolding noted written
+quiet-stays run e d = either (run .reads) d
+
+pub quiet-moves : (run : Run) (e : Entry) (d : List ℤ) → noted run (moves e) d ≡ d
+unfolding noted written
+quiet-moves run e d = either (run .reads) d
 
 module _ (run : Run) (pyramid : List ℤ) (body : List ℕ) where
   unfoldable pub answer : Question → Bool

@@ -1,5 +1,3 @@
 pub mod Exchange
 pub mod Steps
-pub mod Standing
-pub mod Workspace
-pub mod Begin
+pub mod Growing

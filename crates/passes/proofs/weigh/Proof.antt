@@ -1,7 +1,6 @@
 use mathlib.Core.Path.{_∙_, ap}
-use native.Mathlib.Omega.{arith}
-use Rattle.passes.specs.Exchange.{side, chan}
-use Rattle.passes.proofs.Tests.{notes, quiet-stays}
+use Rattle.passes.specs.Exchange.{chan, quiet-stays}
+use Rattle.passes.proofs.Tests.{notes}
 use Rattle.passes.proofs.Sets.{hand-met, hand-place, hand-opening, hand-kept, hand-opened}
 use borrow.Author.Needs.{needs}
 use Rattle.passes.proofs.weigh.Statement.{statement}
