@@ -59,7 +59,7 @@ fn judged(pyramid: &[i32], z: Size, work: usize) -> Verdict
     if work < 4 * area {
         return Verdict::Refused(Refusal::Work);
     }
-    let over = shape::first_over(pyramid);
+    let over = coefficients::first_over(pyramid);
     if over != pyramid.len() {
         return Verdict::Refused(Refusal::Range(over));
     }
@@ -69,7 +69,7 @@ fn judged(pyramid: &[i32], z: Size, work: usize) -> Verdict
 fn planes_in(pyramid: &[i32]) -> usize
     ensures { λ r. ⌜ r ≡ planesOf (greatest natAbs (now (pyramid .entry))) ⌝ }
 {
-    shape::planes_of(shape::largest_magnitude(pyramid))
+    coefficients::planes_of(coefficients::largest_magnitude(pyramid))
 }
 
 // The header, at the front. Answers the place after it.

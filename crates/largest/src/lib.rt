@@ -12,7 +12,7 @@ ghost use Rattle.shape.specs.Nodes.{Node};
 fn largest_of(a: u32, b: u32, c: u32, d: u32) -> u32
     ensures { λ r. ⌜ r ≡ max a (max b (max c d)) ⌝ }
 {
-    shape::larger(a, shape::larger(b, shape::larger(c, d)))
+    coefficients::larger(a, coefficients::larger(b, coefficients::larger(c, d)))
 }
 
 // The largest magnitude in the block of offspring that begins at an index.
@@ -22,10 +22,10 @@ fn max_block(pyramid: &[i32], z: Size, first: usize) -> u32
 {
     let below = first + z.w;
     largest_of(
-        shape::magnitude_at(pyramid, first),
-        shape::magnitude_at(pyramid, first + 1),
-        shape::magnitude_at(pyramid, below),
-        shape::magnitude_at(pyramid, below + 1),
+        coefficients::magnitude_at(pyramid, first),
+        coefficients::magnitude_at(pyramid, first + 1),
+        coefficients::magnitude_at(pyramid, below),
+        coefficients::magnitude_at(pyramid, below + 1),
     )
 }
 
@@ -41,7 +41,7 @@ pub fn max_d(pyramid: &[i32], z: Size, q: usize, k: Level) -> u32
             if k.0 < 3 {
                 return near;
             }
-            shape::larger(near, max_l(pyramid, z, q, k))
+            coefficients::larger(near, max_l(pyramid, z, q, k))
         }
     }
 }

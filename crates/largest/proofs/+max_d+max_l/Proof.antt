@@ -19,7 +19,7 @@ use Rattle.largest.proofs.max_l.Kinds as max-l-kinds
 use Rattle.largest.proofs.+max_d+max_l.Lts-max_l as max-l-lts
 use Rattle.largest.proofs.largest_of.Reads as largest-of-reads
 use Rattle.largest.proofs.max_block.Reads as max-block-reads
-use Rattle.shape.proofs.larger.Reads as larger-reads
+use Rattle.coefficients.proofs.larger.Reads as larger-reads
 use Rattle.shape.proofs.offspring_in.Reads as offspring-in-reads
 use Rattle.largest.proofs.+max_d+max_l.{statement}
 use Rattle.largest.proofs.+max_d+max_l.Tie.{close}
