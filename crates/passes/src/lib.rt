@@ -75,7 +75,7 @@ fn ask_significant(
     say(
         out,
         at,
-        shape::threshold_of(run.plane) <= shape::magnitude_at(pyramid, p),
+        coefficients::threshold_of(run.plane) <= coefficients::magnitude_at(pyramid, p),
     )
 }
 
@@ -93,7 +93,7 @@ fn ask_negative(
     if run.reads {
         return at.read(body);
     }
-    say(out, at, shape::negative_at(pyramid, p))
+    say(out, at, coefficients::negative_at(pyramid, p))
 }
 
 fn ask_bit(
@@ -111,7 +111,11 @@ fn ask_bit(
         return at.read(body);
     }
     let n = run.plane.0;
-    say(out, at, (shape::magnitude_at(pyramid, p) >> n) % 2 == 1)
+    say(
+        out,
+        at,
+        (coefficients::magnitude_at(pyramid, p) >> n) % 2 == 1,
+    )
 }
 
 // The decoder writes a coefficient that was found; the coder writes none.
@@ -120,7 +124,7 @@ fn note_found(run: Run, d: &mut [i32], p: usize, negative: bool)
     ensures { λ _. ⌜ now (d .exit) ≡ noted run (toLsp p negative) (now (d .entry)) ⌝ }
 {
     if run.reads {
-        shape::write_found(d, p, negative, run.plane);
+        coefficients::write_found(d, p, negative, run.plane);
     }
 }
 
@@ -130,7 +134,7 @@ fn note_refined(run: Run, d: &mut [i32], p: usize, bit: bool)
     ensures { λ _. ⌜ now (d .exit) ≡ noted run (refined p bit) (now (d .entry)) ⌝ }
 {
     if run.reads {
-        shape::write_refined(d, p, bit, run.plane);
+        coefficients::write_refined(d, p, bit, run.plane);
     }
 }
 
@@ -312,7 +316,7 @@ fn ask_set(
     say(
         out,
         at,
-        shape::threshold_of(run.plane) <= largest_in(run, pyramid, e),
+        coefficients::threshold_of(run.plane) <= largest_in(run, pyramid, e),
     )
 }
 
