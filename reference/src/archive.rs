@@ -1,6 +1,6 @@
 //! The product's archive, libportal.a, linked under the feature `archive`.
 
-use crate::compare::Subject;
+use crate::compare::{Returned, Subject};
 
 // Takes no part in the program: it makes cargo notice a new archive.
 const _: &[u8] = include_bytes!(concat!(
@@ -65,8 +65,8 @@ impl Subject for Archive {
         out: &mut [u8],
         work: &mut [u32],
         answer: &mut [u64],
-    ) -> u64 {
-        unsafe {
+    ) -> Returned {
+        Ok(unsafe {
             afs_code(
                 pyramid.as_ptr(),
                 pyramid.len(),
@@ -80,7 +80,7 @@ impl Subject for Archive {
                 answer.as_mut_ptr(),
                 answer.len(),
             )
-        }
+        })
     }
 
     fn serve(
@@ -90,8 +90,8 @@ impl Subject for Archive {
         plane: u64,
         out: &mut [u8],
         answer: &mut [u64],
-    ) -> u64 {
-        unsafe {
+    ) -> Returned {
+        Ok(unsafe {
             afs_serve(
                 record.as_ptr(),
                 record.len(),
@@ -102,11 +102,17 @@ impl Subject for Archive {
                 answer.as_mut_ptr(),
                 answer.len(),
             )
-        }
+        })
     }
 
-    fn decode(&self, record: &[u8], out: &mut [i32], work: &mut [u32], answer: &mut [u64]) -> u64 {
-        unsafe {
+    fn decode(
+        &self,
+        record: &[u8],
+        out: &mut [i32],
+        work: &mut [u32],
+        answer: &mut [u64],
+    ) -> Returned {
+        Ok(unsafe {
             afs_decode(
                 record.as_ptr(),
                 record.len(),
@@ -117,6 +123,6 @@ impl Subject for Archive {
                 answer.as_mut_ptr(),
                 answer.len(),
             )
-        }
+        })
     }
 }

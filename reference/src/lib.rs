@@ -19,9 +19,9 @@
 //! * [`portal`]: the same calls in the shape in which C sees them
 //!
 //! and for trying the product: [`generate`] makes pyramids and records,
-//! [`compare`] compares, [`openjpeg`] gives times to compare with, [`slip`]
-//! holds the rules' "errors that look reasonable" so that the tests can be
-//! shown to catch them.
+//! [`compare`] compares, [`piped`] makes the calls of an archive that can't be
+//! linked, [`openjpeg`] gives times to compare with, [`slip`] holds the rules'
+//! "errors that look reasonable" so that the tests can be shown to catch them.
 
 pub mod coder;
 pub mod compare;
@@ -33,6 +33,7 @@ pub mod lists;
 pub mod openjpeg;
 pub mod partlist;
 pub mod passes;
+pub mod piped;
 pub mod portal;
 pub mod reading;
 pub mod refusal;

@@ -3,7 +3,7 @@
 //! the feature `archive` also the archive's, with `openjpeg` also OpenJPEG's for
 //! the same picture; all on the same input, in turns.
 
-use reference::compare::{Own, Subject};
+use reference::compare::{Own, Returned, Subject};
 use reference::generate::waterfall::transform_back;
 use reference::generate::{pyramids, records, waterfall, Chance};
 use reference::openjpeg::{Jpeg2000, SquarePicture};
@@ -275,16 +275,16 @@ impl Row {
     /// All run in turns, so that whatever else the machine does falls on each.
     fn take(
         runs: usize,
-        mut call: impl FnMut(&dyn Subject) -> u64,
+        mut call: impl FnMut(&dyn Subject) -> Returned,
         mut jpeg: Option<JpegCall>,
     ) -> Row {
         let mut reference = Vec::with_capacity(runs);
         let mut archive = Vec::with_capacity(runs);
         let mut openjpeg = Vec::with_capacity(runs);
         for _ in 0..runs {
-            reference.push(timed(|| assert_eq!(call(&Own), 0, "it is accepted")));
+            reference.push(timed(|| assert_eq!(call(&Own), Ok(0), "it is accepted")));
             if let Some(subject) = ARCHIVE {
-                archive.push(timed(|| assert_eq!(call(subject), 0, "it is accepted")));
+                archive.push(timed(|| assert_eq!(call(subject), Ok(0), "it is accepted")));
             }
             if let (Some(jpeg), Some(codec)) = (&mut jpeg, OPENJPEG) {
                 openjpeg.push(timed(|| assert!(jpeg(codec) > 0, "it works")));

@@ -1,8 +1,9 @@
 //! Compares the product with the reference on many seeded cases: the archive's
-//! exported calls (with the feature `archive`, else the reference's own portal),
-//! or what a part list program prints.
+//! exported calls (with the feature `archive`, or through a program that makes
+//! them, else the reference's own portal), or what a part list program prints.
 
-use reference::compare::{run, run_partlist, Difference, Routine, Subject, Tally};
+use reference::compare::{run, run_partlist, Routine, Subject, Tally};
+use reference::piped::Piped;
 use std::path::Path;
 use std::process::ExitCode;
 use std::time::{Duration, Instant};
@@ -13,6 +14,7 @@ const SUBJECT: (&str, &dyn Subject) = ("the archive", &reference::archive::Archi
 const SUBJECT: (&str, &dyn Subject) = ("the reference's own portal", &reference::compare::Own);
 
 const USAGE: &str = "usage: compare code|serve|decode COUNT [SEED]
+       compare --through PROGRAM code|serve|decode COUNT [SEED]
        compare partlist PROGRAM COUNT [SEED]";
 
 fn main() -> ExitCode {
@@ -26,22 +28,43 @@ fn main() -> ExitCode {
     }
 }
 
+/// The count of cases, or what is different.
+type Outcome = Result<Tally, String>;
+
 /// Nothing where the arguments make no sense.
-fn compare(arguments: &[String]) -> Option<Result<Tally, Difference>> {
-    let (name, rest) = arguments.split_first()?;
-    if name == Routine::Partlist.name() {
-        let (program, rest) = rest.split_first()?;
-        let (count, seed) = count_and_seed(rest)?;
-        eprintln!("partlist of {program}, {count} cases, seed {seed}");
-        let program = Path::new(program);
-        return Some(run_partlist(program, count, seed, &mut progress(count)));
+fn compare(arguments: &[String]) -> Option<Outcome> {
+    match arguments {
+        [name, program, rest @ ..] if name == Routine::Partlist.name() => {
+            compare_partlist(program, rest)
+        }
+        [option, program, rest @ ..] if option == "--through" => {
+            match Piped::through(Path::new(program)) {
+                Ok(subject) => compare_calls(program, &subject, rest),
+                Err(error) => Some(Err(format!("{program} doesn't run: {error}"))),
+            }
+        }
+        _ => {
+            let (whose, subject) = SUBJECT;
+            compare_calls(whose, subject, arguments)
+        }
     }
-    let (whose, subject) = SUBJECT;
+}
+
+fn compare_partlist(program: &str, arguments: &[String]) -> Option<Outcome> {
+    let (count, seed) = count_and_seed(arguments)?;
+    eprintln!("partlist of {program}, {count} cases, seed {seed}");
+    let outcome = run_partlist(Path::new(program), count, seed, &mut progress(count));
+    Some(outcome.map_err(|difference| difference.to_string()))
+}
+
+fn compare_calls(whose: &str, subject: &dyn Subject, arguments: &[String]) -> Option<Outcome> {
+    let (name, rest) = arguments.split_first()?;
     let mut routines = Routine::EXPORTED.iter().copied();
     let routine = routines.find(|routine| routine.name() == name)?;
     let (count, seed) = count_and_seed(rest)?;
     eprintln!("{name} of {whose}, {count} cases, seed {seed}");
-    Some(run(routine, count, seed, subject, &mut progress(count)))
+    let outcome = run(routine, count, seed, subject, &mut progress(count));
+    Some(outcome.map_err(|difference| difference.to_string()))
 }
 
 fn count_and_seed(arguments: &[String]) -> Option<(u64, u64)> {
@@ -53,7 +76,7 @@ fn count_and_seed(arguments: &[String]) -> Option<(u64, u64)> {
 }
 
 /// All equal is not enough: each sort of case must have occurred.
-fn report(outcome: Result<Tally, Difference>) -> ExitCode {
+fn report(outcome: Outcome) -> ExitCode {
     let tally = match outcome {
         Ok(tally) => tally,
         Err(difference) => {

@@ -131,7 +131,7 @@ pub fn compare_code(chance: &mut Chance, case: u64, subject: &dyn Subject) -> Co
     let mut out = Lent::dirty(case.out, DIRTY_BYTE);
     let mut work = Lent::dirty(case.work, DIRTY_WORD);
     let mut answer = Lent::dirty(case.answer, DIRTY_NUMBER);
-    let got = subject.code(&pyramid, w, h, n, out.cells(), work.cells(), answer.cells());
+    let got = subject.code(&pyramid, w, h, n, out.cells(), work.cells(), answer.cells())?;
 
     check_returned(got, want)?;
     answer.check("answer", &mut want_answer)?;

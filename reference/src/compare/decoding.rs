@@ -26,7 +26,7 @@ pub fn compare_decode(chance: &mut Chance, base: &[u8], subject: &dyn Subject) -
     let mut out = Lent::dirty(length, DIRTY_COEFFICIENT);
     let mut work = Lent::dirty(work_length, DIRTY_WORD);
     let mut answer = Lent::dirty(answer_length, DIRTY_NUMBER);
-    let got = subject.decode(&record, out.cells(), work.cells(), answer.cells());
+    let got = subject.decode(&record, out.cells(), work.cells(), answer.cells())?;
 
     check_returned(got, want)?;
     answer.check("answer", &mut want_answer)?;

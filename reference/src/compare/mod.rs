@@ -25,6 +25,9 @@ use serving::compare_serve;
 use std::path::Path;
 pub use tally::{Difference, Tally};
 
+/// What a call returned, or why it couldn't be made.
+pub type Returned = Result<u64, String>;
+
 /// What is compared with the library.
 pub trait Subject {
     #[allow(clippy::too_many_arguments)]
@@ -37,7 +40,7 @@ pub trait Subject {
         out: &mut [u8],
         work: &mut [u32],
         answer: &mut [u64],
-    ) -> u64;
+    ) -> Returned;
 
     fn serve(
         &self,
@@ -46,9 +49,15 @@ pub trait Subject {
         plane: u64,
         out: &mut [u8],
         answer: &mut [u64],
-    ) -> u64;
+    ) -> Returned;
 
-    fn decode(&self, record: &[u8], out: &mut [i32], work: &mut [u32], answer: &mut [u64]) -> u64;
+    fn decode(
+        &self,
+        record: &[u8],
+        out: &mut [i32],
+        work: &mut [u32],
+        answer: &mut [u64],
+    ) -> Returned;
 }
 
 /// The library itself, through [`portal`]: tries the portal, and the
@@ -65,8 +74,8 @@ impl Subject for Own {
         out: &mut [u8],
         work: &mut [u32],
         answer: &mut [u64],
-    ) -> u64 {
-        portal::afs_code(pyramid, w, h, n, out, work, answer)
+    ) -> Returned {
+        Ok(portal::afs_code(pyramid, w, h, n, out, work, answer))
     }
 
     fn serve(
@@ -76,12 +85,18 @@ impl Subject for Own {
         plane: u64,
         out: &mut [u8],
         answer: &mut [u64],
-    ) -> u64 {
-        portal::afs_serve(record, level, plane, out, answer)
+    ) -> Returned {
+        Ok(portal::afs_serve(record, level, plane, out, answer))
     }
 
-    fn decode(&self, record: &[u8], out: &mut [i32], work: &mut [u32], answer: &mut [u64]) -> u64 {
-        portal::afs_decode(record, out, work, answer)
+    fn decode(
+        &self,
+        record: &[u8],
+        out: &mut [i32],
+        work: &mut [u32],
+        answer: &mut [u64],
+    ) -> Returned {
+        Ok(portal::afs_decode(record, out, work, answer))
     }
 }
 

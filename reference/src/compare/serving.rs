@@ -39,7 +39,7 @@ pub fn compare_serve(chance: &mut Chance, base: &[u8], subject: &dyn Subject) ->
     let before = record.clone();
     let mut out = Lent::dirty(length, DIRTY_BYTE);
     let mut answer = Lent::dirty(answer_length, DIRTY_NUMBER);
-    let got = subject.serve(&record, level, plane, out.cells(), answer.cells());
+    let got = subject.serve(&record, level, plane, out.cells(), answer.cells())?;
 
     check_returned(got, want)?;
     answer.check("answer", &mut want_answer)?;

@@ -1,7 +1,7 @@
 //! The comparison: the reference's own portal passes it, all that can occur
 //! occurs in it, and subjects that are wrong in one thing fail it.
 
-use reference::compare::{run, run_partlist, Difference, Own, Routine, Subject, Tally};
+use reference::compare::{run, run_partlist, Difference, Own, Returned, Routine, Subject, Tally};
 use std::path::Path;
 use std::process::Command;
 
@@ -97,16 +97,16 @@ impl Subject for Wrong {
         out: &mut [u8],
         work: &mut [u32],
         answer: &mut [u64],
-    ) -> u64 {
+    ) -> Returned {
         let mut lent = Lent {
-            returned: Own.code(pyramid, w, h, n, out, work, answer),
+            returned: Own.code(pyramid, w, h, n, out, work, answer)?,
             bytes: out,
             work,
             answer,
             ..Lent::default()
         };
         (self.spoil)(&mut lent);
-        lent.returned
+        Ok(lent.returned)
     }
 
     fn serve(
@@ -116,27 +116,33 @@ impl Subject for Wrong {
         plane: u64,
         out: &mut [u8],
         answer: &mut [u64],
-    ) -> u64 {
+    ) -> Returned {
         let mut lent = Lent {
-            returned: Own.serve(record, level, plane, out, answer),
+            returned: Own.serve(record, level, plane, out, answer)?,
             bytes: out,
             answer,
             ..Lent::default()
         };
         (self.spoil)(&mut lent);
-        lent.returned
+        Ok(lent.returned)
     }
 
-    fn decode(&self, record: &[u8], out: &mut [i32], work: &mut [u32], answer: &mut [u64]) -> u64 {
+    fn decode(
+        &self,
+        record: &[u8],
+        out: &mut [i32],
+        work: &mut [u32],
+        answer: &mut [u64],
+    ) -> Returned {
         let mut lent = Lent {
-            returned: Own.decode(record, out, work, answer),
+            returned: Own.decode(record, out, work, answer)?,
             coefficients: out,
             work,
             answer,
             ..Lent::default()
         };
         (self.spoil)(&mut lent);
-        lent.returned
+        Ok(lent.returned)
     }
 }
 
@@ -238,7 +244,7 @@ impl Subject for Overrun {
         out: &mut [u8],
         work: &mut [u32],
         answer: &mut [u64],
-    ) -> u64 {
+    ) -> Returned {
         Own.code(pyramid, w, h, n, out, work, answer)
     }
 
@@ -249,14 +255,20 @@ impl Subject for Overrun {
         plane: u64,
         out: &mut [u8],
         answer: &mut [u64],
-    ) -> u64 {
+    ) -> Returned {
         let number = Own.serve(record, level, plane, out, answer);
         // The comparison keeps guards of its own around every slice it lends.
         unsafe { *out.as_mut_ptr().add(out.len()) = 0 };
         number
     }
 
-    fn decode(&self, record: &[u8], out: &mut [i32], work: &mut [u32], answer: &mut [u64]) -> u64 {
+    fn decode(
+        &self,
+        record: &[u8],
+        out: &mut [i32],
+        work: &mut [u32],
+        answer: &mut [u64],
+    ) -> Returned {
         Own.decode(record, out, work, answer)
     }
 }

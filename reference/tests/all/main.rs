@@ -8,6 +8,7 @@ mod example;
 mod helpers;
 mod literal;
 mod numbers;
+mod piped;
 mod portal;
 mod program;
 mod refusals_of_coding;
