@@ -33,13 +33,15 @@ use Rattle.lists.specs.declared.Fill.{Fill}
 use Rattle.lists.specs.Seg.{seg-length}
 use Rattle.lists.specs.Stretch.{setRoom, listsIn, held, Fits, lists-fit, sets-fit, known-length, todo-length, moved-length}
 use Rattle.lists.specs.Stretch.{held-begins, held-ends, held-moved, held-known}
-use Rattle.passes.specs.declared.Run.{Run}
-use Rattle.passes.specs.declared.Stand.{Stand}
+use Rattle.testing.specs.declared.Run.{Run}
+use Rattle.testing.specs.declared.Stand.{Stand}
 use Rattle.parts.specs.declared.Counts.{Counts}
 use Rattle.parts.specs.declared.Passed.{Passed}
 use Rattle.bits.specs.declared.BitPosition.{BitPosition}
-use Rattle.passes.specs.Exchange.{Chan, chan, familyOf, side}
-use Rattle.passes.specs.Steps.{hasMember, Queued, Proper, Growth, Fresh, listsOf, course}
+use Rattle.testing.specs.Exchange.{Chan, chan, familyOf, side}
+use Rattle.testing.specs.Tests.{course}
+use Rattle.testing.specs.Growing.{Growth}
+use Rattle.passes.specs.Steps.{hasMember, Queued, Proper, Fresh, listsOf}
 use Rattle.parts.specs.Standing.{stretchOf, countAt, Six, fillOf, withLists, listsAt, stateOf, Ready, Coding, Coded, Decoding, Decoded}
 use Rattle.parts.specs.Workspace.{Lending, Lent, movedOut, handedOn, Handing, Handed, runOf, Running, courseIn, PartRun}
 use Rattle.parts.proofs.Workspace.{size-some, size-place}

@@ -27,14 +27,13 @@ use Rattle.rules.specs.Laws.StateWeight.{weight-part}
 use Rattle.rules.specs.Laws.Sizes.{legal}
 use Rattle.rules.specs.Laws.Offspring.Lawful.{lawful}
 use Rattle.rules.specs.Laws.StateRecord.{SoundLists}
-use Rattle.passes.specs.declared.Run.{Run}
+use Rattle.testing.specs.declared.Run.{Run}
 use Rattle.parts.specs.declared.Counts.{Counts}
 use Rattle.parts.specs.declared.Passed.{Passed}
-use Rattle.passes.specs.Exchange.{Chan, chan, familyOf, noted, answer, side}
-use Rattle.passes.specs.Steps.{Growth}
+use Rattle.testing.specs.Exchange.{Chan, chan, familyOf, noted, answer, side}
 use Rattle.parts.specs.Standing.{stateOf, Agree, Ready, courseC, Coded, Small, courseD, Decoded}
 use Rattle.parts.specs.Workspace.{courseIn, PartRun}
-use Rattle.passes.specs.Growing.{growth-kept}
+use Rattle.testing.specs.Growing.{Growth, growth-kept}
 
 -- Two sides joined by a map: they reply alike, and it goes along with what they come to.
 pub record Joined {S T : Type 0} (C : Side S) (D : Side T) (h : S → T) : Type 0 where

@@ -19,9 +19,9 @@ use Rattle.rules.specs.Laws.Sizes.{Legal, legal, area-bound, span, levelStart, 
 use Rattle.rules.specs.Laws.Sizes.{levelEnd-next, levelEnd-start, levelStart-fine, span-some, span-most, span-quarter}
 use Rattle.lists.specs.Seg.{seg, seg-seg, seg-inside}
 use Rattle.lists.specs.Stretch.{HandedOn, listsIn, movedFrom, sets}
-use Rattle.passes.specs.declared.Run.{Run}
-use Rattle.passes.specs.declared.Stand.{Stand}
-use Rattle.passes.specs.Exchange.{Chan}
+use Rattle.testing.specs.declared.Run.{Run}
+use Rattle.testing.specs.declared.Stand.{Stand}
+use Rattle.testing.specs.Exchange.{Chan}
 use Rattle.passes.specs.Steps.{Proper, Fresh, Ran}
 use Rattle.parts.specs.Standing.{stretchOf}
 use Rattle.parts.specs.Workspace.{Lending, Lent, movedOut, HandingOver, HandedOver}

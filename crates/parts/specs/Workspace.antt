@@ -16,11 +16,11 @@ use Rattle.rules.specs.Document.Passes.{Entry, Lists, State, Side, Course, pass
 use Rattle.rules.specs.Document.Calls.{workFor}
 use Rattle.rules.specs.Laws.Sizes.{levelSize}
 use Rattle.lists.specs.Stretch.{setRoom, movedFrom, sets, listsIn}
-use Rattle.passes.specs.declared.Run.{Run}
-use Rattle.passes.specs.declared.Stand.{Stand}
+use Rattle.testing.specs.declared.Run.{Run}
+use Rattle.testing.specs.declared.Stand.{Stand}
 use Rattle.parts.specs.declared.Counts.{Counts}
 use Rattle.parts.specs.declared.Passed.{Passed}
-use Rattle.passes.specs.Exchange.{Chan, chan, familyOf}
+use Rattle.testing.specs.Exchange.{Chan, chan, familyOf}
 use Rattle.passes.specs.Steps.{Fresh, Ran}
 use Rattle.parts.specs.Standing.{stretchOf, countAt, stateOf, Agree, Ready, Small}
 

@@ -9,19 +9,19 @@ ghost use Rattle.rules.specs.Document.Pyramid.{legalSize, levels, greatestSide}
 ghost use Rattle.rules.specs.Document.Passes.{bandLL};
 ghost use Rattle.rules.specs.Document.Calls.{workFor};
 ghost use Rattle.rules.specs.Laws.Sizes.{levelStart, levelSize};
-ghost use Rattle.passes.specs.Exchange.{side};
+ghost use Rattle.testing.specs.Exchange.{side};
 ghost use Rattle.parts.specs.Standing.{countAt, Six, fillOf, withLists, withSets, Started, Coding, Coded, Decoding, Decoded};
 ghost use Rattle.parts.specs.Workspace.{Lending, Lent, HandingOver, HandedOver, Handing, Handed, runOf, Running, PartRun};
 ghost use Rattle.parts.specs.Begin.{empty, rowOf, Listing, Listed};
 use bits::BitPosition;
 use lists::Fill;
 use lists::Set;
-use passes::Run;
-use passes::Stand;
 use rules::Level;
 use rules::Plane;
 use rules::Size;
 use shape::Offspring;
+use testing::Run;
+use testing::Stand;
 
 // How full each level's lists are; level 1 first.
 pub struct Counts {

@@ -17,12 +17,13 @@ use Rattle.rules.specs.Laws.PassSteps.{triedAll, visitedAll, visitedAll-none, s
 use Rattle.rules.specs.Laws.Slots.{Room, room-tests, room-held, room-slots}
 use Rattle.lists.specs.declared.Fill.{Fill}
 use Rattle.lists.specs.Stretch.{waiting, known, held, emptied, Fits, sets-fit, todo-length, todo-none, held-fresh, held-waiting, held-known, waiting-length}
-use Rattle.passes.specs.declared.Run.{Run}
-use Rattle.passes.specs.declared.Stand.{Stand}
-use Rattle.passes.specs.declared.Candidates.the-variants.{Waiting}
-use Rattle.passes.specs.Exchange.{Chan, chan, familyOf, side}
-use Rattle.passes.specs.Steps.{courseOf, course, visitsOf, listsOf, Testing, Tested, Proper, Underway, Visited, Growth, Fresh, Ran}
-use Rattle.passes.specs.Growing.{growth-kept}
+use Rattle.testing.specs.declared.Run.{Run}
+use Rattle.testing.specs.declared.Stand.{Stand}
+use Rattle.testing.specs.declared.Candidates.the-variants.{Waiting}
+use Rattle.testing.specs.Exchange.{Chan, chan, familyOf, side}
+use Rattle.testing.specs.Tests.{courseOf, course, Testing, Tested}
+use Rattle.testing.specs.Growing.{Growth, growth-kept}
+use Rattle.passes.specs.Steps.{visitsOf, listsOf, Proper, Underway, Visited, Fresh, Ran}
 
 module _ (run : Run) {s : List ℕ} {d : List ℤ} {w : Stand} (H : Fresh run s d w) where
   abbrev F : Family

@@ -13,7 +13,7 @@ use borrow.Author.Tests.{lt-ltb, le-ltb, ltb-true, le-leb, lt-leb}
 use Rattle.rules.specs.declared.Size.{Size}
 use Rattle.rules.specs.Document.Notation.{greatest}
 use Rattle.rules.specs.Document.Pyramid.{Family, area, levelOf, offspringOf, magnitude, maxD, maxL}
-use Rattle.rules.specs.Document.Passes.{Entry, typeA, typeB, set?, stays, members, inLevel, opened, added, Side, Course, listed, listing, done}
+use Rattle.rules.specs.Document.Passes.{Entry, typeA, typeB, set?, stays, members, inLevel, opened, added, truth, Side, Course, listed, listing, done}
 use Rattle.rules.specs.Laws.Count.{All, _∈_, some-in}
 use Rattle.rules.specs.Laws.Family.{Lawful, level-some, offspring-descend, grandchild, grandchild-in}
 use Rattle.rules.specs.Laws.Sizes.{Legal, legal}
@@ -33,12 +33,19 @@ use Rattle.shape.specs.Nodes.{Node}
 use Rattle.bits.specs.declared.BitPosition.{BitPosition}
 use Rattle.bits.specs.declared.BitRead.{BitRead}
 use Rattle.lists.specs.declared.Fill.{Fill}
-use Rattle.lists.specs.Stretch.{setRoom, held, past, Fits, SetAdded, SetKept, sets-fit, todo-length}
-use Rattle.passes.specs.declared.Run.{Run}
-use Rattle.passes.specs.declared.Stand.{Stand}
-use Rattle.passes.specs.Exchange.{Chan, chan, familyOf, Replied}
-use Rattle.passes.specs.Steps.{courseOf, course, visitsOf, Tested, Proper, Added, Opened, Opening, hasMember, Queued, InHand, Weighed}
-use Rattle.passes.proofs.Tests.{tested-none}
+use Rattle.lists.specs.Seg.{seg}
+use Rattle.lists.specs.Stretch.{waiting, setRoom, held, past, Fits, SetAdded, SetKept, sets-fit, todo-length}
+use Rattle.testing.specs.declared.Run.{Run}
+use Rattle.testing.specs.declared.Stand.{Stand}
+use Rattle.testing.specs.Exchange.{Chan, chan, familyOf, answer, Replied}
+use Rattle.testing.specs.Tests.{courseOf, course, Tested, tested-none}
+use Rattle.passes.specs.Steps.{visitsOf, Proper, Added, Opened, Opening, hasMember, Queued, InHand, Weighed}
+
+-- the four offspring of a block, tested
+pub four-tested : (z : Size) (first : ℕ) {C : Side Chan} {n : ℕ} {s out s₁ out₁ : List ℕ} {d d₁ : List ℤ} {w w₁ : Stand}
+    → Tested C (waiting 0 4 (offspringList z (Block first))) n s out d w s₁ out₁ d₁ w₁ → Tested C (offspringList z (Block first)) n s out d w s₁ out₁ d₁ w₁
+unfolding waiting seg offspringList
+four-tested z first T = T
 
 -- Sets at the end of LIS: none, one, and more.
 pub added-none : (n : ℕ) (s : List ℕ) (f : Fill) → Fits n s f → Added [] n s f s f
@@ -392,3 +399,9 @@ has-B run v p h = rw (le-leb (run .level .0) (run .z .n) h)
 pub opened-as : {C : Side Chan} {F : Family} {e g : Entry} {n : ℕ} {s out s′ out′ : List ℕ} {d d′ : List ℤ} {w r : Stand} → e ≡ g
     → Opened C F g n s out d w s′ out′ d′ r → Opened C F e n s out d w s′ out′ d′ r
 opened-as {C} {F} {n = n} {s} {out} {s′} {out′} {d} {d′} {w} {r} i O = subst (λ x. Opened C F x n s out d w s′ out′ d′ r) (sym i) O
+
+-- the coder's answer on a set
+pub says-set : (run : Run) (pyramid : List ℤ) (body : List ℕ) {t m : ℕ} (e : Entry) → t ≡ 2 ^ run .plane .0 → m ≡ greatest (magnitude pyramid) (members (familyOf run) e)
+    → leb t m ≡ answer run pyramid body (set? e)
+unfolding answer truth
+says-set run pyramid body e i j = rw (i, j)

@@ -16,10 +16,11 @@ use Rattle.rules.specs.Laws.PassSteps.{walk-moves}
 use Rattle.rules.specs.Laws.Slots.{Room, room-past}
 use Rattle.lists.specs.declared.Fill.{Fill}
 use Rattle.lists.specs.Stretch.{setRoom, held, past, Fits, NextSet, SetMoved}
-use Rattle.passes.specs.declared.Run.{Run}
-use Rattle.passes.specs.declared.Stand.{Stand}
-use Rattle.passes.specs.Exchange.{Chan, chan, familyOf}
-use Rattle.passes.specs.Steps.{courseOf, course, visitsOf, Proper, hasMember, Queued, Underway, InHand, Weighed, Visited}
+use Rattle.testing.specs.declared.Run.{Run}
+use Rattle.testing.specs.declared.Stand.{Stand}
+use Rattle.testing.specs.Exchange.{Chan, chan, familyOf}
+use Rattle.testing.specs.Tests.{courseOf, course}
+use Rattle.passes.specs.Steps.{visitsOf, Proper, hasMember, Queued, Underway, InHand, Weighed, Visited}
 
 module _ (run : Run) (P : Proper run) where
   abbrev F : Family

@@ -6,67 +6,18 @@ use Prim.Native.Nat.{ℕ, suc, _+_, _*_, _≤_, _<_, _^_}
 use lib.Dec.{leb, ltb}
 use lib.ListN.{length}
 use lib.IntN.{ℤ}
-use Rattle.rules.specs.declared.Size.{Size}
-use Rattle.rules.specs.Document.Pyramid.{Family, greatestSide, legalSize, levels, mostPlanes, magnitude}
-use Rattle.shape.specs.declared.Offspring.the-variants.{Block}
-use Rattle.shape.specs.Offspring.{offspringList}
-use Rattle.passes.specs.declared.Candidates.{Candidates}
-use Rattle.passes.specs.declared.Candidates.the-variants.{Waiting, Four}
+use Rattle.rules.specs.Document.Pyramid.{Family, legalSize, levels, mostPlanes}
 use Rattle.rules.specs.Document.Passes.{Entry, typeA, typeB, inLevel, opened, added, Lists, Side, Course, listing, passed}
-use Rattle.rules.specs.Laws.Count.{sum, is}
 use Rattle.rules.specs.Laws.PassSteps.{triedAll, visitedAll}
 use Rattle.rules.specs.Laws.PassLevels.{Met}
 use Rattle.rules.specs.Laws.Slots.{Room}
 use Rattle.lists.specs.declared.Fill.{Fill}
-use Rattle.lists.specs.Stretch.{waiting, known, Held, held, Fits}
-use Rattle.passes.specs.declared.Run.{Run}
-use Rattle.passes.specs.declared.Stand.{Stand}
-use Rattle.passes.specs.Exchange.{Chan, chan, familyOf}
-
--- where a pass stands: the lists that it has made so far, and its side
-abbrev pub courseOf : Held → Chan → Course Chan
-courseOf h x = record { lip = h .lip; lsp = h .lsp; lis = h .kept; moved = h .moved; side = x }
-
-abbrev pub course : ℕ → List ℕ → List ℕ → List ℤ → Stand → Course Chan
-course n s out d w = courseOf (held n s (w .fill)) (chan out d (w .at .at))
-
--- where the coefficients to test are listed
-abbrev pub candidates : Size → Candidates → List ℕ → List ℕ
-candidates z Waiting s = s
-candidates z (Four first) s = offspringList z (Block first)
-
-abbrev pub Choosing : Run → Candidates → ℕ → List ℕ → Type 0
-Choosing run Waiting i s = i < length s
-Choosing run (Four first) i s = (i < 4) × (first + run .z .w + 1 < greatestSide * greatestSide)
-
--- What the tests of m of them ask for: LIP must be empty where its own entries are tested, as those that stay are put to its front.
-abbrev pub Suited : Run → Candidates → ℕ → Stand → Type 0
-Suited run Waiting m w = w .fill .lip ≤ 0
-Suited run (Four first) m w = (m ≤ 4) × (first + run .z .w + 1 < greatestSide * greatestSide)
-
-pub record Testing (run : Run) (from : Candidates) (m : ℕ) (s : List ℕ) (w : Stand) : Type 0 where
-  pub plane : run .plane .0 < mostPlanes
-  pub fits : Fits (run .n) s (w .fill)
-  pub room : w .fill .lip + w .fill .lsp + m ≤ run .n
-  pub place : w .at .at + 2 * m < 2 ^ 62
-  pub suited : Suited run from m w
-
--- The coefficients ps were tested. What lies ahead in LIP, what was in LSP, and the sets are as they were.
-pub record Tested (C : Side Chan) (ps : List ℕ) (n : ℕ) (s out : List ℕ) (d : List ℤ) (w : Stand)
-    (s′ out′ : List ℕ) (d′ : List ℤ) (r : Stand) : Type 0 where
-  pub makes : course n s′ out′ d′ r ≡ triedAll (listing C) ps (course n s out d w)
-  pub todo : held n s′ (r .fill) .todo ≡ held n s (w .fill) .todo
-  pub fits : Fits n s′ (r .fill)
-  pub ahead : (i m : ℕ) → w .fill .lip + length ps ≤ i → i + m ≤ n → waiting i m s′ ≡ waiting i m s
-  pub known : (m : ℕ) → m ≤ w .fill .lsp → known n m s′ ≡ known n m s
-  pub visited : r .fill .visited ≡ w .fill .visited
-  pub left : r .fill .left ≡ w .fill .left
-  pub kept : r .fill .kept ≡ w .fill .kept
-  pub moved : r .fill .moved ≡ w .fill .moved
-  pub both : r .fill .lip + r .fill .lsp ≡ w .fill .lip + w .fill .lsp + length ps
-  pub lip : w .fill .lip ≤ r .fill .lip
-  pub lsp : w .fill .lsp ≤ r .fill .lsp
-  pub place : r .at .at ≤ w .at .at + 2 * length ps
+use Rattle.lists.specs.Stretch.{known, held, Fits}
+use Rattle.testing.specs.declared.Run.{Run}
+use Rattle.testing.specs.declared.Stand.{Stand}
+use Rattle.testing.specs.Exchange.{Chan, chan, familyOf}
+use Rattle.testing.specs.Tests.{course}
+use Rattle.testing.specs.Growing.{Growth}
 
 -- What holds of every run.
 pub record Proper (run : Run) : Type 0 where
@@ -167,11 +118,6 @@ pub record Visited (C : Side Chan) (run : Run) (s out : List ℕ) (d : List ℤ)
   pub ready : Underway run s′ r
   pub known : (m : ℕ) → m ≤ w .fill .lsp → known (run .n) m s′ ≡ known (run .n) m s
   pub lsp : w .fill .lsp ≤ r .fill .lsp
-
--- No coefficient outgrows a bound, though those of ks are still to be refined, each once.
-pub record Growth (plane bound : ℕ) (d : List ℤ) (ks : List ℕ) : Type 0 where
-  pub small : (q : ℕ) → magnitude d q + 2 ^ plane * sum (is q) ks < bound
-  pub once : (q : ℕ) → sum (is q) ks ≤ 1
 
 -- the lists of the level as a pass finds them
 abbrev pub listsOf : Run → List ℕ → Stand → Lists

@@ -1,4 +1,5 @@
-use Rattle.passes.proofs.Leaves.{replied-read, replied-said, says-set}
+use Rattle.testing.specs.Exchange.{replied-read, replied-said}
+use Rattle.passes.proofs.Sets.{says-set}
 use borrow.Author.Needs.{needs}
 use Rattle.passes.proofs.ask_set.Statement.{statement}
 use Rattle.passes.proofs.ask_set.Tie as tie
@@ -22,7 +23,7 @@ same-length : tie.Need-same-length
 same-length c = search needs
 
 returns-2 : tie.Need-returns-2
-returns-2 c = replied-said _ (c .before .before .before .before .before .before .before .before .before .args .pyramid .now) (c .before .before .before .before .before .before .before .before .before .args .body .now) _ (c .before .before .before .before .before .before .before .before .before .args .at) _ _ (c .before .before .before .before .before .before .if1 .left) (says-set _ _ (c .before .before .before .before .before .before .before .before .before .args .body .now) (c .before .before .before .before .before .before .before .before .before .args .out .now) (c .before .before .before .before .before .before .before .before .before .args .at) _ (c .before .before .before .before .threshold-of .ensures) (c .before .before .before .largest-in .ensures)) (c .before .before .say .ensures .0) (c .before .before .say .ensures .1) (c .before .before .say .ensures .2)
+returns-2 c = replied-said _ (c .before .before .before .before .before .before .before .before .before .args .pyramid .now) (c .before .before .before .before .before .before .before .before .before .args .body .now) _ (c .before .before .before .before .before .before .before .before .before .args .at) _ _ (c .before .before .before .before .before .before .if1 .left) (says-set _ _ (c .before .before .before .before .before .before .before .before .before .args .body .now) _ (c .before .before .before .before .threshold-of .ensures) (c .before .before .before .largest-in .ensures)) (c .before .before .say .ensures .0) (c .before .before .say .ensures .1) (c .before .before .say .ensures .2)
 
 pub ask-set-spec : {M : Type 1} → statement M
 ask-set-spec =

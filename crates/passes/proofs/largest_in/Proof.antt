@@ -5,7 +5,7 @@ use Rattle.rules.specs.Laws.PassLevels.{Met}
 use Rattle.rules.specs.Document.Notation.{greatest}
 use Rattle.rules.specs.Document.Pyramid.{magnitude}
 use Rattle.rules.specs.Document.Passes.{members}
-use Rattle.passes.specs.Exchange.{familyOf}
+use Rattle.testing.specs.Exchange.{familyOf}
 use Rattle.passes.proofs.Sets.{level-few, node-A, node-B, largest-A, largest-B}
 use borrow.Author.Needs.{needs}
 use Rattle.passes.proofs.largest_in.Statement.{statement}

@@ -1,6 +1,5 @@
-use Rattle.passes.proofs.Tests.{four-tested}
 use native.Mathlib.Omega.{arith}
-use Rattle.passes.proofs.Sets.{level-few, node-index, node-A, opening-room, opens-A, adds-A, opened-A-more, opened-A-less}
+use Rattle.passes.proofs.Sets.{four-tested, level-few, node-index, node-A, opening-room, opens-A, adds-A, opened-A-more, opened-A-less}
 use borrow.Author.Needs.{needs}
 use Rattle.passes.proofs.open_a.Statement.{statement}
 use Rattle.passes.proofs.open_a.Tie as tie

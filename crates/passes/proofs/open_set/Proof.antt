@@ -1,7 +1,7 @@
 use mathlib.Core.Path.{sym, ap, subst}
 use Rattle.lists.specs.Stretch.{entryOf}
 use Rattle.passes.specs.Steps.{Opening, Opened}
-use Rattle.passes.specs.Exchange.{familyOf, side}
+use Rattle.testing.specs.Exchange.{familyOf, side}
 use Rattle.passes.proofs.Sets.{opened-B, opened-as}
 use borrow.Author.Needs.{needs}
 use Rattle.passes.proofs.open_set.Statement.{statement}

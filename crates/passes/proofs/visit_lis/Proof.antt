@@ -3,7 +3,7 @@ use native.Mathlib.Omega.{arith}
 use Prim.Native.Nat.{_-_}
 use lib.ListN.{length}
 use Rattle.lists.specs.Stretch.{setRoom}
-use Rattle.passes.specs.Exchange.{side}
+use Rattle.testing.specs.Exchange.{side}
 use Rattle.passes.specs.Steps.{Visited}
 use Rattle.passes.proofs.Visits.{visited-none, visited-on}
 use borrow.Author.Needs.{needs}

@@ -1,7 +1,6 @@
 use mathlib.Core.Path.{_∙_, ap}
 use native.Mathlib.Omega.{arith}
-use Rattle.passes.specs.Exchange.{chan, quiet-moves}
-use Rattle.passes.proofs.Tests.{notes}
+use Rattle.testing.specs.Exchange.{chan, notes, quiet-moves}
 use Rattle.passes.proofs.Visits.{taken-hand, taken-weighed, taken-moved, taken-fits}
 use borrow.Author.Needs.{needs}
 use Rattle.passes.proofs.visit_set.Statement.{statement}

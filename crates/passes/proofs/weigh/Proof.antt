@@ -1,6 +1,5 @@
 use mathlib.Core.Path.{_∙_, ap}
-use Rattle.passes.specs.Exchange.{chan, quiet-stays}
-use Rattle.passes.proofs.Tests.{notes}
+use Rattle.testing.specs.Exchange.{chan, notes, quiet-stays}
 use Rattle.passes.proofs.Sets.{hand-met, hand-place, hand-opening, hand-kept, hand-opened}
 use borrow.Author.Needs.{needs}
 use Rattle.passes.proofs.weigh.Statement.{statement}

@@ -13,11 +13,9 @@ use Rattle.rules.specs.Document.Pyramid.{magnitude}
 use Rattle.rules.specs.Laws.Count.{sum, is, sum-append}
 use Rattle.lists.specs.Seg.{seg}
 use Rattle.lists.specs.Stretch.{lspFrom, known, known-add, known-none}
-use Rattle.passes.specs.declared.Run.{Run}
-use Rattle.passes.specs.Exchange.{Chan, chan, noted, side, Replied}
-use Rattle.passes.specs.Steps.{Growth}
-use Rattle.passes.specs.Growing.{refined-most}
-use Rattle.passes.proofs.Tests.{notes}
+use Rattle.testing.specs.declared.Run.{Run}
+use Rattle.testing.specs.Exchange.{Chan, chan, noted, side, notes, Replied}
+use Rattle.testing.specs.Growing.{Growth, refined-most}
 
 pub refined-one : (run : Run) (pyramid : List ℤ) (body : List ℕ) (d : List ℤ) {out out₁ : List ℕ} {d₁ : List ℤ} {at : BitPosition} {p : ℕ} {bit : BitRead}
     → Replied (side run pyramid body) (bit? p) out at bit out₁ → d₁ ≡ noted run (refined p (bit .bit)) d

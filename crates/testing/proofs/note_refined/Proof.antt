@@ -1,8 +1,8 @@
 use Rattle.rules.specs.Document.Passes.{written}
-use Rattle.passes.proofs.Leaves.{noted-written, noted-none}
+use Rattle.testing.proofs.Leaves.{noted-written, noted-none}
 use borrow.Author.Needs.{needs}
-use Rattle.passes.proofs.note_refined.Statement.{statement}
-use Rattle.passes.proofs.note_refined.Tie as tie
+use Rattle.testing.proofs.note_refined.Statement.{statement}
+use Rattle.testing.proofs.note_refined.Tie as tie
 
 write-refined-requires : tie.Need-write-refined-requires
 write-refined-requires c κs = search needs

@@ -3,12 +3,12 @@ use native.Mathlib.Omega.{arith}
 use Prim.Native.Nat.{_≤_, _-_}
 use lib.ListN.{length}
 use Rattle.lists.specs.Stretch.{waiting}
-use Rattle.passes.specs.Exchange.{side}
-use Rattle.passes.specs.Steps.{candidates, Tested}
-use Rattle.passes.proofs.Tests.{each-length, each-choosing, each-next, each-none, each-done}
+use Rattle.testing.specs.Exchange.{side}
+use Rattle.testing.specs.Tests.{candidates, Tested}
+use Rattle.testing.proofs.Tests.{each-length, each-choosing, each-next, each-none, each-done}
 use borrow.Author.Needs.{needs}
-use Rattle.passes.proofs.test_each.Statement.{statement}
-use Rattle.passes.proofs.test_each.Tie as tie
+use Rattle.testing.proofs.test_each.Statement.{statement}
+use Rattle.testing.proofs.test_each.Tie as tie
 
 abbrev Inv-loop : tie.InvT-loop
 Inv-loop run pyramid body s₀ out₀ d₀ from m r₀ i₀ s out d r i = Tested (side run pyramid body) (waiting 0 i (candidates (run .z) from s₀)) (run .n) s₀ out₀ d₀ r₀ s out d r × (i ≤ m) × (length s ≡ length s₀) × (length out ≡ length out₀) × (length d ≡ length d₀)

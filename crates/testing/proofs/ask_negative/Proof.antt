@@ -1,7 +1,8 @@
-use Rattle.passes.proofs.Leaves.{replied-read, replied-said, says-negative}
+use Rattle.testing.specs.Exchange.{replied-read, replied-said}
+use Rattle.testing.proofs.Leaves.{says-negative}
 use borrow.Author.Needs.{needs}
-use Rattle.passes.proofs.ask_negative.Statement.{statement}
-use Rattle.passes.proofs.ask_negative.Tie as tie
+use Rattle.testing.proofs.ask_negative.Statement.{statement}
+use Rattle.testing.proofs.ask_negative.Tie as tie
 
 read-requires : tie.Need-read-requires
 read-requires c κs = search needs

@@ -1,8 +1,8 @@
 use native.Mathlib.Omega.{arith}
-use Rattle.passes.proofs.Tests.{choosing-waiting, chosen-waiting, choosing-four, chosen-first, chosen-below}
+use Rattle.testing.proofs.Tests.{choosing-waiting, chosen-waiting, choosing-four, chosen-first, chosen-below}
 use borrow.Author.Needs.{needs}
-use Rattle.passes.proofs.candidate.Statement.{statement}
-use Rattle.passes.proofs.candidate.Tie as tie
+use Rattle.testing.proofs.candidate.Statement.{statement}
+use Rattle.testing.proofs.candidate.Tie as tie
 
 enum-told : tie.Need-enum-told
 enum-told c = search needs

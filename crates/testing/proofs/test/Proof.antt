@@ -1,8 +1,8 @@
-use Rattle.passes.proofs.Tests.{tested-insignificant, tested-significant}
+use Rattle.testing.proofs.Tests.{tested-insignificant, tested-significant}
 use mathlib.Core.Path.{refl}
 use borrow.Author.Needs.{needs}
-use Rattle.passes.proofs.test.Statement.{statement}
-use Rattle.passes.proofs.test.Tie as tie
+use Rattle.testing.proofs.test.Statement.{statement}
+use Rattle.testing.proofs.test.Tie as tie
 
 ask-significant-requires : tie.Need-ask-significant-requires
 ask-significant-requires c κs = search needs

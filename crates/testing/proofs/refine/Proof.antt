@@ -1,7 +1,7 @@
-use Rattle.passes.proofs.Refining.{refined-one}
+use Rattle.testing.proofs.Refining.{refined-one}
 use borrow.Author.Needs.{needs}
-use Rattle.passes.proofs.refine.Statement.{statement}
-use Rattle.passes.proofs.refine.Tie as tie
+use Rattle.testing.proofs.refine.Statement.{statement}
+use Rattle.testing.proofs.refine.Tie as tie
 
 ask-bit-requires : tie.Need-ask-bit-requires
 ask-bit-requires c κs = search needs

@@ -1,7 +1,8 @@
-use Rattle.passes.proofs.Leaves.{replied-read, replied-said, says-bit}
+use Rattle.testing.specs.Exchange.{replied-read, replied-said}
+use Rattle.testing.proofs.Leaves.{says-bit}
 use borrow.Author.Needs.{needs}
-use Rattle.passes.proofs.ask_bit.Statement.{statement}
-use Rattle.passes.proofs.ask_bit.Tie as tie
+use Rattle.testing.proofs.ask_bit.Statement.{statement}
+use Rattle.testing.proofs.ask_bit.Tie as tie
 
 read-requires : tie.Need-read-requires
 read-requires c κs = search needs

@@ -4,11 +4,11 @@ use Prim.Native.Nat.{_+_, _-_, _≤_}
 use lib.ListN.{length}
 use Rattle.rules.specs.Laws.PassSteps.{sharpenedAll}
 use Rattle.lists.specs.Stretch.{known}
-use Rattle.passes.specs.Exchange.{chan, side}
-use Rattle.passes.proofs.Refining.{refined-none, refined-next, refining-small, refined-done}
+use Rattle.testing.specs.Exchange.{chan, side}
+use Rattle.testing.proofs.Refining.{refined-none, refined-next, refining-small, refined-done}
 use borrow.Author.Needs.{needs}
-use Rattle.passes.proofs.refine_lsp.Statement.{statement}
-use Rattle.passes.proofs.refine_lsp.Tie as tie
+use Rattle.testing.proofs.refine_lsp.Statement.{statement}
+use Rattle.testing.proofs.refine_lsp.Tie as tie
 
 abbrev Inv-loop : tie.InvT-loop
 Inv-loop run pyramid body s m out₀ d₀ next₀ i₀ out d next i = (chan out d (next .at) ≡ sharpenedAll (side run pyramid body) (known (run .n) i s) (chan out₀ d₀ (next₀ .at))) × (next .at ≡ next₀ .at + i) × (i ≤ m) × (length out ≡ length out₀) × (length d ≡ length d₀)

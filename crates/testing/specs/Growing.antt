@@ -15,9 +15,13 @@ use Rattle.rules.specs.Laws.PassSteps.{signNoted, bitNoted}
 use Rattle.rules.specs.Laws.Count.{sum, is, is-same}
 use Rattle.rules.specs.Laws.PassKept.{Kept}
 use Rattle.rules.specs.Laws.Rounding.{signed-magnitude}
-use Rattle.passes.specs.declared.Run.{Run}
-use Rattle.passes.specs.Exchange.{Chan, noted, side, quiet-toLip, quiet-stays, quiet-moves}
-use Rattle.passes.specs.Steps.{Growth}
+use Rattle.testing.specs.declared.Run.{Run}
+use Rattle.testing.specs.Exchange.{Chan, noted, side, quiet-toLip, quiet-stays, quiet-moves}
+
+-- No coefficient outgrows a bound, though those of ks are still to be refined, each once.
+pub record Growth (plane bound : ℕ) (d : List ℤ) (ks : List ℕ) : Type 0 where
+  pub small : (q : ℕ) → magnitude d q + 2 ^ plane * sum (is q) ks < bound
+  pub once : (q : ℕ) → sum (is q) ks ≤ 1
 
 -- a coefficient written, and what is added to one
 magnitude-set : (v : List ℤ) (p q : ℕ) (y : ℤ) (b : ℕ) → (q ≡ p → natAbs y ≤ b) → magnitude v q ≤ b → magnitude (set v p y) q ≤ b

@@ -1,7 +1,8 @@
-use Rattle.passes.proofs.Leaves.{replied-read, replied-said, says-significant}
+use Rattle.testing.specs.Exchange.{replied-read, replied-said}
+use Rattle.testing.proofs.Leaves.{says-significant}
 use borrow.Author.Needs.{needs}
-use Rattle.passes.proofs.ask_significant.Statement.{statement}
-use Rattle.passes.proofs.ask_significant.Tie as tie
+use Rattle.testing.proofs.ask_significant.Statement.{statement}
+use Rattle.testing.proofs.ask_significant.Tie as tie
 
 read-requires : tie.Need-read-requires
 read-requires c κs = search needs

@@ -1,8 +1,8 @@
 use Rattle.rules.specs.Document.Passes.{written}
-use Rattle.passes.proofs.Leaves.{noted-written, noted-none}
+use Rattle.testing.proofs.Leaves.{noted-written, noted-none}
 use borrow.Author.Needs.{needs}
-use Rattle.passes.proofs.note_found.Statement.{statement}
-use Rattle.passes.proofs.note_found.Tie as tie
+use Rattle.testing.proofs.note_found.Statement.{statement}
+use Rattle.testing.proofs.note_found.Tie as tie
 
 write-found-requires : tie.Need-write-found-requires
 write-found-requires c κs = search needs

@@ -11,7 +11,7 @@ use Rattle.bits.specs.Bits.{setBit}
 use Rattle.rules.specs.Document.Pyramid.{Family, family, magnitude, negative}
 use Rattle.rules.specs.Document.Passes.{Entry, Question, Event, toLip, stays, moves, Side, truth, written}
 use Rattle.rules.specs.Document.Layout.{bitAt}
-use Rattle.passes.specs.declared.Run.{Run}
+use Rattle.testing.specs.declared.Run.{Run}
 
 -- the bytes of the output, the coefficients written, and the place of the next bit
 pub record Chan : Type 0 where
@@ -60,8 +60,25 @@ module _ (run : Run) (pyramid : List ℤ) (body : List ℕ) where
         note = λ e x. chan (x .bytes) (noted run e (x .pyramid)) (x .at);
       }
 
+  -- bytes and place stay as they are where something is noted
+  pub notes : (e : Event) (out : List ℕ) (d : List ℤ) (t : ℕ) → side .note e (chan out d t) ≡ chan out (noted run e d) t
+  unfolding side
+  notes e out d t = refl
+
 -- A question was asked at a place; the coefficients are what they were.
 pub record Replied (C : Side Chan) (q : Question) (out : List ℕ) (at : BitPosition) (r : BitRead) (out′ : List ℕ) : Type 0 where
   pub bit : (d : List ℤ) → C .reply q (chan out d (at .at)) .bit ≡ r .bit
   pub next : (d : List ℤ) → C .reply q (chan out d (at .at)) .next ≡ chan out′ d (r .next .at)
   pub place : r .next .at ≡ at .at + 1
+
+-- a reply read, and one written
+module _ (run : Run) (pyramid : List ℤ) (body out : List ℕ) (at : BitPosition) where
+  pub replied-read : (q : Question) (r : BitRead) → run .reads ≡ true → r .bit ≡ bitAt body (at .at) → r .next .at ≡ at .at + 1
+      → Replied (side run pyramid body) q out at r out
+  unfolding side
+  replied-read q r h b n = record { bit = λ d. rw (h, b); next = λ d. rw (h, n); place = n }
+
+  pub replied-said : (q : Question) (r : BitRead) {out′ : List ℕ} {b : Bool} → run .reads ≡ false → b ≡ answer run pyramid body q
+      → r .bit ≡ b → r .next .at ≡ at .at + 1 → out′ ≡ setBit out (at .at) b → Replied (side run pyramid body) q out at r out′
+  unfolding side
+  replied-said q r h e b n o = record { bit = λ d. rw (b, e, h); next = λ d. rw (n, o, e, h); place = n }

@@ -7,7 +7,7 @@ use native.Mathlib.Omega.{arith}
 use lib.ListN.{length, length-append}
 use lib.IntN.{ℤ}
 use Rattle.bits.specs.declared.BitRead.{BitRead}
-use Rattle.rules.specs.Document.Passes.{significant?, negative?, Event, toLip, toLsp, Side, listing}
+use Rattle.rules.specs.Document.Passes.{significant?, negative?, toLip, toLsp, Side, listing}
 use Rattle.rules.specs.Laws.PassSteps.{signNoted, tried, triedAll, tried-insignificant, tried-significant, tried-toLip, tried-toLsp, triedAll-append}
 use Rattle.rules.specs.declared.Size.{Size}
 use Rattle.rules.specs.Document.Pyramid.{greatestSide}
@@ -16,22 +16,18 @@ use Rattle.shape.specs.Offspring.{offspringList}
 use Rattle.lists.specs.declared.Fill.{Fill}
 use Rattle.lists.specs.Seg.{seg}
 use Rattle.lists.specs.Stretch.{waiting, Fits, LipPushed, LspPushed, waiting-add, waiting-none, waiting-length}
-use Rattle.passes.specs.declared.Run.{Run}
-use Rattle.passes.specs.declared.Stand.{Stand}
-use Rattle.passes.specs.declared.Candidates.{Candidates}
-use Rattle.passes.specs.declared.Candidates.the-variants.{Waiting, Four}
-use Rattle.passes.specs.Exchange.{Chan, chan, noted, side, Replied, quiet-toLip}
-use Rattle.passes.specs.Steps.{courseOf, course, candidates, Choosing, Suited, Testing, Tested}
+use Rattle.testing.specs.declared.Run.{Run}
+use Rattle.testing.specs.declared.Stand.{Stand}
+use Rattle.testing.specs.declared.Candidates.{Candidates}
+use Rattle.testing.specs.declared.Candidates.the-variants.{Waiting, Four}
+use Rattle.testing.specs.Exchange.{Chan, chan, noted, side, notes, Replied, quiet-toLip}
+use Rattle.testing.specs.Tests.{courseOf, course, candidates, Choosing, Suited, Testing, Tested, tested-none}
 
 one-tried : {S : Type 0} (C : Side S) (p : ℕ) (s : S) → triedAll C (p ∷ []) s ≡ tried C p s
 unfolding triedAll
 one-tried C p s = refl
 
 module _ (run : Run) (pyramid : List ℤ) (body : List ℕ) where
-  pub notes : (e : Event) (out : List ℕ) (d : List ℤ) (t : ℕ) → side run pyramid body .note e (chan out d t) ≡ chan out (noted run e d) t
-  unfolding side
-  notes e out d t = refl
-
   abbrev C : Side Chan
   C = side run pyramid body
 
@@ -42,7 +38,7 @@ module _ (run : Run) (pyramid : List ℤ) (body : List ℕ) where
 
     insignificant-side : found .bit ≡ false → tried C p x ≡ chan out₁ d (found .next .at)
     insignificant-side h =
-        tried-insignificant C p x (R .bit d ∙ h) ∙ ap (C .note (toLip p)) (R .next d) ∙ notes (toLip p) out₁ d (found .next .at)
+        tried-insignificant C p x (R .bit d ∙ h) ∙ ap (C .note (toLip p)) (R .next d) ∙ notes run pyramid body (toLip p) out₁ d (found .next .at)
         ∙ ap (λ y. chan out₁ y (found .next .at)) (quiet-toLip run p d)
 
     pub tested-insignificant : {s′ : List ℕ} {f : Fill} → found .bit ≡ false → LipPushed n s (w .fill) p s′ f
@@ -74,7 +70,7 @@ module _ (run : Run) (pyramid : List ℤ) (body : List ℕ) where
           tried-significant C p x (R .bit d ∙ h)
           ∙ ap (λ y. signNoted C p (C .reply (negative? p) y)) (R .next d)
           ∙ ap₂ (λ b y. C .note (toLsp p b) y) (Q .bit d) (Q .next d)
-          ∙ notes (toLsp p (sign .bit)) out₂ d (sign .next .at)
+          ∙ notes run pyramid body (toLsp p (sign .bit)) out₂ d (sign .next .at)
           ∙ ap (λ y. chan out₂ y (sign .next .at)) (sym e)
 
       pub tested-significant : {s′ : List ℕ} {f : Fill} → LspPushed n s (w .fill) p s′ f → Tested C (p ∷ []) n s out d w s′ out₂ d′ (record { fill = f; at = sign .next })
@@ -97,26 +93,7 @@ module _ (run : Run) (pyramid : List ℤ) (body : List ℕ) where
             place = omega (arith, R .place, Q .place);
           }
 
--- none, and one after another
-pub tested-none : (C : Side Chan) (n : ℕ) (s out : List ℕ) (d : List ℤ) (w : Stand) → Fits n s (w .fill) → Tested C [] n s out d w s out d w
-unfolding triedAll
-tested-none C n s out d w h =
-    record {
-      makes = refl;
-      todo = refl;
-      fits = h;
-      ahead = λ i m a b. refl;
-      known = λ m a. refl;
-      visited = refl;
-      left = refl;
-      kept = refl;
-      moved = refl;
-      both = omega arith;
-      lip = omega arith;
-      lsp = omega arith;
-      place = omega arith;
-    }
-
+-- one after another
 pub tested-on : {C : Side Chan} {ps qs : List ℕ} {n : ℕ} {s out s₁ out₁ s₂ out₂ : List ℕ} {d d₁ d₂ : List ℤ} {w w₁ w₂ : Stand}
     → Tested C ps n s out d w s₁ out₁ d₁ w₁ → Tested C qs n s₁ out₁ d₁ w₁ s₂ out₂ d₂ w₂ → Tested C (ps ++ qs) n s out d w s₂ out₂ d₂ w₂
 tested-on {C} {ps} {qs} {n} {s} {out} {d = d} {w = w} a b =
@@ -137,7 +114,7 @@ tested-on {C} {ps} {qs} {n} {s} {out} {d = d} {w = w} a b =
       place = omega (arith, a .place, b .place);
     }
 
--- the four offspring of a block, one by one and all
+-- the four offspring of a block, one by one
 pub four-first : (z : Size) (first i : ℕ) → i < 2 → waiting i 1 (offspringList z (Block first)) ≡ (first + i) ∷ []
 unfolding waiting seg offspringList
 four-first z first zero h = ap (λ (x : ℕ). x ∷ []) (omega arith)
@@ -151,11 +128,6 @@ four-below z first (suc zero) h l = absurd (omega arith)
 four-below z first (suc (suc zero)) h l = ap (λ (x : ℕ). x ∷ []) (omega arith)
 four-below z first (suc (suc (suc zero))) h l = ap (λ (x : ℕ). x ∷ []) (omega arith)
 four-below z first (suc (suc (suc (suc i)))) h l = absurd (omega arith)
-
-pub four-tested : (z : Size) (first : ℕ) {C : Side Chan} {n : ℕ} {s out s₁ out₁ : List ℕ} {d d₁ : List ℤ} {w w₁ : Stand}
-    → Tested C (waiting 0 4 (offspringList z (Block first))) n s out d w s₁ out₁ d₁ w₁ → Tested C (offspringList z (Block first)) n s out d w s₁ out₁ d₁ w₁
-unfolding waiting seg offspringList
-four-tested z first T = T
 
 module _ (run : Run) {from : Candidates} (i : ℕ) (s : List ℕ) where
   pub choosing-waiting : from ≡ Waiting → Choosing run from i s → i < length s
