@@ -41,6 +41,7 @@ pub mod Results
 pub mod Serving
 pub mod CallCases
 pub mod Demand1
+pub mod Exports
 pub mod Determined
 pub mod Demands
 pub mod Rounding

@@ -38,13 +38,13 @@ use Rattle.rules.specs.Laws.Followed.{Arrives, decodes-rebuilt}
 use Rattle.rules.specs.Laws.Arrival.{ReadsAs, header-read, parts-stand, arrived-reads, arrived-selection, legal-order}
 
 -- The reached planes, place by place.
-map-from : {X : Type 0} (f : ℕ → X) (d : X) (a m i : ℕ) → i < m → getD (map f (from a m)) i d ≡ f (a + i)
+pub map-from : {X : Type 0} (f : ℕ → X) (d : X) (a m i : ℕ) → i < m → getD (map f (from a m)) i d ≡ f (a + i)
 unfolding from
 map-from f d a zero i l = absurd (omega arith)
 map-from f d a (suc m) zero l = let e : a ≡ a + 0 = omega arith in ap f e
 map-from f d a (suc m) (suc i) l = let e : suc a + i ≡ a + suc i = omega arith in map-from f d (suc a) m i (omega arith) ∙ ap f e
 
-map-length : {X : Type 0} (f : ℕ → X) (a m : ℕ) → length (map f (from a m)) ≡ m
+pub map-length : {X : Type 0} (f : ℕ → X) (a m : ℕ) → length (map f (from a m)) ≡ m
 unfolding from
 map-length f a zero = refl
 map-length f a (suc m) = omega (arith, map-length f (suc a) m)
@@ -95,12 +95,12 @@ there-kept keep ps p h = by (keep p) refl
     by false e =
         absurd (true≢false (sym h ∙ absent (λ x. keep x ≡ true) (names (kept keep ps)) p (kept-passes keep ps) (λ t. true≢false (sym t ∙ e))))
 
-blank-zero : (n q : ℕ) → getD (replicate n (pos 0)) q (pos 0) ≡ pos 0
-blank-zero n q = by (decLt q n)
+pub blank-same : {X : Type 0} (d : X) (n q : ℕ) → getD (replicate n d) q d ≡ d
+blank-same d n q = by (decLt q n)
   where
-    by : Dec (q < n) → getD (replicate n (pos 0)) q (pos 0) ≡ pos 0
-    by (yes l) = getD-replicate n q (pos 0) (pos 0) l
-    by (no l) = List·getD-eq-default (replicate n (pos 0)) (pos 0) {n = q} (omega (arith, length-replicate n (pos 0)))
+    by : Dec (q < n) → getD (replicate n d) q d ≡ d
+    by (yes l) = getD-replicate n q d d l
+    by (no l) = List·getD-eq-default (replicate n d) d {n = q} (omega (arith, length-replicate n d))
 
 start-fresh : (z : Size) (k : ℕ) → start z k .lsp ≡ []
 start-fresh z k = by (ℕ-discrete k (levels z))
@@ -177,7 +177,7 @@ module _ (z : Size) (ok : legalSize z ≡ true) (planes : ℕ) (few : planes ≤
     ends =
         rebuilt-ends (lawful z Z) (magnitude pyramid) (negative pyramid) R (levels z) all (area z) once inside planes
         (λ j a b. reached-within (levels z) planes there j) small (start z) (start-sound z Z) (start-fresh z) blank
-        (length-replicate (area z) (pos 0)) (blank-zero (area z))
+        (length-replicate (area z) (pos 0)) (blank-same (pos 0) (area z))
 
     -- decoding, where the header and these parts are what is read
     module _ {cut : ℕ} {bytes : List ℕ} (read : ReadsAs z planes (kept keep (coderParts z planes pyramid)) cut bytes) (room work : ℕ)

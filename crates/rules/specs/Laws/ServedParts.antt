@@ -8,36 +8,39 @@ use lib.ListN.{length, take, drop}
 use lib.Seq.{take-append-seam}
 use Rattle.rules.specs.declared.Size.{Size}
 use Rattle.rules.specs.declared.Refusal.the-variants as refusal
+use Rattle.rules.specs.declared.Part.{Part}
 use Rattle.rules.specs.Document.Notation.{flat}
 use Rattle.rules.specs.Document.Pyramid.{legalSize, mostPlanes}
-use Rattle.rules.specs.Document.Layout.{headerBytes, CodedPart, partBytes}
-use Rattle.rules.specs.Document.Numbers.{headed}
+use Rattle.rules.specs.Document.Passes.{PartName}
+use Rattle.rules.specs.Document.Layout.{headerBytes, CodedPart, partBytes, wholeOf, nameOf}
 use Rattle.rules.specs.Document.Calls.{accepted, unless, onHeader, onEnding, legalAsk, keptOf, servedBytes, Portion, portioned, serving}
 use Rattle.rules.specs.Laws.Results.{unless-accepted, accepted-same}
-use Rattle.rules.specs.Laws.ReadBackPart.{headerOf, partAt, part-whole, next-stands}
+use Rattle.rules.specs.Laws.ReadBackPart.{headerOf, partAt, part-name, part-whole, next-stands}
 use Rattle.rules.specs.Laws.ReadBack.{recordBytes, partsAt, selection}
 use Rattle.rules.specs.Laws.Demands.{kept, asked}
 use Rattle.rules.specs.Laws.Arrival.{ReadsAs, header-read, parts-stand}
 
-module _ (s : List ℕ) (r p : ℕ) where
-  kept-one : (place : ℕ) (q : CodedPart) (rest : List ℕ) → drop place s ≡ partBytes q ++ rest
-      → keptOf s r p (partAt place q) ≡ cond (asked r p (q .name)) (partBytes q) []
-  unfolding keptOf partAt headed
-  kept-one place q rest stands = ap (λ x. cond (asked r p (q .name)) x []) (part-whole s place q rest stands)
+-- Of parts one behind the other in s: where f takes all of a part that the test keeps and nothing of another, it takes the bytes of those kept.
+pub kept-wholes : (keep : PartName → Bool) (s : List ℕ) (f : Part → List ℕ)
+    → ((q : Part) → f q ≡ cond (keep (nameOf q)) (wholeOf s q) []) → (place : ℕ) (ps : List CodedPart) (rest : List ℕ)
+    → drop place s ≡ flat partBytes ps ++ rest → flat f (partsAt place ps) ≡ flat partBytes (kept keep ps)
+unfolding flat partsAt selection
+kept-wholes keep s f each place [] rest stands = refl
+kept-wholes keep s f each place (q ∷ ps) rest stands =
+    let this : drop place s ≡ partBytes q ++ (flat partBytes ps ++ rest) = stands ∙ append-assoc (partBytes q) (flat partBytes ps) rest in
+    let one : f (partAt place q) ≡ cond (keep (q .name)) (partBytes q) []
+    = each (partAt place q) ∙ ap₂ (λ n x. cond (keep n) x []) (part-name place q) (part-whole s place q (flat partBytes ps ++ rest) this) in
+    ap₂ (λ x y. x ++ y) one
+    (kept-wholes keep s f each (place + length (partBytes q)) ps rest (next-stands s place q (flat partBytes ps ++ rest) this))
+    ∙ by (keep (q .name))
+  where
+    by : (b : Bool) → cond b (partBytes q) [] ++ flat partBytes (kept keep ps) ≡ flat partBytes (cond b (q ∷ kept keep ps) (kept keep ps))
+    by true = refl
+    by false = refl
 
-  kept-wholes : (place : ℕ) (ps : List CodedPart) (rest : List ℕ) → drop place s ≡ flat partBytes ps ++ rest
-      → flat (keptOf s r p) (partsAt place ps) ≡ flat partBytes (kept (asked r p) ps)
-  unfolding flat partsAt selection
-  kept-wholes place [] rest stands = refl
-  kept-wholes place (q ∷ ps) rest stands =
-      let this : drop place s ≡ partBytes q ++ (flat partBytes ps ++ rest) = stands ∙ append-assoc (partBytes q) (flat partBytes ps) rest in
-      ap₂ (λ x y. x ++ y) (kept-one place q (flat partBytes ps ++ rest) this)
-      (kept-wholes (place + length (partBytes q)) ps rest (next-stands s place q (flat partBytes ps ++ rest) this))
-      ∙ by (asked r p (q .name))
-    where
-      by : (b : Bool) → cond b (partBytes q) [] ++ flat partBytes (kept (asked r p) ps) ≡ flat partBytes (cond b (q ∷ kept (asked r p) ps) (kept (asked r p) ps))
-      by true = refl
-      by false = refl
+asked-whole : (s : List ℕ) (r p : ℕ) (q : Part) → keptOf s r p q ≡ cond (asked r p (nameOf q)) (wholeOf s q) []
+unfolding keptOf nameOf
+asked-whole s r p q = refl
 
 pub serves-read : {z : Size} {planes : ℕ} {ps : List CodedPart} {cut : ℕ} {bytes : List ℕ} → ReadsAs z planes ps cut bytes → legalSize z ≡ true
     → planes ≤ mostPlanes → (r p room : ℕ)
@@ -49,7 +52,7 @@ serves-read {z} {planes} {ps} {cut} {bytes} read ok l r p room =
     = ap (take (length (headerBytes z planes))) (read .stand) ∙ take-append-seam (headerBytes z planes) (flat partBytes ps ++ read .rest) in
     rw (header-read read ok l, read .parts-read)
     (ap₂ (λ x y. unless (legalAsk (headerOf z planes) r p) refusal.Ask (portioned (x ++ y) cut room)) front
-    (kept-wholes bytes r p (length (headerBytes z planes)) ps (read .rest) (parts-stand read)))
+    (kept-wholes (asked r p) bytes (keptOf bytes r p) (asked-whole bytes r p) (length (headerBytes z planes)) ps (read .rest) (parts-stand read)))
 
 pub served-read : {z : Size} {planes : ℕ} {ps : List CodedPart} {cut : ℕ} {bytes : List ℕ} → ReadsAs z planes ps cut bytes → legalSize z ≡ true
     → planes ≤ mostPlanes → (r p room : ℕ) (x : Portion) → serving bytes r p room ≡ accepted x

@@ -77,6 +77,19 @@ module _ (top planes : ℕ) (there : List PartName) where
           let h : usable top planes there (at 0 k) ≡ true = every-usable _ (λ q a b c. absurd (omega (arith, a .upTo))) in
           omega (arith, leb-true (reached top planes there k) 0 (sym (usable-reached 0 k x) ∙ h))
 
+-- What is lost shows: a part (n, k) that is not there makes the plane reached by level k greater than n, and that of every finer level too. (Only
+-- a level's first gap is told: of what is missing under it nothing can be said.)
+pub loss-shows : (top planes : ℕ) (there : List PartName) (n k : ℕ) → Named top planes (at n k) → present there (at n k) ≡ false
+    → (j : ℕ) → j ≤ k → n < reached top planes there j
+loss-shows top planes there n k named lost j finer = cases (decLt n (reached top planes there j))
+  where
+    cases : Dec (n < reached top planes there j) → n < reached top planes there j
+    cases (yes l) = l
+    cases (no l) =
+        let could : usable top planes there (at n j) ≡ true
+        = usable-reached top planes there n j (named .under) ∙ le-leb (reached top planes there j) n (omega arith) in
+        absurd (true≢false (sym (usable-every top planes there (at n j) could (at n k) named (omega arith) finer) ∙ lost))
+
 -- Before any part is there, no plane is reached.
 pub reached-none : (top planes k : ℕ) → 1 ≤ k → k ≤ top → reached top planes [] k ≡ planes
 reached-none top planes k a b = cases (decLt (reached top planes [] k) planes)
