@@ -55,3 +55,5 @@ pub mod RoundedRun
 pub mod ServedParts
 pub mod Demand3
 pub mod Demand2
+pub mod Memory
+pub mod MemoryProofs

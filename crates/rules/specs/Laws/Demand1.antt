@@ -4,7 +4,7 @@ use mathlib.Core.Path.{_≡_, refl, ap, ap₂, sym, _∙_, subst}
 use mathlib.Core.List.{List, [], _∷_, _++_}
 use mathlib.Core.Bool.{true}
 use mathlib.Core.Logic.{_↔_}
-use Prim.Native.Nat.{ℕ, _-_, _≤_}
+use Prim.Native.Nat.{ℕ, _-_}
 use native.Mathlib.Omega.{arith}
 use lib.Dec.{eqb}
 use lib.ListN.{length, getD, replicate}
@@ -28,6 +28,7 @@ use Rattle.rules.specs.Document.Calls.{Result, refused, accepted, coding
 use Rattle.rules.specs.Document.Calls.{codeOut, codeAnswer, serveOut, serveAnswer, decodeOut, decodeAnswer, Coding, Serving, Decoding}
 use Rattle.rules.specs.Laws.Causes.{HeaderCase, HEAD, VERSION, HEAD-later, SIZE, PartCase, PART-malformed, PART, PAD, Walk, MORE, FAULT}
 use Rattle.rules.specs.Laws.Causes.{CodingCase, LENGTH, WORK, RANGE, ROOM, CODED, ServingCase, HEADER, ASK, PARTS, SERVED, DecodingCase, FIT, DECODED}
+use Rattle.rules.specs.Laws.Results.{refusal-some}
 use Rattle.rules.specs.Laws.CallCases.{coding-case, coding-is, serving-case, serving-is, decoding-case, decoding-is}
 
 -- The numbers that each routine may give.
@@ -61,19 +62,19 @@ refusalOf n at =
     ∷ refusal.Fit at ∷ refusal.Ask ∷ []
     ) (n - 1) refusal.Size
 
-refusal-told : (r : Refusal) → (refusalOf (refusalNumber r) (refusalPlace r) ≡ r) × (1 ≤ refusalNumber r)
+refusal-told : (r : Refusal) → refusalOf (refusalNumber r) (refusalPlace r) ≡ r
 unfolding refusalOf
-refusal-told refusal.Size = (refl, omega arith)
-refusal-told refusal.Length = (refl, omega arith)
-refusal-told refusal.Work = (refl, omega arith)
-refusal-told (refusal.Range i) = (refl, omega arith)
-refusal-told refusal.Room = (refl, omega arith)
-refusal-told (refusal.Head i) = (refl, omega arith)
-refusal-told refusal.Version = (refl, omega arith)
-refusal-told (refusal.Part i) = (refl, omega arith)
-refusal-told (refusal.Pad i) = (refl, omega arith)
-refusal-told (refusal.Fit i) = (refl, omega arith)
-refusal-told refusal.Ask = (refl, omega arith)
+refusal-told refusal.Size = refl
+refusal-told refusal.Length = refl
+refusal-told refusal.Work = refl
+refusal-told (refusal.Range i) = refl
+refusal-told refusal.Room = refl
+refusal-told (refusal.Head i) = refl
+refusal-told refusal.Version = refl
+refusal-told (refusal.Part i) = refl
+refusal-told (refusal.Pad i) = refl
+refusal-told (refusal.Fit i) = refl
+refusal-told refusal.Ask = refl
 
 verdictOf : {X : Type 0} → Result X → Verdict
 verdictOf (refused r) = Refused r
@@ -83,12 +84,12 @@ module _ {X : Type 0} where
   told-refused : (y : Result X) (r : Refusal) → verdictNumber (verdictOf y) ≡ refusalNumber r → verdictPlace (verdictOf y) ≡ refusalPlace r
       → y ≡ refused r
   unfolding verdictOf
-  told-refused (refused q) r n at = ap refused (sym (refusal-told q .0) ∙ ap₂ refusalOf n at ∙ refusal-told r .0)
-  told-refused (accepted x) r n at = absurd (omega (arith, refusal-told r .1))
+  told-refused (refused q) r n at = ap refused (sym (refusal-told q) ∙ ap₂ refusalOf n at ∙ refusal-told r)
+  told-refused (accepted x) r n at = absurd (omega (arith, refusal-some r))
 
   told-accepted : (y : Result X) → verdictNumber (verdictOf y) ≡ 0 → (x : X) × (y ≡ accepted x)
   unfolding verdictOf
-  told-accepted (refused r) n = absurd (omega (arith, refusal-told r .1))
+  told-accepted (refused r) n = absurd (omega (arith, refusal-some r))
   told-accepted (accepted x) n = (x, refl)
 
   -- A call whose result has its case, and no other's.

@@ -1,13 +1,16 @@
 -- What comes of a test, a header and an ending, for whatever is claimed of a result; and a call that was accepted passed each of them.
 use mathlib.Core.Path.{_≡_, refl}
 use mathlib.Core.Bool.{Bool, true, false}
-use Prim.Native.Nat.{ℕ}
+use Prim.Native.Nat.{ℕ, _≤_}
 use native.Mathlib.Omega.{arith}
 use Rattle.rules.specs.declared.Refusal.{Refusal}
+use Rattle.rules.specs.declared.Refusal.the-variants as refusal
+use Rattle.rules.specs.declared.Verdict.{Verdict}
+use Rattle.rules.specs.declared.Verdict.the-variants.{Accepted, Refused}
 use Rattle.rules.specs.declared.Header.{Header}
 use Rattle.rules.specs.declared.HeaderRead.{HeaderRead}
 use Rattle.rules.specs.declared.HeaderRead.the-variants as header
-use Rattle.rules.specs.Document.Numbers.{Ending, tail, fault}
+use Rattle.rules.specs.Document.Numbers.{refusalNumber, verdictNumber, Ending, tail, fault}
 use Rattle.rules.specs.Document.Calls.{Result, refused, accepted, unless, onHeader, onEnding}
 
 module _ {X : Type 0} (P : Result X → Type 0) where
@@ -46,3 +49,21 @@ module _ {X : Type 0} where
   unfolding onEnding
   onEnding-accepted (tail t) go x e = (t, refl, e)
   onEnding-accepted (fault r) go x e = absurd (let z : _≡_ {A = ℕ} 0 1 = cc in omega arith)
+
+-- No refusal has the number 0.
+pub refusal-some : (r : Refusal) → 1 ≤ refusalNumber r
+refusal-some refusal.Size = omega arith
+refusal-some refusal.Length = omega arith
+refusal-some refusal.Work = omega arith
+refusal-some (refusal.Range i) = omega arith
+refusal-some refusal.Room = omega arith
+refusal-some (refusal.Head i) = omega arith
+refusal-some refusal.Version = omega arith
+refusal-some (refusal.Part i) = omega arith
+refusal-some (refusal.Pad i) = omega arith
+refusal-some (refusal.Fit i) = omega arith
+refusal-some refusal.Ask = omega arith
+
+pub number-accepts : (v : Verdict) → verdictNumber v ≡ 0 → v ≡ Accepted
+number-accepts Accepted e = refl
+number-accepts (Refused r) e = absurd (omega (arith, refusal-some r))
