@@ -15,7 +15,8 @@ use Rattle.rules.specs.Document.Notation.{zeros}
 use Rattle.rules.specs.Document.Passes.{from}
 use Rattle.rules.specs.Document.Numbers.{verdictNumber}
 use Rattle.rules.specs.Document.Calls.{coding, serving, decoding, filled, codeAnswer, serveAnswer, decodeAnswer, Coding, Serving, Decoding}
-use Rattle.rules.specs.Document.Calls.{codeNumbers, serveNumbers, decodeNumbers, codePlaces, servePlaces, decodePlaces, returned, reported, lentOut, AfsCode, AfsServe, AfsDecode}
+use Rattle.rules.specs.Document.Calls.{codeNumbers, serveNumbers, decodeNumbers, codePlaces, servePlaces, decodePlaces, returned, reported}
+use Rattle.rules.specs.Document.Calls.{lentOut, AfsCode, AfsServe, AfsDecode}
 
 -- "A slice shorter than the answer gives 5 before any other check, with that slice and the output all 0." In one that is long
 -- enough stands the routine's answer, the rest 0, and its number is returned.

@@ -4,7 +4,7 @@
 use mathlib.Core.Path.{_≡_}
 use mathlib.Core.List.{List, [], _++_, map}
 use mathlib.Core.Bool.{Bool, false, cond}
-use Prim.Native.Nat.{ℕ, zero, _+_, _-_, _≤_, _<_}
+use Prim.Native.Nat.{ℕ, _+_, _-_, _≤_, _<_}
 use lib.ListN.{length, getD, take}
 use lib.IntN.{ℤ, pos}
 use Rattle.rules.specs.declared.Size.{Size}
@@ -17,12 +17,13 @@ use Rattle.rules.specs.declared.HeaderRead.the-variants as header
 use Rattle.rules.specs.declared.Part.{Part}
 use Rattle.rules.specs.Document.Notation.{flat, zeros}
 use Rattle.rules.specs.Document.Pyramid.{area, levels, levelOf, magnitude, negative}
-use Rattle.rules.specs.Document.Passes.{PartName, signed, from}
+use Rattle.rules.specs.Document.Passes.{PartName, partNames, signed}
 use Rattle.rules.specs.Document.Layout.{CodedPart, planesIn, partsOf, recordOf, bodyOf, wholeOf, nameOf, reached}
 use Rattle.rules.specs.Document.Numbers.{verdictNumber, verdictPlace, readHeader, readParts}
 use Rattle.rules.specs.Document.Calls.{Coding, Serving, Decoding, AfsCode, AfsServe, AfsDecode, decodePlaces, planeIn}
 use Rattle.rules.specs.Laws.Parts.{at, Named, present}
 use Rattle.rules.specs.Laws.ReadBackBody.{bitsFrom}
+use Rattle.rules.specs.Laws.ReadBackPart.{headerOf}
 use Rattle.rules.specs.Laws.Demands.{Codable, Stated, names, kept, asked, wholeIn, tailIn, towardZero, Near}
 
 -- WHAT ARRIVES
@@ -53,11 +54,14 @@ module _ {bytes s : List ℕ} (x : Selected bytes s) where
 
 -- WHAT IS PROMISED
 
--- Of coding: in these bytes stands the record of the pyramid, and every part of every plane and level can be read in it.
+-- Of coding: in these bytes stands the record of the pyramid, bit for bit; its header can be read, and behind it every part of every plane and
+-- level.
 pub record Recorded (z : Size) (pyramid : List ℤ) (bytes : List ℕ) : Type 0 where
   pub codable : Codable z pyramid
   pub its-bytes : bytes ≡ recordOf z pyramid
-  pub its-parts : (h : Header) → readHeader bytes ≡ header.Header h → (h .size ≡ z) × (partsIn h bytes ≡ partsOf z pyramid)
+  pub its-header : readHeader bytes ≡ header.Header (headerOf z (planesIn pyramid))
+  pub its-parts : partsIn (headerOf z (planesIn pyramid)) bytes ≡ partsOf z pyramid
+  pub every-part : names (partsIn (headerOf z (planesIn pyramid)) bytes) ≡ partNames (levels z) (planesIn pyramid)
 
 -- Of serving s for level r and plane p, where s was itself a selection x of what stands in `bytes`: what is served is one too, of just the parts
 -- that arrived whole and were asked for, none of them cut; and the tail that is told is what s had of a part that was cut.
@@ -100,9 +104,9 @@ planesAnswered told k = planeIn (told .reached) (k - 1)
 -- THE THEOREM, `from-memory-to-memory`, for any pyramid and size and for buffers whatever they held. That coding and serving came back with
 -- number 0 is all that is supposed of them; of decoding not even that, but buffers of the stated sizes.
 pub record FromMemoryToMemory : Type 0 where
-  -- Coded: in the output stands the record.
+  -- Coded: at the front of the output stands the record.
   pub coded : {pyramid : List ℤ} {z : Size} {out work answer out′ work′ answer′ : List ℕ} → AfsCode pyramid z out work answer 0 out′ work′ answer′
-      → Recorded z pyramid (take (getD answer′ 2 0) out′)
+      → Recorded z pyramid (take (getD answer′ 2 0) out′) × (getD answer′ 2 0 ≤ length out′)
   -- Coded, any selection of what stands in the coder's output, cut anywhere, and decoded.
   pub decoded : {pyramid : List ℤ} {z : Size} {out work answer out′ work′ answer′ s scratch told : List ℕ} {print print′ : List ℤ} {number : ℕ}
       {scratch′ told′ : List ℕ} → AfsCode pyramid z out work answer 0 out′ work′ answer′ → (x : Selected (take (getD answer′ 2 0) out′) s)
@@ -112,7 +116,7 @@ pub record FromMemoryToMemory : Type 0 where
   -- coding and decoding.
   pub served : {pyramid : List ℤ} {z : Size} {out work answer out′ work′ answer′ s : List ℕ} {r p : ℕ} {sent note sent′ note′ : List ℕ}
       → AfsCode pyramid z out work answer 0 out′ work′ answer′ → (x : Selected (take (getD answer′ 2 0) out′) s)
-      → AfsServe s r p sent note 0 sent′ note′ → Serves x r p (take (getD note′ 2 0) sent′) (getD note′ 3 0)
+      → AfsServe s r p sent note 0 sent′ note′ → Serves x r p (take (getD note′ 2 0) sent′) (getD note′ 3 0) × (getD note′ 2 0 ≤ length sent′)
   pub selected : {pyramid : List ℤ} {z : Size} {out work answer out′ work′ answer′ s t : List ℕ}
       → AfsCode pyramid z out work answer 0 out′ work′ answer′ → Selected (take (getD answer′ 2 0) out′) s → (y : Selected s t)
       → (again : Selected (take (getD answer′ 2 0) out′) t) × (wholeParts again ≡ wholeParts y) × (cutBytes again ≡ cutBytes y)
@@ -133,7 +137,7 @@ pub record FromMemoryToMemory : Type 0 where
 -- The same of the routines, `from-routine-to-routine`.
 pub record FromRoutineToRoutine : Type 0 where
   pub coded : {pyramid : List ℤ} {z : Size} {out work : List ℕ} {answer : Coded} {out′ work′ : List ℕ} → Coding pyramid z out work answer out′ work′
-      → answer .verdict ≡ Accepted → Recorded z pyramid (take (answer .length) out′)
+      → answer .verdict ≡ Accepted → Recorded z pyramid (take (answer .length) out′) × (answer .length ≤ length out′)
   pub decoded : {pyramid : List ℤ} {z : Size} {out work : List ℕ} {answer : Coded} {out′ work′ s scratch : List ℕ} {print print′ : List ℤ}
       {told : Decoded} {scratch′ : List ℕ} → Coding pyramid z out work answer out′ work′ → answer .verdict ≡ Accepted
       → (x : Selected (take (answer .length) out′) s) → Decoding s print scratch told print′ scratch′ → Stated z (length print) (length scratch)
@@ -141,7 +145,7 @@ pub record FromRoutineToRoutine : Type 0 where
       (planesAnswered told) print′ scratch scratch′
   pub served : {pyramid : List ℤ} {z : Size} {out work : List ℕ} {answer : Coded} {out′ work′ s : List ℕ} {r p : ℕ} {sent : List ℕ} {note : Served}
       {sent′ : List ℕ} → Coding pyramid z out work answer out′ work′ → answer .verdict ≡ Accepted → (x : Selected (take (answer .length) out′) s)
-      → Serving s r p sent note sent′ → note .verdict ≡ Accepted → Serves x r p (take (note .length) sent′) (note .tail)
+      → Serving s r p sent note sent′ → note .verdict ≡ Accepted → Serves x r p (take (note .length) sent′) (note .tail) × (note .length ≤ length sent′)
   pub selected : {pyramid : List ℤ} {z : Size} {out work : List ℕ} {answer : Coded} {out′ work′ s t : List ℕ}
       → Coding pyramid z out work answer out′ work′ → answer .verdict ≡ Accepted → Selected (take (answer .length) out′) s → (y : Selected s t)
       → (again : Selected (take (answer .length) out′) t) × (wholeParts again ≡ wholeParts y) × (cutBytes again ≡ cutBytes y)

@@ -23,8 +23,10 @@ use Rattle.rules.specs.Document.Pyramid.{area, levels, levelOf, magnitud
 use Rattle.rules.specs.Document.Passes.{PartName, signed, from}
 use Rattle.rules.specs.Document.Layout.{CodedPart, planesIn, partsOf, recordOf, headerBytes, partBytes, packed, bodyOf, nameOf, reached}
 use Rattle.rules.specs.Document.Numbers.{verdictNumber, verdictPlace, readHeader, readParts, headed}
-use Rattle.rules.specs.Document.Calls.{Result, refused, accepted, Portion, Picture, coding, serving, decoding, filled, codeOut, codeAnswer, serveOut, serveAnswer}
-use Rattle.rules.specs.Document.Calls.{decodeOut, decodeAnswer, codeNumbers, serveNumbers, decodeNumbers, codePlaces, servePlaces, decodePlaces, levelPlaces, planeIn}
+use Rattle.rules.specs.Document.Calls.{Result, refused, accepted, Portion, Picture, coding, serving, decoding, filled, codeOut, codeAnswer}
+use Rattle.rules.specs.Document.Calls.{serveOut, serveAnswer}
+use Rattle.rules.specs.Document.Calls.{decodeOut, decodeAnswer, codeNumbers, serveNumbers, decodeNumbers, codePlaces, servePlaces, decodePlaces}
+use Rattle.rules.specs.Document.Calls.{levelPlaces, planeIn}
 use Rattle.rules.specs.Document.Calls.{Coding, Serving, Decoding, AfsCode, AfsServe, AfsDecode}
 use Rattle.rules.specs.Laws.Count.{flat-append}
 use Rattle.rules.specs.Laws.Sizes.{legal}
@@ -37,12 +39,14 @@ use Rattle.rules.specs.Laws.ReadBackBody.{bitsFrom, packed-length, packe
 use Rattle.rules.specs.Laws.ReadBackPart.{headerOf, partAt, part-body}
 use Rattle.rules.specs.Laws.ReadBack.{recordBytes, beforeAll, parts-map}
 use Rattle.rules.specs.Laws.Demands.{Codable, Stated, names, kept, asked, wholeIn, tailIn, arrived, towardZero, Rounded}
-use Rattle.rules.specs.Laws.Arrival.{ReadsAs, header-read, parts-stand, AllThere, CutIn, all-or-cut, arrived-reads, arrived-selection, selection-both, legal-order}
+use Rattle.rules.specs.Laws.Arrival.{ReadsAs, header-read, parts-stand, AllThere, CutIn, all-or-cut, arrived-reads, arrived-selection}
+use Rattle.rules.specs.Laws.Arrival.{selection-both, legal-order}
 use Rattle.rules.specs.Laws.RoundedRun.{map-from, map-length, blank-same, kept-legal}
 use Rattle.rules.specs.Laws.ServedParts.{kept-wholes, served-read}
 use Rattle.rules.specs.Laws.Demand3.{coding-codable, planes-few, demand3, printed-near}
-use Rattle.rules.specs.Laws.Demand2.{demand2-record, demand2-whole}
-use Rattle.rules.specs.Laws.Memory.{partsIn, keptIn, Selected, wholeParts, cutBytes, Recorded, Serves, Decodes, planesTold, planesAnswered, FromMemoryToMemory, FromRoutineToRoutine}
+use Rattle.rules.specs.Laws.Demand2.{demand2-names, demand2-record, demand2-whole}
+use Rattle.rules.specs.Laws.Memory.{partsIn, keptIn, Selected, wholeParts, cutBytes, Recorded, Serves, Decodes, planesTold, planesAnswered}
+use Rattle.rules.specs.Laws.Memory.{FromMemoryToMemory, FromRoutineToRoutine}
 
 -- The parts that are read in bytes are the parts that were written there.
 bits-back : (bits : List Bool) → bitsFrom (packed bits) 0 (length bits) ≡ bits
@@ -76,7 +80,8 @@ module _ {z : Size} {planes : ℕ} {ps : List CodedPart} {cut : ℕ} {bytes : Li
       → take (front + n) (take front bytes ++ flat (keptIn keep bytes) (readParts (headerOf z planes) bytes .parts)) ≡ arrived z planes (kept keep ps) n
   unfolding arrived
   made-arrived keep n =
-      let head : take front bytes ≡ headerBytes z planes = ap (take front) (r .stand) ∙ take-append-seam (headerBytes z planes) (flat partBytes ps ++ r .rest) in
+      let head : take front bytes ≡ headerBytes z planes
+      = ap (take front) (r .stand) ∙ take-append-seam (headerBytes z planes) (flat partBytes ps ++ r .rest) in
       let some : flat (keptIn keep bytes) (readParts (headerOf z planes) bytes .parts) ≡ flat partBytes (kept keep ps)
       = ap (λ y. flat (keptIn keep bytes) (y .parts)) (r .parts-read)
       ∙ kept-wholes keep bytes (keptIn keep bytes) (λ q. unfold keptIn in refl) front ps (r .rest) (parts-stand r) in
@@ -97,42 +102,47 @@ module _ {z : Size} {planes : ℕ} {ps : List CodedPart} {cut : ℕ} {bytes : Li
       selected-parts = ap (λ h. partsIn h bytes) (head-is (x .head) (x .read)) ∙ parts-in
 
 -- What coding and serving accepted stands at the front of their output.
-record-stands : (bytes : List ℕ) (room : ℕ) → take (length bytes) (filled room bytes) ≡ bytes
+record-stands : (bytes : List ℕ) (room : ℕ) → (take (length bytes) (filled room bytes) ≡ bytes) × (length bytes ≤ length (filled room bytes))
 unfolding filled
-record-stands bytes room = take-append-seam bytes (zeros (room - length bytes))
+record-stands bytes room =
+    let rest : List ℕ = zeros (room - length bytes) in
+    (take-append-seam bytes rest, omega (arith, length-append bytes rest))
 
-coded-stands : (room : ℕ) (y : Result (List ℕ)) → codeAnswer y .verdict ≡ Accepted → y ≡ accepted (take (codeAnswer y .length) (codeOut room y))
+coded-stands : (room : ℕ) (y : Result (List ℕ)) → codeAnswer y .verdict ≡ Accepted
+    → (y ≡ accepted (take (codeAnswer y .length) (codeOut room y))) × (codeAnswer y .length ≤ length (codeOut room y))
 unfolding codeAnswer codeOut
 coded-stands room (refused r) e = absurd (let z : _≡_ {A = ℕ} 0 1 = cc in omega arith)
-coded-stands room (accepted bytes) e = ap accepted (sym (record-stands bytes room))
+coded-stands room (accepted bytes) e = let s = record-stands bytes room in (ap accepted (sym (s .0)), s .1)
 
 served-stands : (room : ℕ) (y : Result Portion) → serveAnswer y .verdict ≡ Accepted
-    → y ≡ accepted (record { bytes = take (serveAnswer y .length) (serveOut room y); tail = serveAnswer y .tail })
+    → (y ≡ accepted (record { bytes = take (serveAnswer y .length) (serveOut room y); tail = serveAnswer y .tail }))
+    × (serveAnswer y .length ≤ length (serveOut room y))
 unfolding serveAnswer serveOut
 served-stands room (refused r) e = absurd (let z : _≡_ {A = ℕ} 0 1 = cc in omega arith)
-served-stands room (accepted x) e = ap (λ bytes. accepted (record { bytes = bytes; tail = x .tail })) (sym (record-stands (x .bytes) room))
+served-stands room (accepted x) e =
+    let s = record-stands (x .bytes) room in (ap (λ bytes. accepted (record { bytes = bytes; tail = x .tail })) (sym (s .0)), s .1)
 
 module _ {pyramid : List ℤ} {z : Size} {out work : List ℕ} {answer : Coded} {out′ work′ : List ℕ} (x : Coding pyramid z out work answer out′ work′)
     (e : answer .verdict ≡ Accepted) where
-  coding-wrote : coding pyramid z (length out) (length work) ≡ accepted (take (answer .length) out′)
+  coding-wrote : (coding pyramid z (length out) (length work) ≡ accepted (take (answer .length) out′)) × (answer .length ≤ length out′)
   coding-wrote =
       let y : Result (List ℕ) = coding pyramid z (length out) (length work) in
-      coded-stands (length out) y (ap (λ a. a .verdict) (sym (x .answers)) ∙ e)
-      ∙ ap₂ (λ (a : Coded) o. accepted (take (a .length) o)) (sym (x .answers)) (sym (x .writes))
+      subst₂ (λ (a : Coded) o. (y ≡ accepted (take (a .length) o)) × (a .length ≤ length o)) (sym (x .answers)) (sym (x .writes))
+      (coded-stands (length out) y (ap (λ a. a .verdict) (sym (x .answers)) ∙ e))
 
   coding-recorded : Recorded z pyramid (take (answer .length) out′)
   coding-recorded =
       let w : Codable z pyramid × (take (answer .length) out′ ≡ recordOf z pyramid)
-      = coding-codable pyramid z (length out) (length work) (take (answer .length) out′) coding-wrote in
+      = coding-codable pyramid z (length out) (length work) (take (answer .length) out′) (coding-wrote .0) in
       let c : Codable z pyramid = w .0 in
       let r : ReadsAs z (planesIn pyramid) (partsOf z pyramid) 0 (take (answer .length) out′)
       = subst (ReadsAs z (planesIn pyramid) (partsOf z pyramid) 0) (sym (w .1)) (demand2-record c) in
       record {
         codable = c;
         its-bytes = w .1;
-        its-parts = λ h e.
-            let same : h ≡ headerOf z (planesIn pyramid) = head-is r (c .legal-size) (planes-few c) h e in
-            (ap (λ h. h .size) same, ap (λ h. partsIn h (take (answer .length) out′)) same ∙ parts-in r);
+        its-header = header-read r (c .legal-size) (planes-few c);
+        its-parts = parts-in r;
+        every-part = ap names (parts-in r) ∙ demand2-names z pyramid;
       }
 
 -- A record, and what arrived of it, reads as the parts that are whole.
@@ -215,17 +225,18 @@ module _ {s : List ℕ} {r p : ℕ} {out : List ℕ} {answer : Served} {out′ :
   abbrev portion : Portion
   portion = record { bytes = take (answer .length) out′; tail = answer .tail }
 
-  serving-wrote : serving s r p (length out) ≡ accepted portion
+  serving-wrote : (serving s r p (length out) ≡ accepted portion) × (answer .length ≤ length out′)
   serving-wrote =
-      served-stands (length out) (serving s r p (length out)) (ap (λ a. a .verdict) (sym (v .answers)) ∙ e)
-      ∙ ap₂ (λ (a : Served) o. accepted (record { bytes = take (a .length) o; tail = a .tail })) (sym (v .answers)) (sym (v .writes))
+      let y : Result Portion = serving s r p (length out) in
+      subst₂ (λ (a : Served) o. (y ≡ accepted (record { bytes = take (a .length) o; tail = a .tail })) × (a .length ≤ length o))
+      (sym (v .answers)) (sym (v .writes)) (served-stands (length out) y (ap (λ a. a .verdict) (sym (v .answers)) ∙ e))
 
   module _ {z : Size} {pyramid : List ℤ} {bytes : List ℕ} (w : Recorded z pyramid bytes) (x : Selected bytes s) where
     abbrev ask : List CodedPart
     ask = kept (asked r p) (wholeParts x)
 
     serving-is : record { bytes = recordBytes z (planesIn pyramid) ask; tail = cutBytes x } ≡ portion
-    serving-is = served-read (selected-reads w x) (w .codable .legal-size) (planes-few (w .codable)) r p (length out) portion serving-wrote
+    serving-is = served-read (selected-reads w x) (w .codable .legal-size) (planes-few (w .codable)) r p (length out) portion (serving-wrote .0)
 
     served-selected : Selected s (take (answer .length) out′)
     unfolding arrived
@@ -306,29 +317,31 @@ module _ {z : Size} {pyramid : List ℤ} {bytes : List ℕ} (w : Recorded z pyra
 
 -- The exports: each does what its routine does, and its answer stands in the slice lent for it.
 module _ {pyramid : List ℤ} {z : Size} {out work answer out′ work′ answer′ : List ℕ} (x : AfsCode pyramid z out work answer 0 out′ work′ answer′) where
-  afsCode-recorded : Recorded z pyramid (take (getD answer′ 2 0) out′)
+  afsCode-recorded : Recorded z pyramid (take (getD answer′ 2 0) out′) × (getD answer′ 2 0 ≤ length out′)
   unfolding codeNumbers
   afsCode-recorded = by (decLe codePlaces (length answer))
     where
-      by : Dec (codePlaces ≤ length answer) → Recorded z pyramid (take (getD answer′ 2 0) out′)
+      by : Dec (codePlaces ≤ length answer) → Recorded z pyramid (take (getD answer′ 2 0) out′) × (getD answer′ 2 0 ≤ length out′)
       by (no l) = absurd (omega (arith, afsCode-short x (omega arith) .0))
       by (yes l) =
           let c = afsCode-codes x l in
-          subst (λ a. Recorded z pyramid (take (getD a 2 0) out′)) (sym (c .3))
-          (coding-recorded (c .1) (number-accepts (c .0 .verdict) (sym (c .2))))
+          let e = number-accepts (c .0 .verdict) (sym (c .2)) in
+          subst (λ a. Recorded z pyramid (take (getD a 2 0) out′) × (getD a 2 0 ≤ length out′)) (sym (c .3))
+          (coding-recorded (c .1) e, coding-wrote (c .1) e .1)
 
 module _ {s : List ℕ} {r p : ℕ} {out answer out′ answer′ : List ℕ} (v : AfsServe s r p out answer 0 out′ answer′) {z : Size} {pyramid : List ℤ}
     {bytes : List ℕ} (w : Recorded z pyramid bytes) (x : Selected bytes s) where
-  afsServe-selects : Serves x r p (take (getD answer′ 2 0) out′) (getD answer′ 3 0)
+  afsServe-selects : Serves x r p (take (getD answer′ 2 0) out′) (getD answer′ 3 0) × (getD answer′ 2 0 ≤ length out′)
   unfolding serveNumbers
   afsServe-selects = by (decLe servePlaces (length answer))
     where
-      by : Dec (servePlaces ≤ length answer) → Serves x r p (take (getD answer′ 2 0) out′) (getD answer′ 3 0)
+      by : Dec (servePlaces ≤ length answer) → Serves x r p (take (getD answer′ 2 0) out′) (getD answer′ 3 0) × (getD answer′ 2 0 ≤ length out′)
       by (no l) = absurd (omega (arith, afsServe-short v (omega arith) .0))
       by (yes l) =
           let c = afsServe-serves v l in
-          subst (λ a. Serves x r p (take (getD a 2 0) out′) (getD a 3 0)) (sym (c .3))
-          (serving-serves (c .1) (number-accepts (c .0 .verdict) (sym (c .2))) w x)
+          let e = number-accepts (c .0 .verdict) (sym (c .2)) in
+          subst (λ a. Serves x r p (take (getD a 2 0) out′) (getD a 3 0) × (getD a 2 0 ≤ length out′)) (sym (c .3))
+          (serving-serves (c .1) e w x, serving-wrote (c .1) e .1)
 
 -- The places of a decoding's answer: behind the six planes stands 0.
 told-plane : (planes : ℕ → ℕ) (more i : ℕ) → (levelPlaces ≤ i → planes i ≡ 0) → getD (map planes (from 0 levelPlaces) ++ zeros more) i 0 ≡ planes i
@@ -440,21 +453,21 @@ pub from-memory-to-memory : FromMemoryToMemory
 from-memory-to-memory =
     record {
       coded = λ c. afsCode-recorded c;
-      decoded = λ c x d sizes places. afsDecode-prints (afsCode-recorded c) x d sizes places;
-      served = λ c x v. afsServe-selects v (afsCode-recorded c) x;
-      selected = λ c x y. selected-again (afsCode-recorded c) x y;
+      decoded = λ c x d sizes places. afsDecode-prints (afsCode-recorded c .0) x d sizes places;
+      served = λ c x v. afsServe-selects v (afsCode-recorded c .0) x;
+      selected = λ c x y. selected-again (afsCode-recorded c .0) x y;
       served-decoded = λ c x v y d sizes places.
-          let w = afsCode-recorded c in afsDecode-again w (afsServe-selects v w x .again) y d sizes places;
-      whole = λ c d sizes places. afsDecode-whole (afsCode-recorded c) d sizes places;
+          let w = afsCode-recorded c .0 in afsDecode-again w (afsServe-selects v w x .0 .again) y d sizes places;
+      whole = λ c d sizes places. afsDecode-whole (afsCode-recorded c .0) d sizes places;
     }
 
 pub from-routine-to-routine : FromRoutineToRoutine
 unfolding blank-answer
 from-routine-to-routine =
     record {
-      coded = λ c e. coding-recorded c e;
+      coded = λ c e. (coding-recorded c e, coding-wrote c e .1);
       decoded = λ c e x d sizes. decoding-decodes (coding-recorded c e) x d sizes;
-      served = λ c e x v a. serving-serves v a (coding-recorded c e) x;
+      served = λ c e x v a. (serving-serves v a (coding-recorded c e) x, serving-wrote v a .1);
       selected = λ c e x y. selected-again (coding-recorded c e) x y;
       served-decoded = λ c e x v a y d sizes. let w = coding-recorded c e in decoding-again w (serving-serves v a w x .again) y d sizes;
       whole = λ c e d sizes.
