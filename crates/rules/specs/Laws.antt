@@ -57,3 +57,4 @@ pub mod Demand3
 pub mod Demand2
 pub mod Memory
 pub mod MemoryProofs
+pub mod RecordRoom

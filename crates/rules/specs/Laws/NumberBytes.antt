@@ -70,6 +70,25 @@ pub numberBytes-length : (v : ℕ) → (1 ≤ length (numberBytes v)) × (length
 unfolding numberBytes
 numberBytes-length v = groups-length 3 v
 
+-- A number of fewer groups has no more bytes.
+pub groups-few : (extra more v : ℕ) → v < 128 ^ suc more → length (groups (more + extra) v) ≤ suc more
+groups-few extra =
+    by-groups (λ more v. length (groups (more + extra) v) ≤ suc more)
+    (λ more v h. rw (groups-last (more + extra) v h) (omega arith))
+    (λ more v h l. let e : suc more + extra ≡ suc (more + extra) = omega arith in rw (e, groups-next (more + extra) v h) (omega arith))
+
+pub numberBytes-one : (v : ℕ) → v < 128 → length (numberBytes v) ≤ 1
+unfolding numberBytes
+numberBytes-one v h = groups-few 3 0 v h
+
+pub numberBytes-two : (v : ℕ) → v < 128 * 128 → length (numberBytes v) ≤ 2
+unfolding numberBytes
+numberBytes-two v h = groups-few 2 1 v h
+
+pub numberBytes-three : (v : ℕ) → v < 128 * 128 * 128 → length (numberBytes v) ≤ 3
+unfolding numberBytes
+numberBytes-three v h = groups-few 1 2 v h
+
 -- Reading, one byte at a time: there is none, one that goes on, or a last one, which is not 0 if there are several.
 module _ (more : ℕ) (s : List ℕ) (at worth value : ℕ) where
   pub numberFrom-cut : length s ≤ at → numberFrom (suc more) s at worth value ≡ CutOff

@@ -9,7 +9,7 @@ use lib.IntN.{ℤ}
 use Rattle.rules.specs.Document.Pyramid.{Family}
 use Rattle.rules.specs.Document.Passes.{State, after, PartName, partsOfPlane, partNames, truth, coder, coded, decoder, decoded}
 use Rattle.rules.specs.Document.Layout.{codedParts}
-use Rattle.rules.specs.Laws.Count.{is, All, sum-le, sum-one, is-most, all-of, all-append}
+use Rattle.rules.specs.Laws.Count.{is, All, sum-le, sum-one, is-most, all-of, all-then, all-append}
 use Rattle.rules.specs.Laws.Family.{Lawful}
 use Rattle.rules.specs.Laws.Bounds.{Taking, passed-bounded}
 use Rattle.rules.specs.Laws.State.{Sound, levelCount, sound-room, sound-after}
@@ -41,14 +41,14 @@ module _ {F : Family} (L : Lawful F) {top : ℕ} {all : List ℕ} {s : State} (h
     unfolding coded
     coded-sound = sound-after L h (p .level) (o .from1) (o .upTo) (coder F mag neg (p .plane)) []
 
-    pub coded-bits : length (coded F mag neg p s .side) ≤ 4 * length all
+    -- at most eleven bits for every four coefficients of its level
+    pub coded-taken : 4 * length (coded F mag neg p s .side) ≤ 11 * levelCount F all (p .level)
     unfolding coded
-    coded-bits =
-        omega (
-          arith,
-          passed-bounded L (coder-takes F mag neg (p .plane)) (s (p .level)) [] (sound-room h L (p .level) (o .upTo)) .taken,
-          levelCount-most F all (p .level),
-        )
+    coded-taken =
+        omega (arith, passed-bounded L (coder-takes F mag neg (p .plane)) (s (p .level)) [] (sound-room h L (p .level) (o .upTo)) .taken)
+
+    pub coded-bits : length (coded F mag neg p s .side) ≤ 4 * length all
+    coded-bits = omega (arith, coded-taken, levelCount-most F all (p .level))
 
   -- One part of the decoder, whatever its bits.
   module _ (bit : ℕ → Bool) (v : List ℤ) where
@@ -78,9 +78,15 @@ partNames-levels top zero = tt
 partNames-levels top (suc n) =
     all-append (OfLevel top) (partsOfPlane n top) (partNames top n) (partsOfPlane-levels top n top (omega arith)) (partNames-levels top n)
 
-pub codedParts-bits : {F : Family} (L : Lawful F) {top : ℕ} {all : List ℕ} (mag : ℕ → ℕ) (neg : ℕ → Bool) (ps : List PartName)
-    → All (OfLevel top) ps → (s : State) → Sound F top all s → All (λ c. length (c .bits) ≤ 4 * length all) (codedParts F mag neg ps s)
-unfolding All codedParts
-codedParts-bits L mag neg [] o s h = tt
-codedParts-bits L mag neg (p ∷ ps) o s h =
-    (coded-bits L h (o .0) mag neg, codedParts-bits L mag neg ps (o .1) _ (coded-sound L h (o .0) mag neg))
+module _ {F : Family} (L : Lawful F) {top : ℕ} {all : List ℕ} (mag : ℕ → ℕ) (neg : ℕ → Bool) where
+  pub codedParts-taken : (ps : List PartName) → All (OfLevel top) ps → (s : State) → Sound F top all s
+      → All (λ c. 4 * length (c .bits) ≤ 11 * levelCount F all (c .name .level)) (codedParts F mag neg ps s)
+  unfolding All codedParts
+  codedParts-taken [] o s h = tt
+  codedParts-taken (p ∷ ps) o s h =
+      (coded-taken L h (o .0) mag neg, codedParts-taken ps (o .1) _ (coded-sound L h (o .0) mag neg))
+
+  pub codedParts-bits : (ps : List PartName) → All (OfLevel top) ps → (s : State) → Sound F top all s
+      → All (λ c. length (c .bits) ≤ 4 * length all) (codedParts F mag neg ps s)
+  codedParts-bits ps o s h =
+      all-then _ _ (codedParts F mag neg ps s) (λ c l. omega (arith, l, levelCount-most F all (c .name .level))) (codedParts-taken ps o s h)
