@@ -55,6 +55,6 @@ pub mod RoundedRun
 pub mod ServedParts
 pub mod Demand3
 pub mod Demand2
+pub mod RecordRoom
 pub mod Memory
 pub mod MemoryProofs
-pub mod RecordRoom

@@ -25,6 +25,10 @@ pub record Stated (z : Size) (room work : ℕ) : Type 0 where
   pub whole : room ≡ area z
   pub enough : workFor z ≤ work
 
+-- room that is always enough for a record: 6 x W x H + 640 bytes
+abbrev pub enoughRoom : Size → ℕ
+enoughRoom z = 6 * area z + 640
+
 -- The coder's parts, for so many planes; the names of parts; and of parts those that a test keeps: the others are lost, or were not served.
 abbrev pub coderParts : Size → ℕ → List ℤ → List CodedPart
 coderParts z planes pyramid = codedParts (family z) (magnitude pyramid) (negative pyramid) (partNames (levels z) planes) (start z)

@@ -20,11 +20,11 @@ use Rattle.rules.specs.Document.Pyramid.{area, levels, levelOf, magnitud
 use Rattle.rules.specs.Document.Passes.{PartName, partNames, signed}
 use Rattle.rules.specs.Document.Layout.{CodedPart, planesIn, partsOf, recordOf, bodyOf, wholeOf, nameOf, reached}
 use Rattle.rules.specs.Document.Numbers.{verdictNumber, verdictPlace, readHeader, readParts}
-use Rattle.rules.specs.Document.Calls.{Coding, Serving, Decoding, AfsCode, AfsServe, AfsDecode, decodePlaces, planeIn}
+use Rattle.rules.specs.Document.Calls.{Coding, Serving, Decoding, AfsCode, AfsServe, AfsDecode, workFor, codePlaces, servePlaces, decodePlaces, planeIn}
 use Rattle.rules.specs.Laws.Parts.{at, Named, present}
 use Rattle.rules.specs.Laws.ReadBackBody.{bitsFrom}
 use Rattle.rules.specs.Laws.ReadBackPart.{headerOf}
-use Rattle.rules.specs.Laws.Demands.{Codable, Stated, names, kept, asked, wholeIn, tailIn, towardZero, Near}
+use Rattle.rules.specs.Laws.Demands.{Codable, Stated, enoughRoom, names, kept, asked, wholeIn, tailIn, towardZero, Near}
 
 -- WHAT ARRIVES
 
@@ -104,19 +104,26 @@ planesAnswered told k = planeIn (told .reached) (k - 1)
 -- THE THEOREM, `from-memory-to-memory`, for any pyramid and size and for buffers whatever they held. That coding and serving came back with
 -- number 0 is all that is supposed of them; of decoding not even that, but buffers of the stated sizes.
 pub record FromMemoryToMemory : Type 0 where
-  -- Coded: at the front of the output stands the record.
+  -- Coded: at the front of the output stands the record. And what coding takes, with room enough, it codes.
   pub coded : {pyramid : List ℤ} {z : Size} {out work answer out′ work′ answer′ : List ℕ} → AfsCode pyramid z out work answer 0 out′ work′ answer′
       → Recorded z pyramid (take (getD answer′ 2 0) out′) × (getD answer′ 2 0 ≤ length out′)
+  pub codes : {pyramid : List ℤ} {z : Size} {out work answer : List ℕ} {number : ℕ} {out′ work′ answer′ : List ℕ}
+      → AfsCode pyramid z out work answer number out′ work′ answer′ → Codable z pyramid → enoughRoom z ≤ length out → workFor z ≤ length work
+      → codePlaces ≤ length answer → number ≡ 0
   -- Coded, any selection of what stands in the coder's output, cut anywhere, and decoded.
   pub decoded : {pyramid : List ℤ} {z : Size} {out work answer out′ work′ answer′ s scratch told : List ℕ} {print print′ : List ℤ} {number : ℕ}
       {scratch′ told′ : List ℕ} → AfsCode pyramid z out work answer 0 out′ work′ answer′ → (x : Selected (take (getD answer′ 2 0) out′) s)
       → AfsDecode s print scratch told number print′ scratch′ told′ → Stated z (length print) (length scratch) → decodePlaces ≤ length told
       → Decodes z pyramid (names (wholeParts x)) (cutBytes x) number (getD told′ 1 0) (getD told′ 2 0) (planesTold told′) print′ scratch scratch′
-  -- What is served of a selection is a selection; and a selection of one is one as well, of the same parts. So any number of both may lie between
-  -- coding and decoding.
+  -- What is served of a selection is a selection, and with a legal request and room enough it is served; and a selection of a selection is one as
+  -- well, of the same parts. So any number of both may lie between coding and decoding.
   pub served : {pyramid : List ℤ} {z : Size} {out work answer out′ work′ answer′ s : List ℕ} {r p : ℕ} {sent note sent′ note′ : List ℕ}
       → AfsCode pyramid z out work answer 0 out′ work′ answer′ → (x : Selected (take (getD answer′ 2 0) out′) s)
       → AfsServe s r p sent note 0 sent′ note′ → Serves x r p (take (getD note′ 2 0) sent′) (getD note′ 3 0) × (getD note′ 2 0 ≤ length sent′)
+  pub serves : {pyramid : List ℤ} {z : Size} {out work answer out′ work′ answer′ s : List ℕ} {r p : ℕ} {sent note : List ℕ} {number : ℕ}
+      {sent′ note′ : List ℕ} → AfsCode pyramid z out work answer 0 out′ work′ answer′ → Selected (take (getD answer′ 2 0) out′) s
+      → AfsServe s r p sent note number sent′ note′ → 1 ≤ r → r ≤ levels z → p ≤ planesIn pyramid → length s ≤ length sent
+      → servePlaces ≤ length note → number ≡ 0
   pub selected : {pyramid : List ℤ} {z : Size} {out work answer out′ work′ answer′ s t : List ℕ}
       → AfsCode pyramid z out work answer 0 out′ work′ answer′ → Selected (take (getD answer′ 2 0) out′) s → (y : Selected s t)
       → (again : Selected (take (getD answer′ 2 0) out′) t) × (wholeParts again ≡ wholeParts y) × (cutBytes again ≡ cutBytes y)
@@ -138,6 +145,8 @@ pub record FromMemoryToMemory : Type 0 where
 pub record FromRoutineToRoutine : Type 0 where
   pub coded : {pyramid : List ℤ} {z : Size} {out work : List ℕ} {answer : Coded} {out′ work′ : List ℕ} → Coding pyramid z out work answer out′ work′
       → answer .verdict ≡ Accepted → Recorded z pyramid (take (answer .length) out′) × (answer .length ≤ length out′)
+  pub codes : {pyramid : List ℤ} {z : Size} {out work : List ℕ} {answer : Coded} {out′ work′ : List ℕ} → Coding pyramid z out work answer out′ work′
+      → Codable z pyramid → enoughRoom z ≤ length out → workFor z ≤ length work → answer .verdict ≡ Accepted
   pub decoded : {pyramid : List ℤ} {z : Size} {out work : List ℕ} {answer : Coded} {out′ work′ s scratch : List ℕ} {print print′ : List ℤ}
       {told : Decoded} {scratch′ : List ℕ} → Coding pyramid z out work answer out′ work′ → answer .verdict ≡ Accepted
       → (x : Selected (take (answer .length) out′) s) → Decoding s print scratch told print′ scratch′ → Stated z (length print) (length scratch)
@@ -146,6 +155,9 @@ pub record FromRoutineToRoutine : Type 0 where
   pub served : {pyramid : List ℤ} {z : Size} {out work : List ℕ} {answer : Coded} {out′ work′ s : List ℕ} {r p : ℕ} {sent : List ℕ} {note : Served}
       {sent′ : List ℕ} → Coding pyramid z out work answer out′ work′ → answer .verdict ≡ Accepted → (x : Selected (take (answer .length) out′) s)
       → Serving s r p sent note sent′ → note .verdict ≡ Accepted → Serves x r p (take (note .length) sent′) (note .tail) × (note .length ≤ length sent′)
+  pub serves : {pyramid : List ℤ} {z : Size} {out work : List ℕ} {answer : Coded} {out′ work′ s : List ℕ} {r p : ℕ} {sent : List ℕ} {note : Served}
+      {sent′ : List ℕ} → Coding pyramid z out work answer out′ work′ → answer .verdict ≡ Accepted → Selected (take (answer .length) out′) s
+      → Serving s r p sent note sent′ → 1 ≤ r → r ≤ levels z → p ≤ planesIn pyramid → length s ≤ length sent → note .verdict ≡ Accepted
   pub selected : {pyramid : List ℤ} {z : Size} {out work : List ℕ} {answer : Coded} {out′ work′ s t : List ℕ}
       → Coding pyramid z out work answer out′ work′ → answer .verdict ≡ Accepted → Selected (take (answer .length) out′) s → (y : Selected s t)
       → (again : Selected (take (answer .length) out′) t) × (wholeParts again ≡ wholeParts y) × (cutBytes again ≡ cutBytes y)

@@ -2,7 +2,7 @@
 -- the parts that are whole in it; and then demands 2 and 3 say the rest.
 use mathlib.Core.Path.{_≡_, refl, ap, ap₂, sym, _∙_, subst, subst₂}
 use mathlib.Core.List.{List, [], _∷_, _++_, map}
-use mathlib.Core.Bool.{Bool, true, false, _&&_}
+use mathlib.Core.Bool.{Bool, true, false, cond, _&&_}
 use mathlib.Core.Logic.{⊎-elim}
 use Prim.Native.Nat.{ℕ, suc, _+_, _-_, _≤_, _<_}
 use native.Mathlib.Omega.{arith}
@@ -10,6 +10,7 @@ use native.Mathlib.Decide.{decLt, decLe}
 use lib.ListN.{length, getD, take, drop, replicate, length-append, List·getD-append, replicate-append-replicate}
 use lib.Seq.{take-all, take-append-seam, getD-append-add, ext-getD}
 use lib.IntN.{ℤ}
+use borrow.Author.Tests.{le-leb}
 use Rattle.rules.specs.declared.Size.{Size}
 use Rattle.rules.specs.declared.Plane.{Plane}
 use Rattle.rules.specs.declared.Verdict.the-variants.{Accepted}
@@ -23,6 +24,7 @@ use Rattle.rules.specs.Document.Pyramid.{area, levels, levelOf, magnitud
 use Rattle.rules.specs.Document.Passes.{PartName, signed, from}
 use Rattle.rules.specs.Document.Layout.{CodedPart, planesIn, partsOf, recordOf, headerBytes, partBytes, packed, bodyOf, nameOf, reached}
 use Rattle.rules.specs.Document.Numbers.{verdictNumber, verdictPlace, readHeader, readParts, headed}
+use Rattle.rules.specs.Document.Calls.{workFor, unless, legalAsk, portioned}
 use Rattle.rules.specs.Document.Calls.{Result, refused, accepted, Portion, Picture, coding, serving, decoding, filled, codeOut, codeAnswer}
 use Rattle.rules.specs.Document.Calls.{serveOut, serveAnswer}
 use Rattle.rules.specs.Document.Calls.{decodeOut, decodeAnswer, codeNumbers, serveNumbers, decodeNumbers, codePlaces, servePlaces, decodePlaces}
@@ -33,16 +35,17 @@ use Rattle.rules.specs.Laws.Sizes.{legal}
 use Rattle.rules.specs.Laws.Offspring.Level.{level-most, level-least}
 use Rattle.rules.specs.Laws.Usable.{loss-shows}
 use Rattle.rules.specs.Laws.Exports.{afsCode-short, afsCode-codes, afsServe-short, afsServe-serves, afsDecode-decodes}
+use Rattle.rules.specs.Laws.RecordRoom.{coding-accepts}
 use Rattle.rules.specs.Laws.Results.{number-accepts}
 use Rattle.rules.specs.Laws.Parts.{at}
 use Rattle.rules.specs.Laws.ReadBackBody.{bitsFrom, packed-length, packed-clear, packed-bit, first-length, body-bit}
 use Rattle.rules.specs.Laws.ReadBackPart.{headerOf, partAt, part-body}
-use Rattle.rules.specs.Laws.ReadBack.{recordBytes, beforeAll, parts-map}
-use Rattle.rules.specs.Laws.Demands.{Codable, Stated, names, kept, asked, wholeIn, tailIn, arrived, towardZero, Rounded}
+use Rattle.rules.specs.Laws.ReadBack.{selection, recordBytes, beforeAll, parts-map}
+use Rattle.rules.specs.Laws.Demands.{Codable, Stated, enoughRoom, names, kept, asked, wholeIn, tailIn, arrived, towardZero, Rounded}
 use Rattle.rules.specs.Laws.Arrival.{ReadsAs, header-read, parts-stand, AllThere, CutIn, all-or-cut, arrived-reads, arrived-selection}
 use Rattle.rules.specs.Laws.Arrival.{selection-both, legal-order}
 use Rattle.rules.specs.Laws.RoundedRun.{map-from, map-length, blank-same, kept-legal}
-use Rattle.rules.specs.Laws.ServedParts.{kept-wholes, served-read}
+use Rattle.rules.specs.Laws.ServedParts.{kept-wholes, serves-read, served-read}
 use Rattle.rules.specs.Laws.Demand3.{coding-codable, planes-few, demand3, printed-near}
 use Rattle.rules.specs.Laws.Demand2.{demand2-names, demand2-record, demand2-whole}
 use Rattle.rules.specs.Laws.Memory.{partsIn, keptIn, Selected, wholeParts, cutBytes, Recorded, Serves, Decodes, planesTold, planesAnswered}
@@ -267,6 +270,39 @@ module _ {s : List ℕ} {r p : ℕ} {out : List ℕ} {answer : Served} {out′ :
           told = sym (ap (λ y. y .tail) serving-is);
         }
 
+-- With a legal request, and room for as much as there is, it is served.
+kept-fewer : (keep : PartName → Bool) (ps : List CodedPart) → length (flat partBytes (kept keep ps)) ≤ length (flat partBytes ps)
+unfolding flat selection
+kept-fewer keep [] = omega arith
+kept-fewer keep (p ∷ ps) = by (keep (p .name)) (kept-fewer keep ps)
+  where
+    by : (b : Bool) → length (flat partBytes (kept keep ps)) ≤ length (flat partBytes ps)
+        → length (flat partBytes (cond b (p ∷ kept keep ps) (kept keep ps))) ≤ length (partBytes p ++ flat partBytes ps)
+    by true l = omega (arith, length-append (partBytes p) (flat partBytes (kept keep ps)), length-append (partBytes p) (flat partBytes ps))
+    by false l = omega (arith, length-append (partBytes p) (flat partBytes ps))
+
+module _ {s : List ℕ} {r p : ℕ} {out : List ℕ} {answer : Served} {out′ : List ℕ} (v : Serving s r p out answer out′) {z : Size} {pyramid : List ℤ}
+    {bytes : List ℕ} (w : Recorded z pyramid bytes) (x : Selected bytes s) where
+  serving-accepts : 1 ≤ r → r ≤ levels z → p ≤ planesIn pyramid → length s ≤ length out → answer .verdict ≡ Accepted
+  unfolding serveAnswer legalAsk unless portioned
+  serving-accepts a b few room =
+      let planes : ℕ = planesIn pyramid in
+      let ask : List CodedPart = kept (asked r p) (wholeParts x) in
+      let reads : ReadsAs z planes (wholeParts x) (cutBytes x) s = selected-reads w x in
+      let fits : length (recordBytes z planes ask) ≤ length out
+      = omega (
+        arith,
+        kept-fewer (asked r p) (wholeParts x),
+        ap length (reads .stand),
+        length-append (headerBytes z planes) (flat partBytes (wholeParts x) ++ reads .rest),
+        length-append (flat partBytes (wholeParts x)) (reads .rest),
+        length-append (headerBytes z planes) (flat partBytes ask),
+      ) in
+      let served : serving s r p (length out) ≡ accepted (record { bytes = recordBytes z planes ask; tail = cutBytes x })
+      = serves-read reads (w .codable .legal-size) (planes-few (w .codable)) r p (length out)
+      ∙ rw (le-leb 1 r a, le-leb r (levels z) b, le-leb p planes few, le-leb (length (recordBytes z planes ask)) (length out) fits) in
+      ap (λ a. a .verdict) (v .answers) ∙ ap (λ y. serveAnswer y .verdict) served
+
 -- Decoding.
 module _ {z : Size} {pyramid : List ℤ} {bytes : List ℕ} (w : Recorded z pyramid bytes) {s : List ℕ} (x : Selected bytes s) where
   selected-rounded : (room work : ℕ) → Stated z room work
@@ -449,12 +485,26 @@ module _ {z : Size} {pyramid : List ℤ} {bytes : List ℕ} (w : Recorded z pyra
         d .clears,
       )
 
+afsCode-accepts : {pyramid : List ℤ} {z : Size} {out work answer : List ℕ} {number : ℕ} {out′ work′ answer′ : List ℕ}
+    → AfsCode pyramid z out work answer number out′ work′ answer′ → Codable z pyramid → enoughRoom z ≤ length out → workFor z ≤ length work
+    → codePlaces ≤ length answer → number ≡ 0
+afsCode-accepts x c room enough places =
+    let a = afsCode-codes x places in a .2 ∙ ap verdictNumber (coding-accepts (a .1) c room enough)
+
+afsServe-accepts : {s : List ℕ} {r p : ℕ} {out answer : List ℕ} {number : ℕ} {out′ answer′ : List ℕ} → AfsServe s r p out answer number out′ answer′
+    → {z : Size} {pyramid : List ℤ} {bytes : List ℕ} → Recorded z pyramid bytes → Selected bytes s → 1 ≤ r → r ≤ levels z → p ≤ planesIn pyramid
+    → length s ≤ length out → servePlaces ≤ length answer → number ≡ 0
+afsServe-accepts v w x a b few room places =
+    let c = afsServe-serves v places in c .2 ∙ ap verdictNumber (serving-accepts (c .1) w x a b few room)
+
 pub from-memory-to-memory : FromMemoryToMemory
 from-memory-to-memory =
     record {
       coded = λ c. afsCode-recorded c;
+      codes = λ c k room enough places. afsCode-accepts c k room enough places;
       decoded = λ c x d sizes places. afsDecode-prints (afsCode-recorded c .0) x d sizes places;
       served = λ c x v. afsServe-selects v (afsCode-recorded c .0) x;
+      serves = λ c x v a b few room places. afsServe-accepts v (afsCode-recorded c .0) x a b few room places;
       selected = λ c x y. selected-again (afsCode-recorded c .0) x y;
       served-decoded = λ c x v y d sizes places.
           let w = afsCode-recorded c .0 in afsDecode-again w (afsServe-selects v w x .0 .again) y d sizes places;
@@ -466,8 +516,10 @@ unfolding blank-answer
 from-routine-to-routine =
     record {
       coded = λ c e. (coding-recorded c e, coding-wrote c e .1);
+      codes = λ c k room enough. coding-accepts c k room enough;
       decoded = λ c e x d sizes. decoding-decodes (coding-recorded c e) x d sizes;
       served = λ c e x v a. (serving-serves v a (coding-recorded c e) x, serving-wrote v a .1);
+      serves = λ c e x v a b few room. serving-accepts v (coding-recorded c e) x a b few room;
       selected = λ c e x y. selected-again (coding-recorded c e) x y;
       served-decoded = λ c e x v a y d sizes. let w = coding-recorded c e in decoding-again w (serving-serves v a w x .again) y d sizes;
       whole = λ c e d sizes.

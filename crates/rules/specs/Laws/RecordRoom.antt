@@ -2,7 +2,7 @@
 -- its level, so the parts of a plane take at most 11/4 x W x H bits, and those of 17 planes 187/32 x W x H bytes, less than 6 x W x H. There are at
 -- most 17 x 6 = 102 parts; a part's head has at most 1 + 1 + 3 bytes and its padding 7 bits; the header has at most 1 + 2 + 2 + 1 + 1 bytes: that is
 -- 102 x 47/8 + 7 bytes, 607 at most.
-use mathlib.Core.Path.{_≡_, refl, ap, sym, subst}
+use mathlib.Core.Path.{_≡_, refl, ap, sym, _∙_, subst}
 use mathlib.Core.List.{List, [], _∷_}
 use mathlib.Core.Logic.{_≢_}
 use Prim.Native.Nat.{ℕ, zero, suc, _+_, _*_, _/_, _≤_, _<_}
@@ -11,18 +11,20 @@ use native.Mathlib.Nat.{suc-mul, mul-le-mul, mul-le-mul-right}
 use lib.ListN.{length, length-append, length-map}
 use lib.IntN.{ℤ}
 use Rattle.rules.specs.declared.Size.{Size}
+use Rattle.rules.specs.declared.Verdict.the-variants.{Accepted}
 use Rattle.rules.specs.declared.Coded.{Coded}
 use Rattle.rules.specs.Document.Notation.{flat}
 use Rattle.rules.specs.Document.Pyramid.{area, levels, mostPlanes, magnitude, negative}
 use Rattle.rules.specs.Document.Passes.{PartName, partsOfPlane, partNames, start}
 use Rattle.rules.specs.Document.Layout.{numberBytes, version, headerBytes, CodedPart, partBytes, planesIn, partsOf, recordOf}
 use Rattle.rules.specs.Document.Numbers.{verdictNumber}
-use Rattle.rules.specs.Document.Calls.{Result, codeAnswer, Coding, codePlaces, AfsCode}
+use Rattle.rules.specs.Document.Calls.{Result, accepted, workFor, coding, codeAnswer, Coding, codePlaces, AfsCode}
 use Rattle.rules.specs.Laws.Count.{sum, All, all-then, all-both, map-all, sum-append, sum-map, sum-plus, sum-times, sum-le, sum-one, all-of}
-use Rattle.rules.specs.Laws.Sizes.{Legal, legal, size-legal, area-bound, levelStart, levelSize, span-whole, levelStart-fine, levelEnd-start, levelSize-end}
-use Rattle.rules.specs.Laws.Planes.{none-over}
-use Rattle.rules.specs.Laws.Causes.{CodingCase, SIZE, LENGTH, WORK, RANGE, ROOM, CODED}
-use Rattle.rules.specs.Laws.CallCases.{coding-case}
+use Rattle.rules.specs.Laws.Sizes.{Legal, legal, size-legal, area-bound, levelStart, levelSize, span-whole, levelStart-fine}
+use Rattle.rules.specs.Laws.Sizes.{levelEnd-start, levelSize-end}
+use Rattle.rules.specs.Laws.Planes.{none-over, under-first}
+use Rattle.rules.specs.Laws.Causes.{InRange, CodingCase, SIZE, LENGTH, WORK, RANGE, ROOM, CODED}
+use Rattle.rules.specs.Laws.CallCases.{coding-case, coding-is}
 use Rattle.rules.specs.Laws.Exports.{afsCode-codes}
 use Rattle.rules.specs.Laws.Offspring.Lawful.{lawful}
 use Rattle.rules.specs.Laws.Offspring.Counts.{level-count}
@@ -31,13 +33,9 @@ use Rattle.rules.specs.Laws.Parts.{Named, names-named}
 use Rattle.rules.specs.Laws.StateParts.{partNames-levels, codedParts-taken}
 use Rattle.rules.specs.Laws.StateRecord.{start-sound, partsOf-bits}
 use Rattle.rules.specs.Laws.ReadBackPart.{part-length}
-use Rattle.rules.specs.Laws.Demands.{Codable}
+use Rattle.rules.specs.Laws.Demands.{Codable, enoughRoom}
 use Rattle.rules.specs.Laws.Demand3.{planes-few}
 use Rattle.rules.specs.Laws.Demand2.{demand2-names}
-
--- 6 x W x H + 640 bytes
-abbrev pub enoughRoom : Size → ℕ
-enoughRoom z = 6 * area z + 640
 
 flat-length : {X Y : Type 0} (f : X → List Y) (xs : List X) → length (flat f xs) ≡ sum (λ x. length (f x)) xs
 unfolding flat sum
@@ -182,9 +180,19 @@ room-found l (CODED Z L K R s) = λ e. omega arith
 
 pub coding-room : {pyramid : List ℤ} {z : Size} {out work : List ℕ} {answer : Coded} {out′ work′ : List ℕ}
     → Coding pyramid z out work answer out′ work′ → enoughRoom z ≤ length out → verdictNumber (answer .verdict) ≢ 5
-coding-room {pyramid} {z} {out} {work} x l =
-    rw (x .answers) (room-found l (coding-case pyramid z (length out) (length work)))
+coding-room {pyramid} {z} {out} {work} x l = rw (x .answers) (room-found l (coding-case pyramid z (length out) (length work)))
 
 pub afsCode-room : {pyramid : List ℤ} {z : Size} {out work answer : List ℕ} {number : ℕ} {out′ work′ answer′ : List ℕ}
     → AfsCode pyramid z out work answer number out′ work′ answer′ → enoughRoom z ≤ length out → codePlaces ≤ length answer → number ≢ 5
 afsCode-room x l places = let a = afsCode-codes x places in rw (a .2) (coding-room (a .1) l)
+
+-- And what it takes it codes.
+pub coding-accepts : {pyramid : List ℤ} {z : Size} {out work : List ℕ} {answer : Coded} {out′ work′ : List ℕ}
+    → Coding pyramid z out work answer out′ work′ → Codable z pyramid → enoughRoom z ≤ length out → workFor z ≤ length work → answer .verdict ≡ Accepted
+unfolding codeAnswer
+coding-accepts {pyramid} {z} {out} {work} x c room enough =
+    let range : InRange pyramid (length pyramid) = subst (InRange pyramid) (c .in-range) (under-first pyramid) in
+    let fits : length (recordOf z pyramid) ≤ length out = omega (arith, record-room c) in
+    let coded : coding pyramid z (length out) (length work) ≡ accepted (recordOf z pyramid)
+    = coding-is pyramid z (length out) (length work) _ (CODED (legal z (c .legal-size)) (c .sized) enough range fits) in
+    ap (λ a. a .verdict) (x .answers) ∙ ap (λ y. codeAnswer y .verdict) coded
