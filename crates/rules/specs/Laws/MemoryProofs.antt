@@ -104,6 +104,10 @@ module _ {z : Size} {planes : ℕ} {ps : List CodedPart} {cut : ℕ} {bytes : Li
       selected-parts : partsIn (x .head) bytes ≡ ps
       selected-parts = ap (λ h. partsIn h bytes) (head-is (x .head) (x .read)) ∙ parts-in
 
+record-read : {z : Size} {pyramid : List ℤ} {bytes : List ℕ} → Codable z pyramid → bytes ≡ recordOf z pyramid
+    → ReadsAs z (planesIn pyramid) (partsOf z pyramid) 0 bytes
+record-read {z} {pyramid} c e = subst (ReadsAs z (planesIn pyramid) (partsOf z pyramid) 0) (sym e) (demand2-record c)
+
 -- What coding and serving accepted stands at the front of their output.
 record-stands : (bytes : List ℕ) (room : ℕ) → (take (length bytes) (filled room bytes) ≡ bytes) × (length bytes ≤ length (filled room bytes))
 unfolding filled
@@ -138,8 +142,7 @@ module _ {pyramid : List ℤ} {z : Size} {out work : List ℕ} {answer : Coded} 
       let w : Codable z pyramid × (take (answer .length) out′ ≡ recordOf z pyramid)
       = coding-codable pyramid z (length out) (length work) (take (answer .length) out′) (coding-wrote .0) in
       let c : Codable z pyramid = w .0 in
-      let r : ReadsAs z (planesIn pyramid) (partsOf z pyramid) 0 (take (answer .length) out′)
-      = subst (ReadsAs z (planesIn pyramid) (partsOf z pyramid) 0) (sym (w .1)) (demand2-record c) in
+      let r : ReadsAs z (planesIn pyramid) (partsOf z pyramid) 0 (take (answer .length) out′) = record-read c (w .1) in
       record {
         codable = c;
         its-bytes = w .1;
@@ -157,7 +160,7 @@ module _ {z : Size} {pyramid : List ℤ} {bytes : List ℕ} (w : Recorded z pyra
   c = w .codable
 
   recorded-reads : ReadsAs z planes (partsOf z pyramid) 0 bytes
-  recorded-reads = subst (ReadsAs z planes (partsOf z pyramid) 0) (sym (w .its-bytes)) (demand2-record c)
+  recorded-reads = record-read c (w .its-bytes)
 
   module _ {s : List ℕ} (x : Selected bytes s) where
     abbrev some : List CodedPart
