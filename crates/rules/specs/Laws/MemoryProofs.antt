@@ -4,10 +4,10 @@ use mathlib.Core.Path.{_≡_, refl, ap, ap₂, sym, _∙_, subst, subst₂}
 use mathlib.Core.List.{List, [], _∷_, _++_, map}
 use mathlib.Core.Bool.{Bool, true, false, cond, _&&_}
 use mathlib.Core.Logic.{⊎-elim}
-use Prim.Native.Nat.{ℕ, suc, _+_, _-_, _≤_, _<_}
+use Prim.Native.Nat.{ℕ, zero, suc, _+_, _-_, _≤_, _<_}
 use native.Mathlib.Omega.{arith}
 use native.Mathlib.Decide.{decLt, decLe}
-use lib.ListN.{length, getD, take, drop, replicate, length-append, List·getD-append, replicate-append-replicate}
+use lib.ListN.{length, getD, take, drop, replicate, length-append, replicate-append-replicate}
 use lib.Seq.{take-all, take-append-seam, getD-append-add, ext-getD}
 use lib.IntN.{ℤ}
 use borrow.Author.Tests.{le-leb}
@@ -44,7 +44,7 @@ use Rattle.rules.specs.Laws.ReadBack.{selection, recordBytes, beforeAll,
 use Rattle.rules.specs.Laws.Demands.{Codable, Stated, enoughRoom, names, kept, asked, wholeIn, tailIn, arrived, towardZero, Rounded}
 use Rattle.rules.specs.Laws.Arrival.{ReadsAs, header-read, parts-stand, AllThere, CutIn, all-or-cut, arrived-reads, arrived-selection}
 use Rattle.rules.specs.Laws.Arrival.{selection-both, legal-order}
-use Rattle.rules.specs.Laws.RoundedRun.{map-from, map-length, blank-same, kept-legal}
+use Rattle.rules.specs.Laws.RoundedRun.{blank-same, kept-legal}
 use Rattle.rules.specs.Laws.ServedParts.{kept-wholes, serves-read, served-read}
 use Rattle.rules.specs.Laws.Demand3.{coding-codable, planes-few, demand3, printed-near}
 use Rattle.rules.specs.Laws.Demand2.{demand2-names, demand2-record, demand2-whole}
@@ -382,21 +382,27 @@ module _ {s : List ℕ} {r p : ℕ} {out answer out′ answer′ : List ℕ} (v 
           subst (λ a. Serves x r p (take (getD a 2 0) out′) (getD a 3 0) × (getD a 2 0 ≤ length out′)) (sym (c .3))
           (serving-serves (c .1) e w x, serving-wrote (c .1) e .1)
 
--- The places of a decoding's answer: behind the six planes stands 0.
-told-plane : (planes : ℕ → ℕ) (more i : ℕ) → (levelPlaces ≤ i → planes i ≡ 0) → getD (map planes (from 0 levelPlaces) ++ zeros more) i 0 ≡ planes i
-told-plane planes more i past = by (decLt i levelPlaces)
-  where
-    long : length (map planes (from 0 levelPlaces)) ≡ levelPlaces
-    long = map-length planes 0 levelPlaces
+-- The places of a decoding's answer: behind number, place and tail the six planes, level 1 first, and behind them 0.
+told-six : (a : Decoded) (rest : List ℕ) (i : ℕ) → i < levelPlaces → getD (decodeNumbers a ++ rest) (3 + i) 0 ≡ planeIn (a .reached) i
+unfolding decodeNumbers from
+told-six a rest zero l = refl
+told-six a rest (suc zero) l = refl
+told-six a rest (suc (suc zero)) l = refl
+told-six a rest (suc (suc (suc zero))) l = refl
+told-six a rest (suc (suc (suc (suc zero)))) l = refl
+told-six a rest (suc (suc (suc (suc (suc zero))))) l = refl
+told-six a rest (suc (suc (suc (suc (suc (suc i)))))) l = absurd (omega arith)
 
-    by : Dec (i < levelPlaces) → getD (map planes (from 0 levelPlaces) ++ zeros more) i 0 ≡ planes i
-    by (yes l) =
-        let e : 0 + i ≡ i = omega arith in
-        List·getD-append (map planes (from 0 levelPlaces)) (zeros more) 0 i (omega (arith, long)) ∙ map-from planes 0 0 levelPlaces i l ∙ ap planes e
+told-plane : (a : Decoded) (more i : ℕ) → (levelPlaces ≤ i → planeIn (a .reached) i ≡ 0)
+    → getD (decodeNumbers a ++ zeros more) (3 + i) 0 ≡ planeIn (a .reached) i
+unfolding decodeNumbers from
+told-plane a more i past = by (decLt i levelPlaces)
+  where
+    by : Dec (i < levelPlaces) → getD (decodeNumbers a ++ zeros more) (3 + i) 0 ≡ planeIn (a .reached) i
+    by (yes l) = told-six a (zeros more) i l
     by (no l) =
-        let e : i ≡ length (map planes (from 0 levelPlaces)) + (i - levelPlaces) = omega (arith, long) in
-        ap (λ (j : ℕ). getD (map planes (from 0 levelPlaces) ++ zeros more) j 0) e
-        ∙ getD-append-add (map planes (from 0 levelPlaces)) (zeros more) (i - levelPlaces) 0
+        let e : 3 + i ≡ length (decodeNumbers a) + (i - levelPlaces) = omega arith in
+        ap (λ (j : ℕ). getD (decodeNumbers a ++ zeros more) j 0) e ∙ getD-append-add (decodeNumbers a) (zeros more) (i - levelPlaces) 0
         ∙ blank-same 0 more (i - levelPlaces) ∙ sym (past (omega arith))
 
 module _ {z : Size} {pyramid : List ℤ} {bytes : List ℕ} (w : Recorded z pyramid bytes) {s : List ℕ} (x : Selected bytes s) {out : List ℤ}
@@ -412,10 +418,7 @@ module _ {z : Size} {pyramid : List ℤ} {bytes : List ℕ} (w : Recorded z pyra
       let past : (i : ℕ) → levelPlaces ≤ i → planeIn (a .0 .reached) i ≡ 0
       = λ i l. let e : i ≡ suc i - 1 = omega arith in ap (planeIn (a .0 .reached)) e ∙ y .beyond (suc i) (omega arith) in
       let planes : (k : ℕ) → planesTold (decodeNumbers (a .0) ++ zeros (length answer - decodePlaces)) k ≡ planesAnswered (a .0) k
-      = λ k.
-      getD-append-add (verdictNumber (a .0 .verdict) ∷ verdictPlace (a .0 .verdict) ∷ a .0 .tail ∷ [])
-      (map (planeIn (a .0 .reached)) (from 0 levelPlaces) ++ zeros (length answer - decodePlaces)) (k - 1) 0
-      ∙ told-plane (planeIn (a .0 .reached)) (length answer - decodePlaces) (k - 1) (past (k - 1)) in
+      = λ k. told-plane (a .0) (length answer - decodePlaces) (k - 1) (past (k - 1)) in
       subst₂ (λ (n : ℕ) (t : List ℕ). Decodes z pyramid (names (wholeParts x)) (cutBytes x) n (getD t 1 0) (getD t 2 0) (planesTold t) out′ work work′)
       (sym (a .2)) (sym (a .3))
       (subst (λ (f : ℕ → ℕ).
