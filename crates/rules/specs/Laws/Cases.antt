@@ -1,4 +1,5 @@
--- The cases that document 01 names, P1 to P12, and its record in full: one table, and one claim about all its rows, by computation.
+-- The cases that document 01 names, P1 to P12, and its record in full, with some more that only one reading of it gives: one table, and one claim
+-- about all its rows, by computation. What is stated is numbers and bytes; of a call the answer that its export writes and the output it leaves.
 use mathlib.Core.Path.{_≡_, refl}
 use mathlib.Core.List.{List, [], _∷_, _++_, map}
 use mathlib.Core.Bool.{Bool, true, false, cond, not}
@@ -9,12 +10,14 @@ use Rattle.rules.specs.declared.Size.{Size}
 use Rattle.rules.specs.declared.Plane.{Plane}
 use Rattle.rules.specs.declared.Number.{Number}
 use Rattle.rules.specs.declared.Number.the-variants.{Value, TooManyBytes, LongForm, CutOff}
-use Rattle.rules.specs.Document.Notation.{any, every, flat, greatest, lowest, ifAny}
+use Rattle.rules.specs.Document.Notation.{any, every, flat, greatest, lowest, ifAny, zeros}
 use Rattle.rules.specs.Document.Pyramid.{legalSide, legalSize, magnitude, negative, within, levelUpTo, levelOf, block, offspringLL, offspringAt, offspringOf, generations, descendantsOf, log2Up, planesOf}
 use Rattle.rules.specs.Document.Passes.{members, inLevel, tested, tests, opened, added, weighed, visited, visits, turns, sets, refines, pass, walk, listed, passed, after, from, rows, bandLL, rootOf, start, PartName, partsOfPlane, partNames, truth, coded, signed, grown, written, decoded}
 use Rattle.rules.specs.Document.Layout.{groups, numberBytes, numberFrom, readNumber, eightBits, packFrom, packed, bitAt, clearFrom, padClear, headerBytes, CodedPart, partBytes, codedParts, planesIn, partsOf, recordOf, wholeOf, bodyOf, nameOf, sameName, needs, usable, reached}
 use Rattle.rules.specs.Document.Numbers.{headNumber, judgedHeader, readSizes, readHeader, partNumber, follows, legalHead, judgedPart, headed, readPart, goOn, readFrom, readParts}
-use Rattle.rules.specs.Document.Calls.{Result, refused, accepted, unless, firstOver, fitted, coding, onHeader, onEnding, legalAsk, keptOf, servedBytes, Portion, portioned, serving, used, onward, decodeParts, Picture, reachedPlane, reachedPlanes, pictured, decodedParts, decoding}
+use Rattle.rules.specs.Document.Calls.{Result, unless, workFor, firstOver, fitted, coding, onHeader, onEnding, legalAsk, keptOf, servedBytes, Portion, portioned, serving}
+use Rattle.rules.specs.Document.Calls.{used, onward, decodeParts, Picture, reachedPlane, reachedPlanes, pictured, decodedParts, decoding}
+use Rattle.rules.specs.Document.Calls.{filled, codeOut, codeAnswer, serveOut, serveAnswer, decodeOut, decodeAnswer, codeNumbers, serveNumbers, planeIn, decodeNumbers, codePlaces, servePlaces, decodePlaces, reported}
 
 -- Opening one of these opens a section's definitions.
 unfoldable pub opensPyramid : Unit {0}
@@ -72,6 +75,10 @@ opensCalls = tt
 unfoldable pub opensDecoding : Unit {0}
 unfolding used onward decodeParts reachedPlane reachedPlanes pictured decodedParts decoding
 opensDecoding = tt
+
+unfoldable pub opensAnswers : Unit {0}
+unfolding filled codeOut codeAnswer serveOut serveAnswer decodeOut decodeAnswer codeNumbers serveNumbers planeIn decodeNumbers reported
+opensAnswers = tt
 
 -- The document's record: N = 1, 4 x 4, rows 4 -1 0 0 / 2 0 0 -3 / 0 0 1 0 / 0 0 0 0.
 unfoldable pub four : Size
@@ -136,30 +143,104 @@ without11 =
     ∷ 0x00 ∷ 0x02 ∷ 0x05 ∷ 0xC0
     ∷ 0x00 ∷ 0x01 ∷ 0x0B ∷ 0x0C ∷ 0x20 ∷ []
 
--- what was decoded: the pyramid, the tail, the reached planes of levels 1 and 2
-unfoldable pub shown : List ℤ → ℕ → ℕ → ℕ → Result Picture
-shown pyramid t r1 r2 =
-    accepted (record {
-      pyramid = pyramid;
-      tail = t;
-      reached = record { 0 = r1 } ∷ record { 0 = r2 } ∷ record { 0 = 0 } ∷ record { 0 = 0 } ∷ record { 0 = 0 } ∷ record { 0 = 0 } ∷ [];
-    })
+-- Its header, and a first part with a padding bit set; one of 4 bits, where its pass takes 5, before a part with a padding bit set; one of 6 bits;
+-- one cut off behind a plane that no part of it has.
+unfoldable pub padSet : List ℕ
+padSet =
+    0x01 ∷ 0x04 ∷ 0x04 ∷ 0x01 ∷ 0x03
+    ∷ 0x02 ∷ 0x02 ∷ 0x05 ∷ 0x81 ∷ []
 
-unfoldable pub bytesIn : Result Portion → List ℕ
-bytesIn (refused r) = []
-bytesIn (accepted x) = x .bytes
+unfoldable pub bitsRunOut : List ℕ
+bitsRunOut =
+    0x01 ∷ 0x04 ∷ 0x04 ∷ 0x01 ∷ 0x03
+    ∷ 0x02 ∷ 0x02 ∷ 0x04 ∷ 0x80
+    ∷ 0x02 ∷ 0x01 ∷ 0x03 ∷ 0x01 ∷ []
+
+unfoldable pub bitsLeftOver : List ℕ
+bitsLeftOver =
+    0x01 ∷ 0x04 ∷ 0x04 ∷ 0x01 ∷ 0x03
+    ∷ 0x02 ∷ 0x02 ∷ 0x06 ∷ 0x80 ∷ []
+
+unfoldable pub cutInHead : List ℕ
+cutInHead =
+    0x01 ∷ 0x04 ∷ 0x04 ∷ 0x01 ∷ 0x03
+    ∷ 0x05 ∷ []
+
+-- A pyramid of 8 x 8 with N = 2 that has 1 at (0,0), else 0.
+unfoldable pub single : List ℤ
+single = pos 1 ∷ replicate 63 (pos 0)
+
+unfoldable pub singleBytes : List ℕ
+singleBytes =
+    0x01 ∷ 0x08 ∷ 0x08 ∷ 0x02 ∷ 0x01
+    ∷ 0x00 ∷ 0x03 ∷ 0x05 ∷ 0x80
+    ∷ 0x00 ∷ 0x02 ∷ 0x03 ∷ 0x00
+    ∷ 0x00 ∷ 0x01 ∷ 0x00 ∷ []
+
+-- Two more of 8 x 8 with N = 2. Their records are those of the reference's test module `literal` (reference/tests/all/literal.rs), which
+-- follows the published steps word for word on lists of coordinates, and were worked out by hand too. A set that is opened in level 2 is put back as
+-- type B and moves to level 1; there it opens into four sets of type A, visited in the same pass. In the first one set comes so far in each plane,
+-- in the second one waits in level 1 for a plane.
+unfoldable pub early : List ℤ
+early =
+    pos 2 ∷ negsuc 0 ∷ pos 1 ∷ pos 0 ∷ pos 0 ∷ pos 0 ∷ pos 0 ∷ pos 0
+    ∷ pos 0 ∷ pos 0 ∷ pos 0 ∷ pos 0 ∷ pos 0 ∷ negsuc 1 ∷ pos 0 ∷ pos 0
+    ∷ pos 0 ∷ pos 0 ∷ pos 0 ∷ pos 0 ∷ pos 0 ∷ pos 0 ∷ pos 0 ∷ pos 0
+    ∷ pos 0 ∷ pos 0 ∷ pos 0 ∷ pos 0 ∷ pos 0 ∷ pos 0 ∷ pos 0 ∷ pos 0
+    ∷ pos 0 ∷ pos 0 ∷ pos 0 ∷ pos 0 ∷ pos 0 ∷ pos 0 ∷ pos 0 ∷ pos 0
+    ∷ pos 0 ∷ pos 0 ∷ pos 0 ∷ pos 0 ∷ pos 0 ∷ pos 0 ∷ pos 1 ∷ pos 0
+    ∷ pos 0 ∷ pos 0 ∷ pos 0 ∷ pos 0 ∷ pos 0 ∷ pos 0 ∷ pos 0 ∷ pos 0
+    ∷ pos 0 ∷ pos 0 ∷ pos 0 ∷ pos 0 ∷ pos 0 ∷ pos 0 ∷ pos 0 ∷ pos 0 ∷ []
+
+unfoldable pub earlyBytes : List ℕ
+earlyBytes =
+    0x01 ∷ 0x08 ∷ 0x08 ∷ 0x02 ∷ 0x02
+    ∷ 0x01 ∷ 0x03 ∷ 0x05 ∷ 0x80
+    ∷ 0x01 ∷ 0x02 ∷ 0x07 ∷ 0x80
+    ∷ 0x01 ∷ 0x01 ∷ 0x0A ∷ 0xC6 ∷ 0x00
+    ∷ 0x00 ∷ 0x03 ∷ 0x05 ∷ 0xC0
+    ∷ 0x00 ∷ 0x02 ∷ 0x0B ∷ 0x82 ∷ 0x00
+    ∷ 0x00 ∷ 0x01 ∷ 0x11 ∷ 0x02 ∷ 0x90 ∷ 0x00 ∷ []
+
+unfoldable pub late : List ℤ
+late =
+    pos 0 ∷ pos 0 ∷ pos 0 ∷ pos 0 ∷ pos 0 ∷ pos 0 ∷ pos 0 ∷ pos 0
+    ∷ pos 0 ∷ negsuc 0 ∷ pos 0 ∷ pos 0 ∷ pos 0 ∷ pos 0 ∷ pos 0 ∷ pos 0
+    ∷ pos 0 ∷ pos 3 ∷ pos 0 ∷ pos 0 ∷ pos 0 ∷ pos 0 ∷ pos 0 ∷ pos 0
+    ∷ pos 0 ∷ pos 0 ∷ pos 0 ∷ pos 0 ∷ pos 0 ∷ pos 0 ∷ pos 0 ∷ pos 0
+    ∷ pos 0 ∷ pos 0 ∷ pos 0 ∷ pos 0 ∷ pos 1 ∷ pos 0 ∷ pos 0 ∷ pos 0
+    ∷ pos 0 ∷ pos 0 ∷ pos 0 ∷ pos 1 ∷ pos 0 ∷ pos 0 ∷ pos 0 ∷ pos 0
+    ∷ pos 0 ∷ pos 0 ∷ pos 0 ∷ pos 0 ∷ pos 0 ∷ pos 0 ∷ pos 0 ∷ pos 0
+    ∷ pos 0 ∷ pos 0 ∷ pos 0 ∷ pos 0 ∷ pos 0 ∷ pos 0 ∷ pos 0 ∷ negsuc 3 ∷ []
+
+unfoldable pub lateBytes : List ℕ
+lateBytes =
+    0x01 ∷ 0x08 ∷ 0x08 ∷ 0x02 ∷ 0x03
+    ∷ 0x02 ∷ 0x03 ∷ 0x04 ∷ 0x00
+    ∷ 0x02 ∷ 0x02 ∷ 0x07 ∷ 0x20
+    ∷ 0x02 ∷ 0x01 ∷ 0x0A ∷ 0x88 ∷ 0xC0
+    ∷ 0x01 ∷ 0x03 ∷ 0x04 ∷ 0x00
+    ∷ 0x01 ∷ 0x02 ∷ 0x0B ∷ 0x05 ∷ 0x00
+    ∷ 0x01 ∷ 0x01 ∷ 0x08 ∷ 0x00
+    ∷ 0x00 ∷ 0x03 ∷ 0x05 ∷ 0x18
+    ∷ 0x00 ∷ 0x02 ∷ 0x09 ∷ 0x00 ∷ 0x80
+    ∷ 0x00 ∷ 0x01 ∷ 0x16 ∷ 0x18 ∷ 0x14 ∷ 0x40 ∷ []
 
 unfoldable pub opensExample : Unit {0}
-unfolding four eight rowsOf example thirty servedAtTwo servedToPlaneOne without12 without11 shown bytesIn
+unfolding four eight rowsOf example thirty servedAtTwo servedToPlaneOne without12 without11
 opensExample = tt
+
+unfoldable pub opensOthers : Unit {0}
+unfolding padSet bitsRunOut bitsLeftOver cutInHead single singleBytes early earlyBytes late lateBytes
+opensOthers = tt
 
 -- What a row may speak of.
 pub data Shown : Type 0 where
-  bytes : List ℕ → Shown
-  places : List ℕ → Shown
+  numbers : List ℕ → Shown
   read : Number → Shown
-  codes : Result (List ℕ) → Shown
-  picture : ℕ → Result Picture → Shown
+  -- of a call the answer that its export writes to the slice lent for it, and the output
+  bytes : List ℕ → List ℕ → Shown
+  pyramid : List ℕ → List ℤ → Shown
 
 -- a row of the table: what the definitions give, and what the document states
 pub record Row : Type 0 where
@@ -170,43 +251,72 @@ infixl 5 _is_
 abbrev pub _is_ : Shown → Shown → Row
 _is_ x y = record { given = x; stated = y }
 
--- what decoding makes of bytes, with their number
-abbrev pub decodes : List ℕ → Shown
-decodes s = picture (length s) (decoding s 16 64)
+unfoldable pub codedAs : ℕ → Result (List ℕ) → Shown
+codedAs room x = bytes (reported codePlaces (zeros codePlaces) (codeNumbers (codeAnswer x))) (codeOut room x)
 
-abbrev pub serves : ℕ → ℕ → Shown
-serves r p = bytes (bytesIn (serving thirty r p 30))
+unfoldable pub servedAs : ℕ → Result Portion → Shown
+servedAs room x = bytes (reported servePlaces (zeros servePlaces) (serveNumbers (serveAnswer x))) (serveOut room x)
+
+unfoldable pub decodedAs : ℕ → Result Picture → Shown
+decodedAs room x = pyramid (reported decodePlaces (zeros decodePlaces) (decodeNumbers (decodeAnswer x))) (decodeOut room x)
+
+abbrev pub codes : List ℤ → Size → ℕ → Shown
+codes v z room = codedAs room (coding v z room (workFor z))
+
+abbrev pub serves : List ℕ → ℕ → ℕ → Shown
+serves s r p = servedAs (length s) (serving s r p (length s))
+
+abbrev pub decodes : List ℕ → Shown
+decodes s = decodedAs 16 (decoding s 16 64)
 
 unfoldable pub table : List Row
 table =
     -- P1 127 is 7F. P2 128 is 80 01. P3 512 is 80 04. P4 80 00 malformed. P5 80 80 80 80 malformed.
-    (bytes (numberBytes 127) is bytes (0x7F ∷ []))
-    ∷ (bytes (numberBytes 128) is bytes (0x80 ∷ 0x01 ∷ []))
-    ∷ (bytes (numberBytes 512) is bytes (0x80 ∷ 0x04 ∷ []))
+    (numbers (numberBytes 127) is numbers (0x7F ∷ []))
+    ∷ (numbers (numberBytes 128) is numbers (0x80 ∷ 0x01 ∷ []))
+    ∷ (numbers (numberBytes 512) is numbers (0x80 ∷ 0x04 ∷ []))
     ∷ (read (readNumber (0x80 ∷ 0x04 ∷ []) 0) is read (Value 512 2))
     ∷ (read (readNumber (0x80 ∷ 0x00 ∷ []) 0) is read LongForm)
     ∷ (read (readNumber (0x80 ∷ 0x80 ∷ 0x80 ∷ 0x80 ∷ []) 0) is read TooManyBytes)
-    -- P6 the record above, there and back. P7 all zero 4 x 4, N = 1: 01 04 04 01 00.
-    ∷ (codes (coding example four 30 64) is codes (accepted thirty))
-    ∷ (decodes thirty is picture 30 (shown example 0 0 0))
-    ∷ (codes (coding (rowsOf (pos 0) (pos 0) (pos 0) (pos 0) (pos 0) (pos 0)) four 5 64) is codes (accepted (0x01 ∷ 0x04 ∷ 0x04 ∷ 0x01 ∷ 0x00 ∷ [])))
+    -- P6 the record above, there and back; served whole. P7 all zero 4 x 4, N = 1: 01 04 04 01 00; all zero 8 x 4.
+    ∷ (codes example four 30 is bytes (0 ∷ 0 ∷ 30 ∷ []) thirty)
+    ∷ (decodes thirty is pyramid (0 ∷ 0 ∷ 0 ∷ 0 ∷ 0 ∷ 0 ∷ 0 ∷ 0 ∷ 0 ∷ []) example)
+    ∷ (serves thirty 1 0 is bytes (0 ∷ 0 ∷ 30 ∷ 0 ∷ []) thirty)
+    ∷ (codes (replicate 16 (pos 0)) four 5 is bytes (0 ∷ 0 ∷ 5 ∷ []) (0x01 ∷ 0x04 ∷ 0x04 ∷ 0x01 ∷ 0x00 ∷ []))
+    ∷ (codes (replicate 32 (pos 0)) (record { w = 8; h = 4; n = 1 }) 5 is bytes (0 ∷ 0 ∷ 5 ∷ []) (0x01 ∷ 0x08 ∷ 0x04 ∷ 0x01 ∷ 0x00 ∷ []))
     -- P8 served for r = 2, p = 0: 17 bytes; decoded, the LL band is right and all else 0.
-    ∷ (serves 2 0 is bytes servedAtTwo)
-    ∷ (decodes servedAtTwo is picture 17 (shown (rowsOf (pos 4) (negsuc 0) (pos 2) (pos 0) (pos 0) (pos 0)) 0 3 0))
+    ∷ (serves thirty 2 0 is bytes (0 ∷ 0 ∷ 17 ∷ 0 ∷ []) (servedAtTwo ++ zeros 13))
+    ∷ (decodes servedAtTwo is pyramid (0 ∷ 0 ∷ 0 ∷ 3 ∷ 0 ∷ 0 ∷ 0 ∷ 0 ∷ 0 ∷ []) (rowsOf (pos 4) (negsuc 0) (pos 2) (pos 0) (pos 0) (pos 0)))
     -- P9 served for r = 1, p = 1: 21 bytes; decoded 4 0 / 2 0 in the LL band, -2 at (1,3), else 0.
-    ∷ (serves 1 1 is bytes servedToPlaneOne)
-    ∷ (decodes servedToPlaneOne is picture 21 (shown (rowsOf (pos 4) (pos 0) (pos 2) (pos 0) (negsuc 1) (pos 0)) 0 1 1))
+    ∷ (serves thirty 1 1 is bytes (0 ∷ 0 ∷ 21 ∷ 0 ∷ []) (servedToPlaneOne ++ zeros 9))
+    ∷ (decodes servedToPlaneOne
+    is pyramid (0 ∷ 0 ∷ 0 ∷ 1 ∷ 1 ∷ 0 ∷ 0 ∷ 0 ∷ 0 ∷ []) (rowsOf (pos 4) (pos 0) (pos 2) (pos 0) (negsuc 1) (pos 0)))
     -- P10 part (1,2) lost: 4 at (0,0), else 0; reached 2 at both levels.
-    ∷ (decodes without12 is picture 26 (shown (rowsOf (pos 4) (pos 0) (pos 0) (pos 0) (pos 0) (pos 0)) 0 2 2))
-    -- P11 part (1,1) lost: LL band exact, reached 0; level 1 all 0, reached 2.
-    ∷ (decodes without11 is picture 26 (shown (rowsOf (pos 4) (negsuc 0) (pos 2) (pos 0) (pos 0) (pos 0)) 0 2 0))
+    ∷ (decodes without12 is pyramid (0 ∷ 0 ∷ 0 ∷ 2 ∷ 2 ∷ 0 ∷ 0 ∷ 0 ∷ 0 ∷ []) (rowsOf (pos 4) (pos 0) (pos 0) (pos 0) (pos 0) (pos 0)))
+    -- P11 part (1,1) lost: LL band exact, reached 0; level 1 all 0, reached 2. Served whole it is the same 26 bytes.
+    ∷ (decodes without11 is pyramid (0 ∷ 0 ∷ 0 ∷ 2 ∷ 0 ∷ 0 ∷ 0 ∷ 0 ∷ 0 ∷ []) (rowsOf (pos 4) (negsuc 0) (pos 2) (pos 0) (pos 0) (pos 0)))
+    ∷ (serves without11 1 0 is bytes (0 ∷ 0 ∷ 26 ∷ 0 ∷ []) without11)
     -- P12 in 8 x 8, N = 2: (0,1) has the block at (0,2), (1,2) the block at (2,4).
-    ∷ (places (offspringOf eight (0 * 8 + 1)) is places (block eight 0 2))
-    ∷ (places (offspringOf eight (1 * 8 + 2)) is places (block eight 2 4))
+    ∷ (numbers (offspringOf eight (0 * 8 + 1)) is numbers (2 ∷ 3 ∷ 10 ∷ 11 ∷ []))
+    ∷ (numbers (offspringOf eight (1 * 8 + 2)) is numbers (20 ∷ 21 ∷ 28 ∷ 29 ∷ []))
+    -- "log2 M rounded up, .. and there are n_max + 1 planes"
+    ∷ (numbers (map planesOf (1 ∷ 4 ∷ 5 ∷ 65535 ∷ [])) is numbers (1 ∷ 3 ∷ 4 ∷ 17 ∷ []))
     -- "its first 29 bytes decode with a tail of 4"
-    ∷ (decodes (take 29 thirty) is picture 29 (shown (rowsOf (pos 4) (negsuc 0) (pos 2) (pos 0) (negsuc 1) (pos 0)) 4 1 0))
+    ∷ (decodes (take 29 thirty)
+    is pyramid (0 ∷ 0 ∷ 4 ∷ 1 ∷ 0 ∷ 0 ∷ 0 ∷ 0 ∷ 0 ∷ []) (rowsOf (pos 4) (negsuc 0) (pos 2) (pos 0) (negsuc 1) (pos 0)))
     -- a part of 0 bits, here (0,1), is written too
-    ∷ (codes (coding (pos 1 ∷ replicate 63 (pos 0)) eight 16 256) is codes (accepted (0x01 ∷ 0x08 ∷ 0x08 ∷ 0x02 ∷ 0x01 ∷ 0x00 ∷ 0x03 ∷ 0x05 ∷ 0x80 ∷ 0x00 ∷ 0x02 ∷ 0x03 ∷ 0x00 ∷ 0x00 ∷ 0x01 ∷ 0x00 ∷ [])))
+    ∷ (codes single eight 16 is bytes (0 ∷ 0 ∷ 16 ∷ []) singleBytes)
+    -- "serving: 11, the parts": no level 3, then the part at fault
+    ∷ (serves padSet 3 0 is bytes (11 ∷ 0 ∷ 0 ∷ 0 ∷ []) (zeros 9))
+    ∷ (serves padSet 1 0 is bytes (9 ∷ 5 ∷ 0 ∷ 0 ∷ []) (zeros 9))
+    -- "10 FIT: a usable part's bits run out or are left over"; "the first part at fault decides", here before 9
+    ∷ (decodes bitsRunOut is pyramid (10 ∷ 5 ∷ 0 ∷ 0 ∷ 0 ∷ 0 ∷ 0 ∷ 0 ∷ 0 ∷ []) (replicate 16 (pos 0)))
+    ∷ (decodes bitsLeftOver is pyramid (10 ∷ 5 ∷ 0 ∷ 0 ∷ 0 ∷ 0 ∷ 0 ∷ 0 ∷ 0 ∷ []) (replicate 16 (pos 0)))
+    -- "its three numbers in turn .., the first that isn't a value deciding; the other causes of 8": cut off, so a tail
+    ∷ (serves cutInHead 1 0 is bytes (0 ∷ 0 ∷ 5 ∷ 1 ∷ []) (0x01 ∷ 0x04 ∷ 0x04 ∷ 0x01 ∷ 0x03 ∷ 0x00 ∷ []))
+    -- type B opened, sets handed on below the LL band, sets added and visited in one pass
+    ∷ (codes early eight 33 is bytes (0 ∷ 0 ∷ 33 ∷ []) earlyBytes)
+    ∷ (codes late eight 46 is bytes (0 ∷ 0 ∷ 46 ∷ []) lateBytes)
     ∷ []
 
 unfoldable pub opensDocument : Unit {0}
@@ -214,5 +324,5 @@ unfolding opensPyramid opensFamily opensPass opensRun opensSides opensBytes open
 opensDocument = tt
 
 pub cases-hold : map (λ r. r .given) table ≡ map (λ r. r .stated) table
-unfolding table opensExample opensDocument
+unfolding table opensExample opensOthers opensDocument opensAnswers codedAs servedAs decodedAs
 cases-hold = refl
