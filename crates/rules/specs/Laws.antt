@@ -1,5 +1,4 @@
 -- What follows from the definitions of Document.
-pub mod Cases
 pub mod Tests
 pub mod Count
 pub mod Family

@@ -2,18 +2,16 @@
 -- about all its rows, by computation. What is stated is numbers and bytes; of a call the answer that its export writes and the output it leaves.
 use mathlib.Core.Path.{_≡_, refl}
 use mathlib.Core.List.{List, [], _∷_, _++_, map}
-use mathlib.Core.Bool.{Bool, true, false, cond, not}
-use Prim.Native.Nat.{ℕ, zero, suc, _+_, _*_}
+use Prim.Native.Nat.{ℕ, _+_, _*_}
 use lib.ListN.{length, take, replicate}
 use lib.IntN.{ℤ, pos, negsuc}
 use Rattle.rules.specs.declared.Size.{Size}
-use Rattle.rules.specs.declared.Plane.{Plane}
 use Rattle.rules.specs.declared.Number.{Number}
-use Rattle.rules.specs.declared.Number.the-variants.{Value, TooManyBytes, LongForm, CutOff}
+use Rattle.rules.specs.declared.Number.the-variants.{Value, TooManyBytes, LongForm}
 use Rattle.rules.specs.Document.Notation.{any, every, flat, greatest, lowest, ifAny, zeros}
 use Rattle.rules.specs.Document.Pyramid.{legalSide, legalSize, magnitude, negative, within, levelUpTo, levelOf, block, offspringLL, offspringAt, offspringOf, generations, descendantsOf, log2Up, planesOf}
-use Rattle.rules.specs.Document.Passes.{members, inLevel, tested, tests, opened, added, weighed, visited, visits, turns, sets, refines, pass, walk, listed, passed, after, from, rows, bandLL, rootOf, start, PartName, partsOfPlane, partNames, truth, coded, signed, grown, written, decoded}
-use Rattle.rules.specs.Document.Layout.{groups, numberBytes, numberFrom, readNumber, eightBits, packFrom, packed, bitAt, clearFrom, padClear, headerBytes, CodedPart, partBytes, codedParts, planesIn, partsOf, recordOf, wholeOf, bodyOf, nameOf, sameName, needs, usable, reached}
+use Rattle.rules.specs.Document.Passes.{members, inLevel, tested, tests, opened, added, weighed, visited, visits, turns, sets, refines, pass, walk, listed, passed, after, from, rows, bandLL, rootOf, start, partsOfPlane, partNames, truth, coded, signed, grown, written, decoded}
+use Rattle.rules.specs.Document.Layout.{groups, numberBytes, numberFrom, readNumber, eightBits, packFrom, packed, bitAt, clearFrom, padClear, headerBytes, partBytes, codedParts, planesIn, partsOf, recordOf, wholeOf, bodyOf, nameOf, sameName, needs, usable, reached}
 use Rattle.rules.specs.Document.Numbers.{headNumber, judgedHeader, readSizes, readHeader, partNumber, follows, legalHead, judgedPart, headed, readPart, goOn, readFrom, readParts}
 use Rattle.rules.specs.Document.Calls.{Result, unless, workFor, firstOver, fitted, coding, onHeader, onEnding, legalAsk, keptOf, servedBytes, Portion, portioned, serving}
 use Rattle.rules.specs.Document.Calls.{used, onward, decodeParts, Picture, reachedPlane, reachedPlanes, pictured, decodedParts, decoding}
