@@ -25,11 +25,6 @@ pub setBit-past : (out : List ℕ) (t : ℕ) (b : Bool) → length out ≤ t / 8
 unfolding setBit
 setBit-past out t b h = set-out out (t / 8) (withBit (getD out (t / 8) 0) (t % 8) b) h
 
-pub writeBits-length : (out : List ℕ) (t : ℕ) (bits : List Bool) → length (writeBits out t bits) ≡ length out
-unfolding writeBits
-writeBits-length out t [] = refl
-writeBits-length out t (b ∷ bits) = writeBits-length (setBit out t b) (t + 1) bits ∙ setBit-length out t b
-
 pub writeBits-append : (out : List ℕ) (t : ℕ) (bits more : List Bool)
     → writeBits out t (bits ++ more) ≡ writeBits (writeBits out t bits) (t + length bits) more
 unfolding writeBits

@@ -13,7 +13,7 @@ use borrow.Author.Tests.{lt-ltb, le-ltb, ltb-true, le-leb, lt-leb}
 use Rattle.rules.specs.declared.Size.{Size}
 use Rattle.rules.specs.Document.Notation.{greatest}
 use Rattle.rules.specs.Document.Pyramid.{Family, area, levelOf, offspringOf, magnitude, maxD, maxL}
-use Rattle.rules.specs.Document.Passes.{Entry, typeA, typeB, set?, stays, members, inLevel, opened, added, truth, Side, Course, listed, listing, done}
+use Rattle.rules.specs.Document.Passes.{Entry, typeA, typeB, set?, stays, members, opened, added, truth, Side, Course, listed, listing, done}
 use Rattle.rules.specs.Laws.Count.{All, _∈_, some-in}
 use Rattle.rules.specs.Laws.Family.{Lawful, level-some, offspring-descend, grandchild, grandchild-in}
 use Rattle.rules.specs.Laws.Sizes.{Legal, legal}
@@ -22,12 +22,12 @@ use Rattle.rules.specs.Laws.Offspring.Kin.{offspring-level}
 use Rattle.rules.specs.Laws.Offspring.Lawful.{lawful}
 use Rattle.rules.specs.Laws.Offspring.Tests.{inLevel-A, inLevel-B, added-A}
 use Rattle.rules.specs.Laws.Maxima.{maxD-A, maxL-B}
-use Rattle.rules.specs.Laws.PassLevels.{Met, Settled, nodeOf, met-settled, settled-offspring, typeA-met}
+use Rattle.rules.specs.Laws.PassLevels.{Met, nodeOf, met-settled, settled-offspring, typeA-met}
 use Rattle.rules.specs.Laws.PassSteps.{triedAll, walk-stays, walk-opens}
 use Rattle.rules.specs.Laws.Slots.{Room, room-past, room-open, room-tests, room-slots, room-held}
 use Rattle.rules.specs.Laws.StateRecord.{node-area}
 use Rattle.shape.specs.Offspring.{offspringList}
-use Rattle.shape.specs.declared.Offspring.the-variants.{Nothing, Block}
+use Rattle.shape.specs.declared.Offspring.the-variants.{Block}
 use Rattle.rules.specs.Laws.Sizes.{area-bound}
 use Rattle.shape.specs.Nodes.{Node}
 use Rattle.bits.specs.declared.BitPosition.{BitPosition}
@@ -273,28 +273,6 @@ module _ (run : Run) (P : Proper run) where
       by false = tt
   queue-added v (typeB p) m h = unfold added in
       queue-met v (offspringOf (run .z) p) (omega (arith, level-B p m, level-most (run .z) p)) (typeA-met L k p m)
-
-  pub queue-olds : (v : ℕ) (es : List Entry) → k ≤ run .z .n → v + length es ≤ run .olds → All (Met F k) es → Queued run v es
-  unfolding Queued All
-  queue-olds v [] h l a = tt
-  queue-olds v (e ∷ es) h l a = (a .0 .there ∙ sym (has e), queue-olds (suc v) es h (omega arith) (a .1))
-    where
-      has : (e : Entry) → hasMember run v e ≡ true
-      has (typeA p) = unfold hasMember in le-leb k (run .z .n) h
-      has (typeB p) = unfold hasMember in rw (le-leb k (run .z .n) h) (lt-ltb v (run .olds) (omega arith))
-
-  pub queue-top : (v : ℕ) (es : List Entry) → run .z .n < k → All (Settled F k) es → Queued run v es
-  unfolding Queued All
-  queue-top v [] h a = tt
-  queue-top v (e ∷ es) h a = (none e (a .0), queue-top (suc v) es h (a .1))
-    where
-      none : (e : Entry) → Settled F k e → inLevel F k e ≡ hasMember run v e
-      none (typeA p) s = unfold hasMember nodeOf in
-          inLevel-A (run .z) Z p (settled-offspring L (typeA p) s) k (P .coarser) ∙ le-ltb k (levelOf (run .z) p) (omega (arith, level-most (run .z) p))
-          ∙ sym (lt-leb k (run .z .n) h)
-      none (typeB p) s = unfold hasMember nodeOf in
-          inLevel-B (run .z) Z p (settled-offspring L (typeB p) s) k (P .coarser)
-          ∙ le-ltb (suc k) (levelOf (run .z) p) (omega (arith, level-most (run .z) p)) ∙ rw (lt-leb k (run .z .n) h)
 
   -- The set in hand has members in the level; there is room for what comes of it.
   module _ {e : Entry} {s : List ℕ} {w : Stand} (H : InHand run e s w) where

@@ -24,7 +24,7 @@ use Rattle.rules.specs.Laws.ReadBackPart.{partAt, part-body, next-stands
 use Rattle.rules.specs.Laws.ReadBack.{partsAt, selection}
 use Rattle.rules.specs.Laws.Known.{follower-passed}
 use Rattle.rules.specs.Laws.KnownState.{followed}
-use Rattle.rules.specs.Laws.Agreement.{listsWith, listsAfter, Alike, alike-used, alike-unused}
+use Rattle.rules.specs.Laws.Agreement.{listsWith, Alike, alike-used, alike-unused}
 use Rattle.rules.specs.Laws.Rebuilt.{rebuilt}
 
 module _ (F : Family) (mag : ℕ → ℕ) (neg : ℕ → Bool) (p : PartName) where
@@ -39,29 +39,6 @@ module _ (F : Family) (mag : ℕ → ℕ) (neg : ℕ → Bool) (p : PartName) wh
       ap (λ c. after (p .level) c s) (coded-course F mag neg p s)
       ∙ after-course (p .level) (s (p .level)) (eventsOf F mag neg p s) _ (drawn (p .plane) (eventsOf F mag neg p s) v) s
       ∙ ap (λ c. after (p .level) c s) (sym (follower-passed F mag neg (p .plane) (p .level) (s (p .level)) v))
-
--- So the decoder's lists are those after the usable parts.
-pub rebuilt-lists : (F : Family) (mag : ℕ → ℕ) (neg : ℕ → Bool) (R : ℕ → ℕ) (ps : List PartName) (s : State) (v : List ℤ)
-    → (w : List ℤ) × (rebuilt F mag neg R ps s v ≡ going (listsAfter F mag neg (λ p. leb (R (p .level)) (p .plane)) ps s) w)
-unfolding rebuilt listsAfter
-rebuilt-lists F mag neg R [] s v = (v, refl)
-rebuilt-lists F mag neg R (p ∷ ps) s v =
-    by (leb (R (p .level)) (p .plane)) (rebuilt-lists F mag neg R ps (after (p .level) c s) (c .side)) (rebuilt-lists F mag neg R ps s v)
-  where
-    c : Course (List ℤ)
-    c = followed F mag neg p s v
-
-    used : PartName → Bool
-    used p = leb (R (p .level)) (p .plane)
-
-    by : (b : Bool)
-        → (w : List ℤ) × (rebuilt F mag neg R ps (after (p .level) c s) (c .side) ≡ going (listsAfter F mag neg used ps (after (p .level) c s)) w)
-        → (w : List ℤ) × (rebuilt F mag neg R ps s v ≡ going (listsAfter F mag neg used ps s) w)
-        → (w : List ℤ)
-        × (cond b (rebuilt F mag neg R ps (after (p .level) c s) (c .side)) (rebuilt F mag neg R ps s v)
-        ≡ going (listsAfter F mag neg used ps (cond b (listsWith F mag neg p s) s)) w)
-    by true x y = (x .0, x .1 ∙ ap (λ t. going (listsAfter F mag neg used ps t) (x .0)) (sym (followed-lists F mag neg p s v)))
-    by false x y = y
 
 module _ (h : Header) (bytes : List ℕ) (there : List PartName) (mag : ℕ → ℕ) (neg : ℕ → Bool) where
   abbrev F : Family

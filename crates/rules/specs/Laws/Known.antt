@@ -16,14 +16,14 @@ use borrow.Author.Tests.{leb-true, leb-false}
 use Rattle.rules.specs.Document.Notation.{greatest}
 use Rattle.rules.specs.Document.Pyramid.{Family}
 use Rattle.rules.specs.Document.Passes.{Entry, Talk, done, ask, tell, Lists, members, inLevel, opened, added, pass}
-use Rattle.rules.specs.Document.Passes.{Side, walk, Course, listed, listing, passed, own, truth, coder, signed, grown, written}
+use Rattle.rules.specs.Document.Passes.{Side, walk, Course, listed, listing, passed, own, truth, signed, grown, written}
 use Rattle.rules.specs.Laws.Count.{sum, is, _∈_, All, Every, sum-append, is-same, is-no, all-then, all-both, every-all, all-every}
 use Rattle.rules.specs.Laws.Family.{Lawful}
 use Rattle.rules.specs.Laws.PassSteps.{signNoted, bitNoted}
 use Rattle.rules.specs.Laws.PassKept.{Kept, kept-pass}
 use Rattle.rules.specs.Laws.PassLevels.{Met, Settled, Placed, opened-members, added-members, members-apart, opened-placed, added-settled}
 use Rattle.rules.specs.Laws.Lists.{Claims, Fates, Sorted, sorted-kept, listsWeight}
-use Rattle.rules.specs.Laws.Simulation.{outcomes, drawn, course, tells-outcomes, passed-told, coder-passed}
+use Rattle.rules.specs.Laws.Simulation.{outcomes, drawn, course, tells-outcomes, passed-told}
 use Rattle.rules.specs.Laws.Maxima.{greatest-most}
 use Rattle.rules.specs.Laws.Demands.{towardZero}
 use Rattle.rules.specs.Laws.Rounding.{toward-first, grown-next}
@@ -283,12 +283,3 @@ module _ {F : Family} (L : Lawful F) (mag : ℕ → ℕ) (neg : ℕ → Bool) (n
           elsewhere = ended .1 .elsewhere;
           sized = ended .1 .sized;
         }
-
-    -- The coder's own lists are the same.
-    pub coder-known : (bits : List Bool)
-        → Known F mag neg n k (own (passed F k (coder F mag neg n) l bits)) (passed F k (follower F mag neg n) l v .side)
-    unfolding course
-    coder-known bits =
-        let same : own (passed F k (coder F mag neg n) l bits) ≡ own (passed F k (follower F mag neg n) l v)
-        = ap own (coder-passed F mag neg n k l bits) ∙ sym (ap own (follower-passed F mag neg n k l v)) in
-        rw same (pass-known .known)

@@ -115,17 +115,6 @@ module _ (z : Size) (m : ℕ → ℕ) where
         (greatest-same (maxD z m g) (λ p. greatest m (members (family z) (typeA p))) (offspringOf z q)
         (every-all _ (offspringOf z q) (λ p i. maxD-enough g p (l p i))))
 
--- A set's question.
-module _ (z : Size) (mag : ℕ → ℕ) (neg : ℕ → Bool) (n : ℕ) where
-  pub asks-maxD : (q : ℕ) → truth (family z) mag neg n (set? (typeA q)) ≡ leb (2 ^ n) (maxD z mag (levelOf z q) q)
-  unfolding truth
-  asks-maxD q = ap (leb (2 ^ n)) (maxD-A z mag q)
-
-  pub asks-maxL : ((p q : ℕ) → q ∈ offspringOf z p → levelOf z q < levelOf z p)
-      → (g q : ℕ) → Every (λ p. levelOf z p ≤ g) (offspringOf z q) → truth (family z) mag neg n (set? (typeB q)) ≡ leb (2 ^ n) (maxL z mag g q)
-  unfolding truth
-  asks-maxL falls g q l = ap (leb (2 ^ n)) (maxL-B z mag falls g q l)
-
 -- In any family a set is significant exactly if some member is.
 pub asks-some : (F : Family) (mag : ℕ → ℕ) (neg : ℕ → Bool) (n : ℕ) (e : Entry)
     → truth F mag neg n (set? e) ≡ any (λ q. leb (2 ^ n) (mag q)) (members F e)

@@ -13,14 +13,14 @@ use Rattle.rules.specs.declared.PartRead.the-variants as part
 use Rattle.rules.specs.Document.Notation.{flat}
 use Rattle.rules.specs.Document.Pyramid.{Family, mostPlanes, legalSize, levels}
 use Rattle.rules.specs.Document.Passes.{State, after, PartName, partNames, coded}
-use Rattle.rules.specs.Document.Layout.{packed, headerBytes, CodedPart, partBytes, codedParts, wholeOf, bodyOf, nameOf}
-use Rattle.rules.specs.Document.Numbers.{mostBits, follows, legalHead, headed, readPart, tail, Reading, goOn, readFrom, readParts}
+use Rattle.rules.specs.Document.Layout.{headerBytes, CodedPart, partBytes, codedParts, nameOf}
+use Rattle.rules.specs.Document.Numbers.{mostBits, follows, legalHead, readPart, tail, Reading, goOn, readFrom, readParts}
 use Rattle.rules.specs.Laws.Count.{All, flat-append}
 unfoldable pub use Rattle.rules.specs.Laws.Tests.{selection}
 use Rattle.rules.specs.Laws.Parts.{at, Named, InOrder, names-in-order, names-named, follows-follows, LegalHead, legal-head, head-legal, legal-behind}
 use Rattle.rules.specs.Laws.ReadBackNumber.{left-none, left-behind}
 use Rattle.rules.specs.Laws.Walk.{readPart-past}
-use Rattle.rules.specs.Laws.ReadBackPart.{headerOf, partAt, Small, legal-small, part-some, next-stands, part-body, part-whole, part-name, part-end, reads-part, reads-part-cut}
+use Rattle.rules.specs.Laws.ReadBackPart.{headerOf, partAt, Small, legal-small, part-some, next-stands, part-name, part-end, reads-part, reads-part-cut}
 
 -- The bytes of a header and parts behind it.
 abbrev pub recordBytes : Size → ℕ → List CodedPart → List ℕ
@@ -165,16 +165,6 @@ pub parts-names : (place : ℕ) (ps : List CodedPart) → map nameOf (partsAt pl
 unfolding partsAt
 parts-names place [] = refl
 parts-names place (p ∷ ps) = ap₂ (λ x xs. x ∷ xs) (part-name place p) (parts-names (place + length (partBytes p)) ps)
-
-module _ (s : List ℕ) (place : ℕ) (ps : List CodedPart) (rest : List ℕ) (stand : drop place s ≡ flat partBytes ps ++ rest) where
-  pub parts-bits : map (λ x. x .bits) (partsAt place ps) ≡ map (λ p. length (p .bits)) ps
-  parts-bits = parts-map (λ x. x .bits) (λ p. length (p .bits)) s (λ at p more e. unfold partAt headed in refl) place ps rest stand
-
-  pub parts-bodies : map (bodyOf s) (partsAt place ps) ≡ map (λ p. packed (p .bits)) ps
-  parts-bodies = parts-map (bodyOf s) (λ p. packed (p .bits)) s (part-body s) place ps rest stand
-
-  pub parts-wholes : map (wholeOf s) (partsAt place ps) ≡ map partBytes ps
-  parts-wholes = parts-map (wholeOf s) partBytes s (part-whole s) place ps rest stand
 
 -- Parts in order that have legal names and bit counts may stand in a record, and so may any selection of them.
 pub legal-parts : (h : Header) (before : PartName) (ps : List CodedPart) → InOrder before (map (λ p. p .name) ps)

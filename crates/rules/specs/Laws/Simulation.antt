@@ -346,23 +346,6 @@ module _ (bit : ℕ → Bool) (n : ℕ) where
         pyramid = (pyramid-drawn t r ∙ ap (λ es. drawn n es (r .pyramid)) tells) i;
       })
 
--- So on the bits that the coder spoke, followed by anything, the decoder makes the coder's lists.
-pub record SameLists {S T : Type 0} (c : Course S) (d : Course T) : Type 0 where
-  pub lips : c .lip ≡ d .lip
-  pub lsps : c .lsp ≡ d .lsp
-  pub liss : c .lis ≡ d .lis
-  pub moveds : c .moved ≡ d .moved
-
-course-same : {S T : Type 0} (l : Lists) (es : List Event) (x : S) (y : T) → SameLists (course l es x) (course l es y)
-unfolding course
-course-same l es x y = record { lips = refl; lsps = refl; liss = refl; moveds = refl }
-
-pub decoder-follows : (F : Family) (mag : ℕ → ℕ) (neg : ℕ → Bool) (n k : ℕ) (l : Lists) (bits : List Bool) (bit : ℕ → Bool) (r : Reader)
-    → ((i : ℕ) → i < length (spoken (truth F mag neg n) (pass F k l)) → bit (r .taken + i) ≡ getD (spoken (truth F mag neg n) (pass F k l)) i false)
-    → SameLists (passed F k (decoder bit n) l r) (passed F k (coder F mag neg n) l bits)
-decoder-follows F mag neg n k l bits bit r h =
-    rw (decoder-passed bit n F (truth F mag neg n) k l r h, coder-passed F mag neg n k l bits) (course-same l _ _ _)
-
 -- Parts: what the coder makes of one, and what the decoder makes of one whose bits are those.
 module _ (F : Family) (mag : ℕ → ℕ) (neg : ℕ → Bool) (p : PartName) (s : State) where
   abbrev pub talkOf : Talk

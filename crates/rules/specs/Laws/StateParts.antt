@@ -23,9 +23,6 @@ pub coder-takes : (F : Family) (mag : ℕ → ℕ) (neg : ℕ → Bool) (n : ℕ
 coder-takes F mag neg n =
     record { asked = λ q bits. omega (arith, length-append bits (truth F mag neg n q ∷ [])); noted = λ e bits. omega arith }
 
-pub decoder-takes : (bit : ℕ → Bool) (n : ℕ) → Taking (decoder bit n) (λ r. r .taken)
-decoder-takes bit n = record { asked = λ q r. omega arith; noted = λ e r. omega arith }
-
 levelCount-most : (F : Family) (all : List ℕ) (k : ℕ) → levelCount F all k ≤ length all
 levelCount-most F all k =
     omega (
@@ -55,16 +52,6 @@ module _ {F : Family} (L : Lawful F) {top : ℕ} {all : List ℕ} {s : State} (h
     pub decoded-sound : Sound F top all (after (p .level) (decoded F p bit s v) s)
     unfolding decoded
     decoded-sound = sound-after L h (p .level) (o .from1) (o .upTo) (decoder bit (p .plane)) (record { taken = 0; pyramid = v })
-
-    pub decoded-bits : decoded F p bit s v .side .taken ≤ 4 * length all
-    unfolding decoded
-    decoded-bits =
-        omega (
-          arith,
-          passed-bounded L (decoder-takes bit (p .plane)) (s (p .level)) (record { taken = 0; pyramid = v })
-              (sound-room h L (p .level) (o .upTo)) .taken,
-          levelCount-most F all (p .level),
-        )
 
 -- All parts of the coder.
 partsOfPlane-levels : (top n k : ℕ) → k ≤ top → All (OfLevel top) (partsOfPlane n k)

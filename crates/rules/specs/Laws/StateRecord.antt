@@ -1,6 +1,6 @@
 -- The lists of document 01's pyramid, for every legal size: sound at the start and after each part, so that a part has room in its level.
 use mathlib.Core.Path.{_≡_, ap, _∙_, subst}
-use mathlib.Core.List.{List, [], _∷_}
+use mathlib.Core.List.{List}
 use mathlib.Core.Bool.{Bool, true, false, cond}
 use Prim.Native.Nat.{ℕ, suc, _+_, _*_, _≤_, _<_}
 use native.Mathlib.Omega.{arith}
@@ -17,7 +17,7 @@ use Rattle.rules.specs.Document.Passes.{Entry, Side, Course, passed, Sta
 use Rattle.rules.specs.Document.Passes.{Reader, decoded}
 use Rattle.rules.specs.Document.Layout.{planesIn, partsOf, bitAt, bodyOf, nameOf, usable}
 use Rattle.rules.specs.Document.Numbers.{mostBits}
-use Rattle.rules.specs.Document.Calls.{Progress, going, unfit, used, onward, decodeParts}
+use Rattle.rules.specs.Document.Calls.{Progress, going, unfit, used, onward}
 use Rattle.rules.specs.Laws.Count.{sum, one, is, All, all-then, every-all, from-length, from-once}
 use Rattle.rules.specs.Laws.Sizes.{Legal, levelSize, levelSize-fine}
 use Rattle.rules.specs.Laws.Offspring.Level.{level-most, level-area}
@@ -120,9 +120,3 @@ module _ (h : Header) (Z : Legal (h .size)) (bytes : List ℕ) (there : List Par
       by : (b : Bool) → SoundProgress (h .size) (cond b (used p s c) (going s v))
       by true = unfold used in fit (eqb (c .side .taken) (p .bits))
       by false = i
-
-  pub decodeParts-sound : (ps : List Part) → All (λ p. OfLevel (levels (h .size)) (nameOf p)) ps → (g : Progress) → SoundProgress (h .size) g
-      → SoundProgress (h .size) (decodeParts h bytes there ps g)
-  unfolding All decodeParts
-  decodeParts-sound [] o g i = i
-  decodeParts-sound (p ∷ ps) o g i = decodeParts-sound ps (o .1) (onward h bytes there p g) (onward-sound p (o .0) g i)
