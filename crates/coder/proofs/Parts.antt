@@ -21,7 +21,7 @@ use Rattle.rules.specs.Laws.Sizes.{area-bound}
 use Rattle.rules.specs.Laws.ReadBackBody.{packed-length}
 use Rattle.bits.specs.Written.{writeBits-packed}
 use Rattle.bits.specs.Bits.{writeBits}
-use Rattle.parts.specs.Standing.{named, stateOf, agree-same, Coding, Coded, courseC}
+use Rattle.parts.specs.Standing.{named, stateOf, agree-same, ReadyToCode, PartCoded, courseC}
 use Rattle.coder.specs.declared.Progress.{Progress}
 use Rattle.coder.specs.Writing.{shortHead, headOf, madeWay, HeadFits, Headed, Stage, stageOf, bytesOf, onward, Due, Reached}
 use Rattle.coder.proofs.Heads.{headed-whole}
@@ -37,16 +37,15 @@ module _ (pyramid : List ℤ) (z : Size) (n : Plane) (k : Level) (work : List �
   l = due .given .legal
 
   -- What the pass asks for.
-  pub part-ready : Coding pyramid z n k work (p .counts) at
+  pub part-ready : ReadyToCode z n k work (p .counts) at
   part-ready =
       record {
         ready =
             record { legal = l; room = due .given .room; plane = due .plane; coarser = due .coarser; level = due .level; sound = due .going .sound };
-        whole = due .given .whole;
         place = omega (arith, start, due .going .near, area-bound z l);
       }
 
-  module _ (passed : Passed) (work′ out′ : List ℕ) (h : Coded pyramid z n k work (p .counts) out at passed work′ out′) where
+  module _ (passed : Passed) (work′ out′ : List ℕ) (h : PartCoded pyramid z n k work (p .counts) out at passed work′ out′) where
     side : List Bool
     side = courseC pyramid z n k work (p .counts) .side
 

@@ -14,7 +14,7 @@ use Rattle.rules.specs.declared.Part.{Part}
 use Rattle.decoder.specs.declared.Found.the-variants as found
 use Rattle.decoder.specs.declared.Turn.{Turn}
 use Rattle.rules.specs.Document.Pyramid.{family, levels}
-use Rattle.rules.specs.Document.Passes.{PartName, Lists, State, Course, Reader, own, handed, passed, after, decoder, decoded}
+use Rattle.rules.specs.Document.Passes.{PartName, State, Course, Reader, after, decoded}
 use Rattle.rules.specs.Document.Layout.{bitAt, bodyOf, nameOf, usable}
 use Rattle.rules.specs.Document.Calls.{Progress, going, unfit, used, onward}
 use Rattle.rules.specs.Laws.Tests.{clash}
@@ -24,7 +24,7 @@ use Rattle.reached.specs.Planes.{reachedAt}
 use Rattle.decoder.specs.Walking.{Outcome, fitting, gone, usedOn, metOn, Taken}
 
 -- What was taken by the lists of the workspace was taken by the definition's, which are the same.
-pub taken-alike : (bytes : List ℕ) (z : Size) (p : Part) (reached : List Plane) (s t : State) (v : List ℤ) → Agree z s t
+pub taken-alike : (bytes : List ℕ) (z : Size) (p : Part) (reached : List Plane) (s t : State) (v : List ℤ) → Agree s t
     → (out : List ℤ) (work : List ℕ) (r : Turn) (out′ : List ℤ) (work′ : List ℕ)
     → Taken z p (metOn bytes z p reached s v) out work r out′ work′ → Taken z p (metOn bytes z p reached t v) out work r out′ work′
 taken-alike bytes z p reached s t v a out work r out′ work′ h =

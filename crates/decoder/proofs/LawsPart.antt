@@ -23,18 +23,18 @@ use Rattle.decoder.specs.declared.Found.the-variants as found
 use Rattle.decoder.specs.declared.Turn.{Turn}
 use Rattle.rules.specs.Document.Pyramid.{family, mostPlanes}
 use Rattle.rules.specs.Document.Passes.{Course, Reader, after, decoded}
-use Rattle.rules.specs.Document.Layout.{bitAt, bodyOf, nameOf, usable}
+use Rattle.rules.specs.Document.Layout.{bitAt, bodyOf, nameOf}
 use Rattle.rules.specs.Document.Numbers.{readPart}
 use Rattle.rules.specs.Laws.Reading.{PartStands, readPart-stands}
 use Rattle.rules.specs.Laws.OneWalk.{usableNow}
 use Rattle.record.specs.Named.{named}
-use Rattle.parts.specs.Standing.{stateOf, Agree, Small, Decoded}
+use Rattle.parts.specs.Standing.{stateOf, Agree, Small, PartDecoded}
 use Rattle.reached.specs.Planes.{reachedAt}
 use Rattle.decoder.specs.Walking.{fitting, gone, usedOn, metOn, decodedPart, metPart, Past, Taking, Taken, Standing, Turned}
 
 -- a usable part, decoded
 module _ (s : List ℕ) (z : Size) (p : Part) (w : Walk) (out : List ℤ) (work : List ℕ) (body : List ℕ) (b : body ≡ bodyOf s p)
-    (r : Passed) (out′ : List ℤ) (work′ : List ℕ) (d : Decoded body z (p .plane) (p .level) work (w .counts) out r work′ out′)
+    (r : Passed) (out′ : List ℤ) (work′ : List ℕ) (d : PartDecoded body z (p .plane) (p .level) work (w .counts) out r work′ out′)
     (reached : List Plane) (q : reached ≡ set (w .reached) (p .level .0 - 1) (p .plane)) (next : Walk) (past : Past p reached (r .counts) next) where
   course : Course Reader
   course = decoded (family z) (nameOf p) (bitAt (bodyOf s p)) (stateOf z work (w .counts)) out
@@ -50,7 +50,7 @@ module _ (s : List ℕ) (z : Size) (p : Part) (w : Walk) (out : List ℤ) (work 
         finds = e;
         past = record { before = past .before; place = past .place; reaches = past .reaches ∙ q; fills = refl };
         lists =
-            subst (λ (x : Course Reader). Agree z (stateOf z work′ (next .counts)) (after (p .level .0) x (stateOf z work (w .counts)))) same-course
+            subst (λ (x : Course Reader). Agree (stateOf z work′ (next .counts)) (after (p .level .0) x (stateOf z work (w .counts)))) same-course
             (record { lists = λ k. ap (λ (x : Counts). stateOf z work′ x k) (past .fills) ∙ d .lists .lists k });
         writes = d .writes ∙ ap (λ (x : Course Reader). x .side .pyramid) same-course;
         same = d .same;
@@ -110,7 +110,6 @@ module _ (h : Header) (s : List ℕ) (w : Walk) (out : List ℤ) (work : List �
             level = q .legal .named .upTo;
             sound = t .sound;
           };
-          whole = t .whole;
           small = t .small;
         };
         ends = q .end;

@@ -66,7 +66,7 @@ pub record Walking (h : Header) (s : List ℕ) (w : Walk) (out : List ℤ) (work
   pub ending : readParts h s .ending ≡ left h s w .ending
   pub decodes : decodeParts h s (names h s) (readParts h s .parts) (begin h) ≡ decodeParts h s (names h s) (left h s w .parts) (going lists out)
   pub reaches : w .reached ≡ reachedPlanes h (map nameOf seen)
-  pub agrees : Agree (h .size) (stateOf (h .size) work (w .counts)) lists
+  pub agrees : Agree (stateOf (h .size) work (w .counts)) lists
   pub sound : SoundLists (h .size) lists
   pub few : order (named (w .before)) ≤ orders
   pub small : Small (bound (named (w .before))) out
@@ -122,7 +122,6 @@ module _ (h : Header) (s : List ℕ) (w : Walk) (out : List ℤ) (work : List �
         legal = W .lent .legal;
         planes = W .lent .planes;
         room = W .lent .room;
-        whole = W .lent .whole;
         within = W .place;
         six = ap length (W .reaches) ∙ six-planes h (map nameOf (W .seen));
         sound = subst (SoundLists (h .size)) (sym (agree-same (W .agrees))) (W .sound);

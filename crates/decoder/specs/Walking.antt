@@ -29,7 +29,7 @@ use Rattle.rules.specs.Document.Calls.{workFor, levelPlaces, Result, Picture, r
 use Rattle.rules.specs.Laws.OneWalk.{usableNow}
 use Rattle.rules.specs.Laws.StateRecord.{SoundLists}
 use Rattle.reached.specs.Planes.{reachedAt}
-use Rattle.parts.specs.Standing.{stateOf, Agree, Small, Decoding}
+use Rattle.parts.specs.Standing.{stateOf, Agree, Small, ReadyToDecode}
 
 -- What becomes of a whole part: what is found, and the lists, the pyramid and the planes reached after it.
 pub record Outcome : Type 0 where
@@ -78,7 +78,7 @@ pub record Past (p : Part) (reached : List Plane) (counts : Counts) (r : Walk) :
 
 -- what a part asks for
 pub record Taking (s : List ℕ) (z : Size) (p : Part) (w : Walk) (out : List ℤ) (work : List ℕ) : Type 0 where
-  pub decoding : Decoding z (p .plane) (p .level) work (w .counts) out
+  pub decoding : ReadyToDecode z (p .plane) (p .level) work (w .counts) out
   pub ends : p .end ≡ p .body + bytesFor (p .bits)
   pub within : p .end ≤ length s
   pub six : length (w .reached) ≡ levelPlaces
@@ -86,7 +86,7 @@ pub record Taking (s : List ℕ) (z : Size) (p : Part) (w : Walk) (out : List �
 pub record Taken (z : Size) (p : Part) (o : Outcome) (out : List ℤ) (work : List ℕ) (r : Turn) (out′ : List ℤ) (work′ : List ℕ) : Type 0 where
   pub finds : r .found ≡ o .found
   pub past : Past p (o .reached) (r .walk .counts) (r .walk)
-  pub lists : Agree z (stateOf z work′ (r .walk .counts)) (o .lists)
+  pub lists : Agree (stateOf z work′ (r .walk .counts)) (o .lists)
   pub writes : out′ ≡ o .pyramid
   pub same : length work′ ≡ length work
   pub grows : (b : ℕ) → Small b out → Small (b + 2 ^ mostPlanes) out′
@@ -96,7 +96,6 @@ pub record Standing (h : Header) (s : List ℕ) (w : Walk) (out : List ℤ) (wor
   pub legal : legalSize (h .size) ≡ true
   pub planes : h .planes ≤ mostPlanes
   pub room : workFor (h .size) ≤ length work
-  pub whole : length out ≡ area (h .size)
   pub within : w .place ≤ length s
   pub six : length (w .reached) ≡ levelPlaces
   pub sound : SoundLists (h .size) (stateOf (h .size) work (w .counts))
@@ -124,7 +123,7 @@ pub record Begun (h : Header) (out : List ℤ) (work : List ℕ) (r : Walk) (out
   pub before : r .before ≡ record { plane = record { 0 = h .planes }; level = record { 0 = 0 } }
   pub place : r .place ≡ h .end
   pub reaches : r .reached ≡ reachedPlanes h []
-  pub lists : Agree (h .size) (stateOf (h .size) work′ (r .counts)) (start (h .size))
+  pub lists : Agree (stateOf (h .size) work′ (r .counts)) (start (h .size))
   pub same : length work′ ≡ length work
 
 -- what decoding the parts asks for: a header that was read, a pyramid of its size and workspace enough

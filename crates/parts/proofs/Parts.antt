@@ -42,7 +42,7 @@ use Rattle.testing.specs.Exchange.{Chan, chan, familyOf, side}
 use Rattle.testing.specs.Tests.{course}
 use Rattle.testing.specs.Growing.{Growth}
 use Rattle.passes.specs.Steps.{hasMember, Queued, Proper, Fresh, listsOf}
-use Rattle.parts.specs.Standing.{stretchOf, countAt, Six, fillOf, withLists, listsAt, stateOf, Ready, Coding, Coded, Decoding, Decoded}
+use Rattle.parts.specs.Standing.{stretchOf, countAt, Six, fillOf, withLists, listsAt, stateOf, Ready, ReadyToCode, PartCoded, ReadyToDecode, PartDecoded}
 use Rattle.parts.specs.Workspace.{Lending, Lent, movedOut, handedOn, Handing, Handed, runOf, Running, courseIn, PartRun}
 use Rattle.parts.proofs.Workspace.{size-some, size-place}
 use Rattle.parts.proofs.States.{state-in, state-same, handedOn-next, handedOn-other}
@@ -346,14 +346,14 @@ unfolding magnitude
 zeros-small zero = omega arith
 zeros-small (suc q) = omega arith
 
-pub coding-runs : {pyramid : List ℤ} {z : Size} {plane : Plane} {level : Level} {work : List ℕ} {counts : Counts} {at : BitPosition} {run : Run}
-    → Coding pyramid z plane level work counts at → run ≡ runOf false z plane level counts at → Running run work counts (replicate 1 (pos 0))
+pub coding-runs : {z : Size} {plane : Plane} {level : Level} {work : List ℕ} {counts : Counts} {at : BitPosition} {run : Run}
+    → ReadyToCode z plane level work counts at → run ≡ runOf false z plane level counts at → Running run work counts (replicate 1 (pos 0))
 coding-runs {work = work} {counts = counts} {at = at} C e =
     subst (λ x. Running x work counts (replicate 1 (pos 0))) (sym e)
     (record { ready = C .ready; size = refl; olds = refl; place = part-place (C .ready) (at .at) (C .place); small = record { under = zeros-small } })
 
 pub decoding-runs : {z : Size} {plane : Plane} {level : Level} {work : List ℕ} {counts : Counts} {d : List ℤ} {run : Run}
-    → Decoding z plane level work counts d → run ≡ runOf true z plane level counts (record { at = 0 }) → Running run work counts d
+    → ReadyToDecode z plane level work counts d → run ≡ runOf true z plane level counts (record { at = 0 }) → Running run work counts d
 decoding-runs {z} {work = work} {counts = counts} {d = d} D e =
     subst (λ x. Running x work counts d) (sym e)
     (record {
@@ -367,13 +367,13 @@ decoding-runs {z} {work = work} {counts = counts} {d = d} D e =
 pub coding-done : {pyramid : List ℤ} {z : Size} {plane : Plane} {level : Level} {work : List ℕ} {counts : Counts} {at : BitPosition} {run : Run}
     (body : List ℕ) {out work′ out′ : List ℕ} {d d′ : List ℤ} {r : Passed}
     → run ≡ runOf false z plane level counts at → PartRun (side run pyramid body) run work counts out d r work′ out′ d′
-    → Coded pyramid z plane level work counts out at r work′ out′
+    → PartCoded pyramid z plane level work counts out at r work′ out′
 coding-done {pyramid} {work = work} {counts = counts} body {out} {work′} {out′} {d} {d′} {r} e P =
     coded-part _ pyramid body (subst (λ x. PartRun (side x pyramid body) x work counts out d r work′ out′ d′) e P) refl
 
 pub decoding-done : (pyramid : List ℤ) {body : List ℕ} {z : Size} {plane : Plane} {level : Level} {work : List ℕ} {counts : Counts} {run : Run}
-    {out work′ out′ : List ℕ} {d d′ : List ℤ} {r : Passed} → Decoding z plane level work counts d
+    {out work′ out′ : List ℕ} {d d′ : List ℤ} {r : Passed} → ReadyToDecode z plane level work counts d
     → run ≡ runOf true z plane level counts (record { at = 0 }) → PartRun (side run pyramid body) run work counts out d r work′ out′ d′
-    → Decoded body z plane level work counts d r work′ d′
+    → PartDecoded body z plane level work counts d r work′ d′
 decoding-done pyramid {body} {work = work} {counts = counts} {out = out} {work′ = work′} {out′ = out′} {d = d} {d′ = d′} {r = r} D e P =
     decoded-part _ pyramid body (subst (λ x. PartRun (side x pyramid body) x work counts out d r work′ out′ d′) e P) refl refl (D .ready)

@@ -31,7 +31,7 @@ use Rattle.testing.specs.declared.Run.{Run}
 use Rattle.parts.specs.declared.Counts.{Counts}
 use Rattle.parts.specs.declared.Passed.{Passed}
 use Rattle.testing.specs.Exchange.{Chan, chan, familyOf, noted, answer, side}
-use Rattle.parts.specs.Standing.{stateOf, Agree, Ready, courseC, Coded, Small, courseD, Decoded}
+use Rattle.parts.specs.Standing.{stateOf, Agree, Ready, courseC, PartCoded, Small, courseD, PartDecoded}
 use Rattle.parts.specs.Workspace.{courseIn, PartRun}
 use Rattle.testing.specs.Growing.{Growth, growth-kept}
 
@@ -158,14 +158,14 @@ unfolding listsWeight
 sound-lsp z s h k l q =
     omega (arith, weight-part (family z) (is q) s k (levels z) l, h .conserved (is q), from-once q (area z), one-most (ltb q (area z)))
 
-agree-mapped : {S T : Type 0} (h : S → T) {z : Size} (k : ℕ) (c : Course S) (s : State) {t : State} {x : Course T} → Agree z t (after k x s)
-    → x ≡ mapped h c → Agree z t (after k c s)
+agree-mapped : {S T : Type 0} (h : S → T) (k : ℕ) (c : Course S) (s : State) {t : State} {x : Course T} → Agree t (after k x s)
+    → x ≡ mapped h c → Agree t (after k c s)
 agree-mapped h k c s A e = record { lists = λ j. A .lists j ∙ ap (λ y. after k y s j) e ∙ after-mapped h k c s j }
 
 -- So a part that was run is a part coded or decoded.
 module _ (run : Run) (pyramid : List ℤ) (body : List ℕ) {work : List ℕ} {counts : Counts} {out : List ℕ} {d : List ℤ} {r : Passed}
     {work′ out′ : List ℕ} {d′ : List ℤ} (R : PartRun (side run pyramid body) run work counts out d r work′ out′ d′) where
-  pub coded-part : run .reads ≡ false → Coded pyramid (run .z) (run .plane) (run .level) work counts out (run .from) r work′ out′
+  pub coded-part : run .reads ≡ false → PartCoded pyramid (run .z) (run .plane) (run .level) work counts out (run .from) r work′ out′
   unfolding coded
   coded-part writes =
       let s : State = stateOf (run .z) work counts in
@@ -181,7 +181,7 @@ module _ (run : Run) (pyramid : List ℤ) (body : List ℕ) {work : List ℕ} {c
       }
 
   pub decoded-part : run .reads ≡ true → run .from .at ≡ 0 → Ready (run .z) (run .plane) (run .level) work counts
-      → Decoded body (run .z) (run .plane) (run .level) work counts d r work′ d′
+      → PartDecoded body (run .z) (run .plane) (run .level) work counts d r work′ d′
   unfolding decoded
   decoded-part reads first H =
       let s : State = stateOf (run .z) work counts in

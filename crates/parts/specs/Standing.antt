@@ -12,7 +12,7 @@ use Rattle.rules.specs.declared.Level.{Level}
 use Rattle.bits.specs.declared.BitPosition.{BitPosition}
 use Rattle.parts.specs.declared.Counts.{Counts}
 use Rattle.parts.specs.declared.Passed.{Passed}
-use Rattle.rules.specs.Document.Pyramid.{legalSize, area, levels, mostPlanes, family, magnitude, negative}
+use Rattle.rules.specs.Document.Pyramid.{legalSize, levels, mostPlanes, family, magnitude, negative}
 use Rattle.rules.specs.Document.Passes.{Lists, State, Course, Reader, PartName, start, after, coded, decoded}
 use Rattle.rules.specs.Document.Layout.{bitAt}
 use Rattle.rules.specs.Document.Numbers.{mostBits}
@@ -60,17 +60,17 @@ listsAt z work counts k =
 unfoldable pub stateOf : Size → List ℕ → Counts → State
 stateOf z work counts k = cond {A = Lists} (leb 1 k && leb k (levels z)) (listsAt z work counts k) nothing
 
-pub record Agree (z : Size) (s t : State) : Type 0 where
+pub record Agree (s t : State) : Type 0 where
   pub lists : (k : ℕ) → s k ≡ t k
 
-pub agree-same : {z : Size} {s t : State} → Agree z s t → s ≡ t
+pub agree-same : {s t : State} → Agree s t → s ≡ t
 agree-same a = fun-ext (a .lists)
 
 abbrev pub named : Plane → Level → PartName
 named n k = record { plane = n .0; level = k .0 }
 
 pub record Started (z : Size) (work : List ℕ) (r : Counts) (work′ : List ℕ) : Type 0 where
-  pub lists : Agree z (stateOf z work′ r) (start z)
+  pub lists : Agree (stateOf z work′ r) (start z)
   pub same : length work′ ≡ length work
 
 -- what every part asks for
@@ -82,18 +82,17 @@ pub record Ready (z : Size) (n : Plane) (k : Level) (work : List ℕ) (counts : 
   pub level : k .0 ≤ levels z
   pub sound : SoundLists z (stateOf z work counts)
 
-pub record Coding (pyramid : List ℤ) (z : Size) (n : Plane) (k : Level) (work : List ℕ) (counts : Counts) (at : BitPosition) : Type 0 where
+pub record ReadyToCode (z : Size) (n : Plane) (k : Level) (work : List ℕ) (counts : Counts) (at : BitPosition) : Type 0 where
   pub ready : Ready z n k work counts
-  pub whole : length pyramid ≡ area z
   pub place : at .at + mostBits z < 2 ^ 61
 
 -- the coder's course over this part
 abbrev pub courseC : List ℤ → Size → Plane → Level → List ℕ → Counts → Course (List Bool)
 courseC pyramid z n k work counts = coded (family z) (magnitude pyramid) (negative pyramid) (named n k) (stateOf z work counts)
 
-pub record Coded (pyramid : List ℤ) (z : Size) (n : Plane) (k : Level) (work : List ℕ) (counts : Counts) (out : List ℕ) (at : BitPosition)
+pub record PartCoded (pyramid : List ℤ) (z : Size) (n : Plane) (k : Level) (work : List ℕ) (counts : Counts) (out : List ℕ) (at : BitPosition)
     (r : Passed) (work′ out′ : List ℕ) : Type 0 where
-  pub lists : Agree z (stateOf z work′ (r .counts)) (after (k .0) (courseC pyramid z n k work counts) (stateOf z work counts))
+  pub lists : Agree (stateOf z work′ (r .counts)) (after (k .0) (courseC pyramid z n k work counts) (stateOf z work counts))
   pub same : length work′ ≡ length work
   pub bits : out′ ≡ writeBits out (at .at) (courseC pyramid z n k work counts .side)
   pub place : r .at .at ≡ at .at + length (courseC pyramid z n k work counts .side)
@@ -102,18 +101,17 @@ pub record Coded (pyramid : List ℤ) (z : Size) (n : Plane) (k : Level) (work :
 pub record Small (b : ℕ) (pyramid : List ℤ) : Type 0 where
   pub under : (q : ℕ) → magnitude pyramid q < b
 
-pub record Decoding (z : Size) (n : Plane) (k : Level) (work : List ℕ) (counts : Counts) (pyramid : List ℤ) : Type 0 where
+pub record ReadyToDecode (z : Size) (n : Plane) (k : Level) (work : List ℕ) (counts : Counts) (pyramid : List ℤ) : Type 0 where
   pub ready : Ready z n k work counts
-  pub whole : length pyramid ≡ area z
   pub small : Small (2 ^ 29) pyramid
 
 -- the decoder's course over this part
 abbrev pub courseD : List ℕ → Size → Plane → Level → List ℕ → Counts → List ℤ → Course Reader
 courseD body z n k work counts pyramid = decoded (family z) (named n k) (bitAt body) (stateOf z work counts) pyramid
 
-pub record Decoded (body : List ℕ) (z : Size) (n : Plane) (k : Level) (work : List ℕ) (counts : Counts) (pyramid : List ℤ)
+pub record PartDecoded (body : List ℕ) (z : Size) (n : Plane) (k : Level) (work : List ℕ) (counts : Counts) (pyramid : List ℤ)
     (r : Passed) (work′ : List ℕ) (pyramid′ : List ℤ) : Type 0 where
-  pub lists : Agree z (stateOf z work′ (r .counts)) (after (k .0) (courseD body z n k work counts pyramid) (stateOf z work counts))
+  pub lists : Agree (stateOf z work′ (r .counts)) (after (k .0) (courseD body z n k work counts pyramid) (stateOf z work counts))
   pub same : length work′ ≡ length work
   pub taken : r .at .at ≡ courseD body z n k work counts pyramid .side .taken
   pub writes : pyramid′ ≡ courseD body z n k work counts pyramid .side .pyramid

@@ -103,6 +103,6 @@ courseIn C run work counts out d = passed (familyOf run) (run .level .0) C (stat
 
 pub record PartRun (C : Side Chan) (run : Run) (work : List ℕ) (counts : Counts) (out : List ℕ) (d : List ℤ)
     (r : Passed) (work′ out′ : List ℕ) (d′ : List ℤ) : Type 0 where
-  pub lists : Agree (run .z) (stateOf (run .z) work′ (r .counts)) (after (run .level .0) (courseIn C run work counts out d) (stateOf (run .z) work counts))
+  pub lists : Agree (stateOf (run .z) work′ (r .counts)) (after (run .level .0) (courseIn C run work counts out d) (stateOf (run .z) work counts))
   pub same : length work′ ≡ length work
   pub side : chan out′ d′ (r .at .at) ≡ courseIn C run work counts out d .side

@@ -10,7 +10,7 @@ ghost use Rattle.rules.specs.Document.Passes.{bandLL};
 ghost use Rattle.rules.specs.Document.Calls.{workFor};
 ghost use Rattle.rules.specs.Laws.Sizes.{levelStart, levelSize};
 ghost use Rattle.testing.specs.Exchange.{side};
-ghost use Rattle.parts.specs.Standing.{countAt, Six, fillOf, withLists, withSets, Started, Coding, Coded, Decoding, Decoded};
+ghost use Rattle.parts.specs.Standing.{countAt, Six, fillOf, withLists, withSets, Started, ReadyToCode, PartCoded, ReadyToDecode, PartDecoded};
 ghost use Rattle.parts.specs.Workspace.{Lending, Lent, HandingOver, HandedOver, Handing, Handed, runOf, Running, PartRun};
 ghost use Rattle.parts.specs.Begin.{empty, rowOf, Listing, Listed};
 use bits::BitPosition;
@@ -275,8 +275,8 @@ pub fn code_part(
     out: &mut [u8],
     at: BitPosition,
 ) -> Passed
-    requires { ⌜ Coding (now pyramid) z plane level (now work) counts at ⌝ }
-    ensures { λ r. ⌜ Coded (now (pyramid .entry)) z plane level (now (work .entry)) counts (now (out .entry)) at r (now (work .exit)) (now (out .exit)) ⌝ }
+    requires { ⌜ ReadyToCode z plane level (now work) counts at ⌝ }
+    ensures { λ r. ⌜ PartCoded (now (pyramid .entry)) z plane level (now (work .entry)) counts (now (out .entry)) at r (now (work .exit)) (now (out .exit)) ⌝ }
 {
     let body = [0u8; 1];
     let mut unwritten = [0i32; 1];
@@ -294,8 +294,8 @@ pub fn decode_part(
     counts: Counts,
     pyramid: &mut [i32],
 ) -> Passed
-    requires { ⌜ Decoding z plane level (now work) counts (now pyramid) ⌝ }
-    ensures { λ r. ⌜ Decoded (now (body .entry)) z plane level (now (work .entry)) counts (now (pyramid .entry)) r (now (work .exit)) (now (pyramid .exit)) ⌝ }
+    requires { ⌜ ReadyToDecode z plane level (now work) counts (now pyramid) ⌝ }
+    ensures { λ r. ⌜ PartDecoded (now (body .entry)) z plane level (now (work .entry)) counts (now (pyramid .entry)) r (now (work .exit)) (now (pyramid .exit)) ⌝ }
 {
     let unasked = [0i32; 1];
     let mut unwritten = [0u8; 1];
