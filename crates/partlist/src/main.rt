@@ -1,8 +1,5 @@
 // Prints what the record on standard input holds: its header, its parts and its tail. Of a record that is refused it prints the refusal alone, so
 // the whole is judged before the first line.
-ghost use mathlib.Core.Path.{_≡_};
-ghost use mathlib.Core.Bool.{true};
-ghost use Rattle.rules.specs.Document.Pyramid.{legalSize};
 use libc::STDIN_FILENO;
 use libc::STDOUT_FILENO;
 use record::Name;
@@ -42,16 +39,14 @@ fn print_part(p: Part) {
     end_line();
 }
 
-fn print_parts(s: &[u8], h: Header)
-    requires { ⌜ legalSize (h .size) ≡ true ⌝ }
-{
+fn print_parts(s: &[u8], h: Header) {
     let mut before = Name {
         plane: Plane(h.planes),
         level: Level(0),
     };
     let mut place = h.end;
     loop {
-        let PartRead::Part(p) = record::read_part(s, h, before, place) else {
+        let PartRead::Part(p) = survey::part_at(s, before, place) else {
             return;
         };
         print_part(p);

@@ -19,7 +19,7 @@ use Rattle.rules.specs.Document.Numbers.{Reading, readHeader, readPart, readPar
 use Rattle.rules.specs.Laws.Reading.{readHeader-stands, header-legal, header-within, readPart-stands, part-further}
 use Rattle.rules.specs.Laws.Walk.{partsFrom, readParts-from, partsFrom-part, partsFrom-tail, partsFrom-fault}
 use Rattle.survey.specs.declared.Survey.{Survey}
-use Rattle.survey.specs.Surveyed.{refusedWith, endedWith, headedWith, surveyOf}
+use Rattle.survey.specs.Surveyed.{refusedWith, endedWith, headedWith, surveyOf, partBehind, partAt}
 
 pub record Surveying (s : List ℕ) (h : Header) (before : PartName) (place : ℕ) : Type 0 where
   pub read : readHeader s ≡ header.Header h
@@ -53,3 +53,8 @@ surveying-legal s h before place v = header-legal (readHeader-stands s h (v .rea
 pub surveyed : (s : List ℕ) (x y : HeaderRead) (a : Survey) → x ≡ readHeader s → x ≡ y → a ≡ headedWith s y → a ≡ surveyOf s
 unfolding surveyOf
 surveyed s x y a e f g = g ∙ ap (headedWith s) (sym f ∙ e)
+
+pub found-at : (s : List ℕ) (before : PartName) (place : ℕ) (x y : HeaderRead) (r : PartRead) → x ≡ readHeader s → x ≡ y
+    → r ≡ partBehind s before place y → r ≡ partAt s before place
+unfolding partAt
+found-at s before place x y r e f g = g ∙ ap (partBehind s before place) (sym f ∙ e)

@@ -15,13 +15,15 @@ use Rattle.rules.specs.declared.Served.{Served}
 use Rattle.rules.specs.declared.Header.{Header}
 use Rattle.rules.specs.declared.HeaderRead.{HeaderRead}
 use Rattle.rules.specs.declared.HeaderRead.the-variants as header
-use Rattle.rules.specs.Document.Pyramid.{legalSize}
+use Rattle.rules.specs.declared.Part.{Part}
+use Rattle.rules.specs.declared.PartRead.the-variants as part
+use Rattle.rules.specs.Document.Passes.{PartName}
 use Rattle.rules.specs.Document.Numbers.{Ending, tail, fault, readHeader, readParts}
 use Rattle.rules.specs.Document.Calls.{Result, refused, unless, onHeader, onEnding, Portion, portioned, serving, serveAnswer, Serving}
-use Rattle.rules.specs.Laws.Reading.{readHeader-stands, header-legal}
+use Rattle.rules.specs.Laws.Reading.{readPart-stands, part-further}
 use Rattle.rules.specs.Laws.Serving.{asks-all, serving-all}
 use Rattle.survey.specs.declared.Survey.{Survey}
-use Rattle.survey.specs.Surveyed.{refusedWith, endedWith, headedWith, surveyOf, longest, listedOf}
+use Rattle.survey.specs.Surveyed.{refusedWith, endedWith, headedWith, surveyOf, longest, listedOf, partBehind, partAt}
 
 -- What serving whole makes of a record with this verdict and tail: refused for the same cause, or all but the tail in the room that there is.
 unfoldable pub wholeBy : List ℕ → ℕ → ℕ → Verdict → Result Portion
@@ -97,6 +99,11 @@ listed-header s = go (leb (length s) longest)
     go true = surveyOf-case HasHeader s (λ r f. refusal-has r) (λ h r f g. refusal-has r) (λ h t f g e. f)
     go false = refusal-has refusal.Room
 
-pub listed-legal : (s : List ℕ) (a : Survey) → a ≡ listedOf s → a .verdict ≡ Accepted → legalSize (a .header .size) ≡ true
-listed-legal s a e f =
-    rw e (header-legal (readHeader-stands s (listedOf s .header) (listed-header s (ap (λ (x : Survey). x .verdict) (sym e) ∙ f))))
+-- A part that stands at a place ends behind it, within the record.
+pub part-ends : (s : List ℕ) (before : PartName) (place : ℕ) (p : Part) → partAt s before place ≡ part.Part p → length s - p .end < length s - place
+unfolding partAt
+part-ends s before place p = by (readHeader s)
+  where
+    by : (x : HeaderRead) → partBehind s before place x ≡ part.Part p → length s - p .end < length s - place
+    by (header.Header h) e = part-further (readPart-stands h s before place p e)
+    by (header.Refused r) e = absurd (let z : _≡_ {A = ℕ} 0 1 = cc in omega arith)

@@ -10,7 +10,10 @@ use Rattle.rules.specs.declared.Verdict.the-variants.{Accepted, Refused}
 use Rattle.rules.specs.declared.Header.{Header}
 use Rattle.rules.specs.declared.HeaderRead.{HeaderRead}
 use Rattle.rules.specs.declared.HeaderRead.the-variants as header
-use Rattle.rules.specs.Document.Numbers.{Ending, tail, fault, readHeader, readParts}
+use Rattle.rules.specs.declared.PartRead.{PartRead}
+use Rattle.rules.specs.declared.PartRead.the-variants as part
+use Rattle.rules.specs.Document.Passes.{PartName}
+use Rattle.rules.specs.Document.Numbers.{Ending, tail, fault, readHeader, readPart, readParts}
 use Rattle.survey.specs.declared.Survey.{Survey}
 
 abbrev pub refusedWith : Refusal → Survey
@@ -33,3 +36,11 @@ longest = 16384
 
 unfoldable pub listedOf : List ℕ → Survey
 listedOf s = cond (leb (length s) longest) (surveyOf s) (refusedWith refusal.Room)
+
+-- The part that stands at a place of a record, behind a part of this name; without a legal header its refusal.
+abbrev pub partBehind : List ℕ → PartName → ℕ → HeaderRead → PartRead
+partBehind s before place (header.Header h) = readPart h s before place
+partBehind s before place (header.Refused r) = part.Refused r
+
+unfoldable pub partAt : List ℕ → PartName → ℕ → PartRead
+partAt s before place = partBehind s before place (readHeader s)

@@ -2,7 +2,8 @@
 ghost use mathlib.Core.Path.{_≡_};
 ghost use Rattle.rules.specs.declared.HeaderRead.the-variants as header;
 ghost use Rattle.rules.specs.Document.Numbers.{readHeader, readParts};
-ghost use Rattle.survey.specs.Surveyed.{refusedWith, endedWith, surveyOf, listedOf};
+ghost use Rattle.record.specs.Named.{named};
+ghost use Rattle.survey.specs.Surveyed.{refusedWith, endedWith, surveyOf, listedOf, partAt};
 use record::Name;
 use rules::Header;
 use rules::HeaderRead;
@@ -87,4 +88,15 @@ pub fn listed(s: &[u8]) -> Survey
         return refused(Refusal::Room);
     }
     survey_of(s)
+}
+
+// The part that stands at a place, behind the one before it: what partlist prints one after the other.
+pub fn part_at(s: &[u8], before: Name, place: usize) -> PartRead
+    ensures { λ r. ⌜ r ≡ partAt (now (s .entry)) (named before) place ⌝ }
+{
+    let read = record::read_header(s);
+    match read {
+        HeaderRead::Header(h) => record::read_part(s, h, before, place),
+        HeaderRead::Refused(r) => PartRead::Refused(r),
+    }
 }

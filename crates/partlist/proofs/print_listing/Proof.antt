@@ -1,4 +1,3 @@
-use Rattle.survey.specs.AsServing.{listed-legal}
 use borrow.Author.Needs.{needs}
 use Rattle.partlist.proofs.print_listing.Statement.{statement}
 use Rattle.partlist.proofs.print_listing.Tie as tie
@@ -13,7 +12,7 @@ print-header-requires : tie.Need-print-header-requires
 print-header-requires c κs = search needs
 
 print-parts-requires : tie.Need-print-parts-requires
-print-parts-requires c κs = listed-legal _ _ (c .before .before .before .before .listed .ensures) (c .before .enum-told .given .1)
+print-parts-requires c κs = search needs
 
 print-tail-requires : tie.Need-print-tail-requires
 print-tail-requires c κs = search needs

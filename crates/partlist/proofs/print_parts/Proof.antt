@@ -1,24 +1,22 @@
-use mathlib.Core.Path.{_≡_, sym, _∙_}
-use mathlib.Core.Bool.{true}
+use mathlib.Core.Path.{sym, _∙_}
 use Prim.Native.Nat.{_-_}
 use lib.ListN.{length}
-use Rattle.rules.specs.Document.Pyramid.{legalSize}
-use Rattle.rules.specs.Laws.Reading.{readPart-stands, part-further}
+use Rattle.survey.specs.AsServing.{part-ends}
 use borrow.Author.Needs.{needs}
 use Rattle.partlist.proofs.print_parts.Statement.{statement}
 use Rattle.partlist.proofs.print_parts.Tie as tie
 
 abbrev Inv-loop : tie.InvT-loop
-Inv-loop s h before₀ place₀ before place = legalSize (h .size) ≡ true
+Inv-loop s before₀ place₀ before place = Unit {0}
 
 abbrev μ-loop : tie.MeasureT-loop
-μ-loop s h before₀ place₀ before place = length s - place
+μ-loop s before₀ place₀ before place = length s - place
 
 loop-holds : tie.Need-loop-holds Inv-loop μ-loop
 loop-holds c = search needs
 
-read-part-requires : tie.Need-read-part-requires Inv-loop μ-loop
-read-part-requires c κs = search needs
+part-at-requires : tie.Need-part-at-requires Inv-loop μ-loop
+part-at-requires c κs = search needs
 
 enum-known-p : tie.Need-enum-known-p Inv-loop μ-loop
 enum-known-p c = search needs
@@ -30,7 +28,7 @@ print-part-requires : tie.Need-print-part-requires Inv-loop μ-loop
 print-part-requires c κs = search needs
 
 loop-less : tie.Need-loop-less Inv-loop μ-loop
-loop-less c = part-further (readPart-stands _ _ _ _ _ (sym (c .before .before .before .before .before .before .read-part .ensures) ∙ c .before .before .before .before .p .given .1))
+loop-less c = part-ends _ _ _ _ (sym (c .before .before .before .before .before .before .part-at .ensures) ∙ c .before .before .before .before .p .given .1)
 
 loop-again : tie.Need-loop-again Inv-loop μ-loop
 loop-again c = search needs
@@ -42,7 +40,7 @@ print-parts-spec =
     Inv-loop
     μ-loop
     loop-holds
-    read-part-requires
+    part-at-requires
     enum-known-p
     returns
     print-part-requires
