@@ -4,6 +4,7 @@ ghost use Prim.Native.Nat.{_≤_, _<_};
 ghost use lib.ListN.{length};
 ghost use Rattle.rules.specs.Document.Numbers.{refusalNumber, refusalPlace, verdictNumber, verdictPlace};
 ghost use Rattle.rules.specs.Document.Calls.{levelPlaces, codePlaces, servePlaces, decodePlaces, codeNumbers, serveNumbers, planeIn, decodeNumbers};
+ghost use Rattle.survey.specs.Surveyed.{surveyPlaces, surveyNumbers};
 ghost use Rattle.answers.specs.Report.{Reported};
 use rules::Coded;
 use rules::Decoded;
@@ -11,6 +12,7 @@ use rules::Plane;
 use rules::Refusal;
 use rules::Served;
 use rules::Verdict;
+use survey::Survey;
 
 fn refusal_number(r: Refusal) -> u64
     ensures { λ n. ⌜ n ≡ refusalNumber r ⌝ }
@@ -118,5 +120,25 @@ pub fn report_decoded(a: Decoded, answer: &mut [u64]) -> u64
     answer[6] = plane_number(reached, 3);
     answer[7] = plane_number(reached, 4);
     answer[8] = plane_number(reached, 5);
+    n
+}
+
+pub fn report_surveyed(a: Survey, answer: &mut [u64]) -> u64
+    requires { ⌜ surveyPlaces ≤ length (now answer) ⌝ }
+    ensures { λ n. ⌜ Reported (surveyNumbers a) (now (answer .entry)) n (now (answer .exit)) ⌝ }
+{
+    memory::zero_u64(answer);
+    let v = a.verdict;
+    let header = a.header;
+    let size = header.size;
+    let n = number(v);
+    answer[0] = n;
+    answer[1] = place(v);
+    answer[2] = size.w as u64;
+    answer[3] = size.h as u64;
+    answer[4] = size.n as u64;
+    answer[5] = header.planes as u64;
+    answer[6] = a.parts as u64;
+    answer[7] = a.tail as u64;
     n
 }

@@ -16,6 +16,8 @@ use Rattle.rules.specs.Document.Calls.{returned, reported, lentOut}
 use Rattle.rules.specs.Document.Calls.{codePlaces, coding, codeAnswer, codeNumbers, Coding, AfsCode}
 use Rattle.rules.specs.Document.Calls.{servePlaces, serving, serveAnswer, serveNumbers, Serving, AfsServe}
 use Rattle.rules.specs.Document.Calls.{decodePlaces, decoding, decodeAnswer, decodeNumbers, Decoding, AfsDecode}
+use Rattle.survey.specs.declared.Survey.{Survey}
+use Rattle.survey.specs.Surveyed.{surveyPlaces, surveyOf, surveyNumbers, AfsSurvey}
 use Rattle.answers.specs.Report.{Reported}
 
 -- What `too_short` leaves.
@@ -113,4 +115,21 @@ module _ (s : List ℕ) (out : List ℤ) (work answer : List ℕ) (out′ : List
         reports = reported-long decodePlaces answer (decodeNumbers a) n answer′ l r ∙ ap (reported decodePlaces answer) e;
         writes = v .writes ∙ lent-long decodePlaces answer (decodeNumbers a) _ _ l;
         clears = v .clears;
+      }
+
+module _ (s answer answer′ : List ℕ) where
+  pub survey-short : (n : ℕ) → length answer < surveyPlaces → TooShort answer n answer′ → AfsSurvey s answer n answer′
+  survey-short n l r =
+      let numbers = surveyNumbers (surveyOf s) in
+      record {
+        returns = returned-short surveyPlaces answer numbers n answer′ l r;
+        reports = reported-short surveyPlaces answer numbers n answer′ l r;
+      }
+
+  pub survey-long : (a : Survey) (n : ℕ) → surveyPlaces ≤ length answer → a ≡ surveyOf s → Reported (surveyNumbers a) answer n answer′ → AfsSurvey s answer n answer′
+  survey-long a n l v r =
+      let e : surveyNumbers a ≡ surveyNumbers (surveyOf s) = ap surveyNumbers v in
+      record {
+        returns = returned-long surveyPlaces answer (surveyNumbers a) n answer′ l r ∙ ap (returned surveyPlaces answer) e;
+        reports = reported-long surveyPlaces answer (surveyNumbers a) n answer′ l r ∙ ap (reported surveyPlaces answer) e;
       }

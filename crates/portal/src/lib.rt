@@ -3,6 +3,7 @@ ghost use mathlib.Core.Path.{_≡_};
 ghost use lib.ListN.{length};
 ghost use Rattle.rules.specs.Document.Notation.{zeros};
 ghost use Rattle.rules.specs.Document.Calls.{AfsCode, AfsServe, AfsDecode};
+ghost use Rattle.survey.specs.Surveyed.{AfsSurvey};
 use rules::Level;
 use rules::Plane;
 use rules::Size;
@@ -75,4 +76,15 @@ pub extern "C" fn afs_decode(
     }
     let a = decoder::decode(bytes, out, work);
     answers::report_decoded(a, answer)
+}
+
+#[no_mangle]
+pub extern "C" fn afs_survey(bytes: &[u8], answer: &mut [u64]) -> u64
+    ensures { λ n. ⌜ AfsSurvey (now (bytes .entry)) (now (answer .entry)) n (now (answer .exit)) ⌝ }
+{
+    if answer.len() < 8 {
+        return too_short(answer);
+    }
+    let a = survey::survey_of(bytes);
+    answers::report_surveyed(a, answer)
 }

@@ -39,12 +39,13 @@ pub record Alike (found : Survey) (answer : Served) : Type 0 where
 surveyOf-case : (P : Survey → Type 0) (s : List ℕ) → ((r : Refusal) → readHeader s ≡ header.Refused r → P (refusedWith r))
     → ((h : Header) (r : Refusal) → readHeader s ≡ header.Header h → readParts h s .ending ≡ fault r → P (refusedWith r))
     → ((h : Header) (t : ℕ) → readHeader s ≡ header.Header h → readParts h s .ending ≡ tail t
-    → P (record { verdict = Accepted; header = h; tail = t }))
+    → P (record { verdict = Accepted; header = h; parts = length (readParts h s .parts); tail = t }))
     → P (surveyOf s)
 unfolding surveyOf
 surveyOf-case P s headless faulty whole = headed (readHeader s) refl
   where
-    ended : (h : Header) → readHeader s ≡ header.Header h → (e : Ending) → readParts h s .ending ≡ e → P (endedWith h e)
+    ended : (h : Header) → readHeader s ≡ header.Header h → (e : Ending) → readParts h s .ending ≡ e
+        → P (endedWith h (length (readParts h s .parts)) e)
     ended h f (tail t) g = whole h t f g
     ended h f (fault r) g = faulty h r f g
 

@@ -1,2 +1,3 @@
 pub mod Surveyed
 pub mod AsServing
+pub mod Exported

@@ -1,5 +1,6 @@
--- What a survey says: the header and the tail of a record that serving accepts, or its refusal.
-use mathlib.Core.List.{List}
+-- What a survey says: the header, the number of whole parts and the tail of a record that serving accepts, or its refusal.
+use mathlib.Core.Path.{_≡_}
+use mathlib.Core.List.{List, [], _∷_}
 use mathlib.Core.Bool.{cond}
 use Prim.Native.Nat.{ℕ}
 use lib.Dec.{leb}
@@ -13,18 +14,22 @@ use Rattle.rules.specs.declared.HeaderRead.the-variants as header
 use Rattle.rules.specs.declared.PartRead.{PartRead}
 use Rattle.rules.specs.declared.PartRead.the-variants as part
 use Rattle.rules.specs.Document.Passes.{PartName}
-use Rattle.rules.specs.Document.Numbers.{Ending, tail, fault, readHeader, readPart, readParts}
+use Rattle.rules.specs.Document.Numbers.{verdictNumber, verdictPlace, Ending, tail, fault, Reading, readHeader, readPart, readParts}
+use Rattle.rules.specs.Document.Calls.{returned, reported}
 use Rattle.survey.specs.declared.Survey.{Survey}
 
 abbrev pub refusedWith : Refusal → Survey
-refusedWith r = record { verdict = Refused r; header = record { size = record { w = 0; h = 0; n = 0 }; planes = 0; end = 0 }; tail = 0 }
+refusedWith r = record { verdict = Refused r; header = record { size = record { w = 0; h = 0; n = 0 }; planes = 0; end = 0 }; parts = 0; tail = 0 }
 
-abbrev pub endedWith : Header → Ending → Survey
-endedWith h (tail t) = record { verdict = Accepted; header = h; tail = t }
-endedWith h (fault r) = refusedWith r
+abbrev pub endedWith : Header → ℕ → Ending → Survey
+endedWith h n (tail t) = record { verdict = Accepted; header = h; parts = n; tail = t }
+endedWith h n (fault r) = refusedWith r
+
+abbrev pub walkedWith : Header → Reading → Survey
+walkedWith h r = endedWith h (length (r .parts)) (r .ending)
 
 abbrev pub headedWith : List ℕ → HeaderRead → Survey
-headedWith s (header.Header h) = endedWith h (readParts h s .ending)
+headedWith s (header.Header h) = walkedWith h (readParts h s)
 headedWith s (header.Refused r) = refusedWith r
 
 unfoldable pub surveyOf : List ℕ → Survey
@@ -44,3 +49,17 @@ partBehind s before place (header.Refused r) = part.Refused r
 
 unfoldable pub partAt : List ℕ → PartName → ℕ → PartRead
 partAt s before place = partBehind s before place (readHeader s)
+
+-- What the export `afs_survey` answers and leaves, beside Calls.AfsServe and its like: number, place, W, H, N, planes, whole parts, tail length, by
+-- the same rules for an answer slice. It is lent no output.
+unfoldable pub surveyNumbers : Survey → List ℕ
+surveyNumbers a =
+    let z = a .header .size in
+    verdictNumber (a .verdict) ∷ verdictPlace (a .verdict) ∷ z .w ∷ z .h ∷ z .n ∷ a .header .planes ∷ a .parts ∷ a .tail ∷ []
+
+abbrev pub surveyPlaces : ℕ
+surveyPlaces = 8
+
+pub record AfsSurvey (s answer : List ℕ) (number : ℕ) (answer′ : List ℕ) : Type 0 where
+  pub returns : number ≡ returned surveyPlaces answer (surveyNumbers (surveyOf s))
+  pub reports : answer′ ≡ reported surveyPlaces answer (surveyNumbers (surveyOf s))

@@ -1,9 +1,9 @@
-// What a record holds, judged as serving it whole judges it: what partlist decides before it prints.
+// What a record holds, judged as serving it whole judges it: what afs_survey answers, and what partlist decides before it prints.
 ghost use mathlib.Core.Path.{_≡_};
 ghost use Rattle.rules.specs.declared.HeaderRead.the-variants as header;
 ghost use Rattle.rules.specs.Document.Numbers.{readHeader, readParts};
 ghost use Rattle.record.specs.Named.{named};
-ghost use Rattle.survey.specs.Surveyed.{refusedWith, endedWith, surveyOf, listedOf, partAt};
+ghost use Rattle.survey.specs.Surveyed.{refusedWith, walkedWith, surveyOf, listedOf, partAt};
 use record::Name;
 use rules::Header;
 use rules::HeaderRead;
@@ -20,6 +20,7 @@ pub const LONGEST: usize = 16384;
 pub struct Survey {
     pub verdict: Verdict,
     pub header: Header,
+    pub parts: usize,
     pub tail: usize,
 }
 
@@ -33,19 +34,21 @@ fn refused(r: Refusal) -> Survey
             planes: 0,
             end: 0,
         },
+        parts: 0,
         tail: 0,
     }
 }
 
 fn walk(s: &[u8], h: Header) -> Survey
     requires { ⌜ readHeader (now s) ≡ header.Header h ⌝ }
-    ensures { λ a. ⌜ a ≡ endedWith h (readParts h (now (s .entry)) .ending) ⌝ }
+    ensures { λ a. ⌜ a ≡ walkedWith h (readParts h (now (s .entry))) ⌝ }
 {
     let mut before = Name {
         plane: Plane(h.planes),
         level: Level(0),
     };
     let mut place = h.end;
+    let mut parts = 0;
     loop {
         let read = record::read_part(s, h, before, place);
         match read {
@@ -53,6 +56,7 @@ fn walk(s: &[u8], h: Header) -> Survey
                 return Survey {
                     verdict: Verdict::Accepted,
                     header: h,
+                    parts,
                     tail: s.len() - place,
                 };
             }
@@ -65,6 +69,7 @@ fn walk(s: &[u8], h: Header) -> Survey
                     level: own_level,
                 };
                 place = p.end;
+                parts += 1;
             }
         }
     }

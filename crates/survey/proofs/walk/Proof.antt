@@ -8,25 +8,25 @@ use Rattle.survey.proofs.walk.Statement.{statement}
 use Rattle.survey.proofs.walk.Tie as tie
 
 abbrev Inv-loop : tie.InvT-loop
-Inv-loop s h before₀ place₀ before place = Surveying s h (named before) place
+Inv-loop s h before₀ place₀ parts₀ before place parts = Surveying s h (named before) place parts
 
 abbrev μ-loop : tie.MeasureT-loop
-μ-loop s h before₀ place₀ before place = length s - place
+μ-loop s h before₀ place₀ parts₀ before place parts = length s - place
 
 loop-holds : tie.Need-loop-holds Inv-loop μ-loop
-loop-holds c = surveying-begun _ _ (c .before .pre)
+loop-holds c = search (needs, surveying-begun)
 
 read-part-requires : tie.Need-read-part-requires Inv-loop μ-loop
-read-part-requires c κs = surveying-legal _ _ _ _ (c .loop .inv)
+read-part-requires c κs = search (needs, surveying-legal)
 
 enum-told : tie.Need-enum-told Inv-loop μ-loop
 enum-told c = search needs
 
-sub-t14 : tie.Need-sub-t14 Inv-loop μ-loop
-sub-t14 c = search needs
+sub-t15 : tie.Need-sub-t15 Inv-loop μ-loop
+sub-t15 c = search needs
 
 returns : tie.Need-returns Inv-loop μ-loop
-returns c = surveying-whole _ _ _ _ (c .before .before .before .loop .inv) _ (c .before .before .read-part .ensures) (c .enum-told .given .1)
+returns c = search (needs, surveying-whole)
 
 enum-known-read : tie.Need-enum-known-read Inv-loop μ-loop
 enum-known-read c = search needs
@@ -35,17 +35,20 @@ refused-requires : tie.Need-refused-requires Inv-loop μ-loop
 refused-requires c κs = search needs
 
 returns-2 : tie.Need-returns-2 Inv-loop μ-loop
-returns-2 c = surveying-fault _ _ _ _ (c .before .before .before .before .before .loop .inv) _ (c .before .before .before .before .read-part .ensures) _ _ (c .before .before .read .given .1) (c .refused .ensures)
+returns-2 c = search (needs, surveying-fault)
 
 enum-known-read-2 : tie.Need-enum-known-read-2 Inv-loop μ-loop
 enum-known-read-2 c = search needs
 
+add-parts : tie.Need-add-parts Inv-loop μ-loop
+add-parts c = search needs
+
 loop-less : tie.Need-loop-less Inv-loop μ-loop
-loop-less c = surveying-further _ _ _ _ (c .before .before .before .before .before .before .loop .inv) _ (c .before .before .before .before .before .read-part .ensures) _ (c .before .before .before .read2 .given .1)
+loop-less c = search (needs, surveying-further)
 
 loop-again : tie.Need-loop-again Inv-loop μ-loop
 unfolding nameOf
-loop-again c = surveying-on _ _ _ _ (c .before .before .before .before .before .before .loop .inv) _ (c .before .before .before .before .before .read-part .ensures) _ (c .before .before .before .read2 .given .1)
+loop-again c = search (needs, surveying-on)
 
 pub walk-spec : {M : Type 1} → statement M
 walk-spec =
@@ -56,11 +59,12 @@ walk-spec =
     loop-holds
     read-part-requires
     enum-told
-    sub-t14
+    sub-t15
     returns
     enum-known-read
     refused-requires
     returns-2
     enum-known-read-2
+    add-parts
     loop-less
     loop-again)
