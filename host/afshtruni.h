@@ -5,14 +5,16 @@
  * a record: a header, then parts. Each part has a plane (bit planes, counted
  * down to 0, the finest) and a level (1 is the finest, N + 1 the coarsest).
  * A smaller version of a record is some of its parts, so it is cut out of the
- * bytes without decoding them: that is serving. Decoding makes a pyramid of
+ * bytes without decoding them: that is serving. A survey tells what a record
+ * holds, and so how much to lend for decoding it. Decoding makes a pyramid of
  * whatever parts of a record are there, and tells how far each level got.
  *
- * Link with libportal.a (x86-64). It needs no library but C's own, allocates
- * nothing, keeps nothing between calls and may be called from any number of
- * threads at once, each with memory of its own. Every function in it is proved
- * to meet its contract, to end and never to go wrong, for any bytes whatever,
- * provided that the caller keeps to MEMORY BEFORE A CALL below.
+ * Link with libafshtruni (x86-64), static or shared: pkg-config afshtruni tells
+ * how. It needs no library but C's own, allocates nothing, keeps nothing
+ * between calls and may be called from any number of threads at once, each with
+ * memory of its own. Every function in it is proved to meet its contract, to
+ * end and never to go wrong, for any bytes whatever, provided that the caller
+ * keeps to MEMORY BEFORE A CALL below. A record has no checksum: docs/FORMAT.md.
  */
 #ifndef AFSHTRUNI_H
 #define AFSHTRUNI_H
@@ -23,6 +25,16 @@
 #ifdef __cplusplus
 extern "C" {
 #endif
+
+/*
+ * VERSION
+ *
+ * Of this header, and of the library that is installed with it. The shared
+ * library is libafshtruni.so.MAJOR.
+ */
+#define AFS_VERSION_MAJOR 0
+#define AFS_VERSION_MINOR 1
+#define AFS_VERSION_PATCH 0
 
 /*
  * NUMBERS
@@ -74,6 +86,25 @@ enum {
  */
 
 /*
+ * SIZES TO LEND
+ *
+ * For a pyramid of w x h, as constants where w and h are:
+ *
+ *   AFS_CODE_BOUND(w, h)   bytes in which every record that afs_code() makes of
+ *                          such a pyramid has room: 6 x w x h + 640
+ *   AFS_WORK(w, h)         numbers of workspace that coding and decoding need:
+ *                          4 x w x h. Without parentheses AFS_WORK is the
+ *                          refusal of a workspace that is shorter.
+ */
+#ifdef __cplusplus
+#define AFS_SIDE_(n) static_cast<size_t>(n)
+#else
+#define AFS_SIDE_(n) ((size_t)(n))
+#endif
+#define AFS_CODE_BOUND(w, h) (6 * AFS_SIDE_(w) * AFS_SIDE_(h) + 640)
+#define AFS_WORK(w, h) (4 * AFS_SIDE_(w) * AFS_SIDE_(h))
+
+/*
  * ANSWER OF CODING
  *
  * Where each number stands in the answer of afs_code(), and how many there
@@ -98,9 +129,9 @@ enum {
  *                          only read
  *   width, height          4 to 512
  *   decompositions         N, 1 to 5
- *   out, out_len           where the record goes; 6 x width x height + 640
+ *   out, out_len           where the record goes; AFS_CODE_BOUND(width, height)
  *                          bytes are always enough
- *   work, work_len         workspace, at least 4 x width x height numbers
+ *   work, work_len         workspace, at least AFS_WORK(width, height) numbers
  *   answer, answer_len     where the answer goes, at least AFS_CODED_NUMBERS
  *
  * Returns the number, which is also answer[AFS_CODED_NUMBER] where the answer
@@ -135,14 +166,14 @@ enum {
  *    0  0  1  0
  *    0  0  0  0
  *
- *   uint8_t out[720];
- *   uint32_t work[64];
+ *   uint8_t out[AFS_CODE_BOUND(4, 4)];
+ *   uint32_t work[AFS_WORK(4, 4)];
  *   uint64_t answer[AFS_CODED_NUMBERS];
- *   if (afs_code(pyramid, 16, 4, 4, 1, out, 720, work, 64, answer, 3) == AFS_ACCEPTED)
+ *   if (afs_code(pyramid, 16, 4, 4, 1, out, 736, work, 64, answer, 3) == AFS_ACCEPTED)
  *       store(out, answer[AFS_CODED_LENGTH]);
  *
  * answers 0, 0, 30, and `out` holds this record of 30 bytes, of six parts, and
- * then 690 bytes of 0:
+ * then 706 bytes of 0:
  *
  *   01 04 04 01 03                  version 1, 4 x 4, N = 1, 3 planes
  *   02 02 05 80                     plane 2, level 2, 5 bits
@@ -257,6 +288,73 @@ uint64_t afs_serve(const uint8_t *record, size_t record_len,
                    uint64_t *answer, size_t answer_len);
 
 /*
+ * ANSWER OF A SURVEY
+ *
+ * Where each number stands in the answer of afs_survey(), and how many there
+ * are. An answer may be longer; what is beyond is set to 0.
+ */
+enum {
+    AFS_SURVEYED_NUMBER = 0,         /* one of the numbers above, the same as is returned */
+    AFS_SURVEYED_PLACE = 1,          /* place of a refusal, else 0 */
+    AFS_SURVEYED_WIDTH = 2,          /* the header's width, 0 if refused, and so are all that follow */
+    AFS_SURVEYED_HEIGHT = 3,         /* its height */
+    AFS_SURVEYED_DECOMPOSITIONS = 4, /* its N */
+    AFS_SURVEYED_PLANES = 5,         /* its number of planes */
+    AFS_SURVEYED_PARTS = 6,          /* how many parts are there whole */
+    AFS_SURVEYED_TAIL = 7,           /* bytes of an incomplete part at the record's end */
+    AFS_SURVEYED_NUMBERS = 8         /* the least length of the answer */
+};
+
+/*
+ * afs_survey() - tell what a record holds.
+ *
+ * Reads the header and the heads of all parts, and judges them and their
+ * padding as afs_serve() does for level 1 and plane 0. A record of every part
+ * has (N + 1) x planes of them; which are there, only decoding tells.
+ *
+ *   record, record_len   the record; only read
+ *   answer, answer_len   where the answer goes, at least AFS_SURVEYED_NUMBERS
+ *
+ * Returns the number, which is also answer[AFS_SURVEYED_NUMBER] where the
+ * answer is long enough.
+ *
+ * Numbers, in the order in which they are judged; the first that is due is
+ * given:
+ *
+ *   5 ROOM     answer_len is under 8. This alone is judged before the record,
+ *              and only returned: the answer itself is all 0.
+ *   6, 7, 6, 1 as afs_serve() judges the header, with the same places.
+ *   8 PART     in the first part at fault, as in afs_serve(). Place: the
+ *              offset of the part.
+ *   9 PAD      in the first part at fault, if it isn't 8: as in afs_serve().
+ *              Place: the offset of the part.
+ *
+ * Bodies are not decoded: a record that is accepted here may still be refused
+ * by decoding with 10 FIT.
+ *
+ * Memory after the call.
+ *
+ *   outcome            answer
+ *   accepted           0, 0, width, height, N, planes, parts, tail, 0 ...
+ *   refused            number, place, 0, 0, 0, 0, 0, 0, 0 ...
+ *   answer too short   all 0
+ *
+ * Example. With the record of 30 bytes that stands at afs_code(),
+ *
+ *   uint64_t told[AFS_SURVEYED_NUMBERS];
+ *   if (afs_survey(record, 30, told, 8) == AFS_ACCEPTED)
+ *       lend(told[AFS_SURVEYED_WIDTH] * told[AFS_SURVEYED_HEIGHT],
+ *            AFS_WORK(told[AFS_SURVEYED_WIDTH], told[AFS_SURVEYED_HEIGHT]));
+ *
+ * answers 0, 0, 4, 4, 1, 3, 6, 0: 4 x 4 coefficients in 1 decomposition, 3
+ * planes, all 6 parts, no tail. Of the record's first 29 bytes the last 4 are a
+ * tail: the answer is 0, 0, 4, 4, 1, 3, 5, 4. Of its first 4 it is 6, 4 and six
+ * times 0, as the number of planes is missing.
+ */
+uint64_t afs_survey(const uint8_t *record, size_t record_len,
+                    uint64_t *answer, size_t answer_len);
+
+/*
  * ANSWER OF DECODING
  *
  * Where each number stands in the answer of afs_decode(), and how many there
@@ -288,7 +386,7 @@ enum {
  *   record, record_len   the record; only read
  *   out, out_len         where the pyramid goes: exactly width x height of the
  *                        record, row by row
- *   work, work_len       workspace, at least 4 x width x height numbers
+ *   work, work_len       workspace, at least AFS_WORK(width, height) numbers
  *   answer, answer_len   where the answer goes, at least AFS_DECODED_NUMBERS
  *
  * Returns the number, which is also answer[AFS_DECODED_NUMBER] where the

@@ -2,9 +2,9 @@
  * Makes the archive's calls for a program that can't link it: reads calls from standard input until it ends, and writes to standard output
  * what each returned and what became of the memory that it was lent.
  *
- * A call is a letter (c, s or d for code, serve or decode), its numbers, and each of its stretches of memory as length in bytes and contents,
- * in the order of afshtruni.h. Its answer is the returned number and the contents of the stretches, in the same order. A number between
- * them has 64 bits, lowest byte first, and contents are as they stand in the memory of an x86-64.
+ * A call is a letter (c, s, d or v for code, serve, decode or survey), its numbers, and each of its stretches of memory as length in bytes
+ * and contents, in the order of afshtruni.h. Its answer is the returned number and the contents of the stretches, in the same order. A
+ * number between them has 64 bits, lowest byte first, and contents are as they stand in the memory of an x86-64.
  *
  * It fails where the input ends inside of a call, or where a call has written next to the memory that it was lent.
  */
@@ -104,6 +104,13 @@ static void decode(void) {
     give_memory(answer);
 }
 
+static void survey(void) {
+    Lent record = take_memory(), answer = take_memory();
+    give_number(afs_survey(record.at, record.size, answer.at, answer.size / sizeof(uint64_t)));
+    give_memory(record);
+    give_memory(answer);
+}
+
 int main(void) {
     for (int call; (call = getchar()) != EOF;) {
         switch (call) {
@@ -115,6 +122,9 @@ int main(void) {
             break;
         case 'd':
             decode();
+            break;
+        case 'v':
+            survey();
             break;
         default:
             fail("no such call");

@@ -48,6 +48,9 @@ extern "C" {
         answer: *mut u64,
         answer_len: usize,
     ) -> u64;
+
+    fn afs_survey(record: *const u8, record_len: usize, answer: *mut u64, answer_len: usize)
+        -> u64;
 }
 
 /// The archive's calls.
@@ -120,6 +123,17 @@ impl Subject for Archive {
                 out.len(),
                 work.as_mut_ptr(),
                 work.len(),
+                answer.as_mut_ptr(),
+                answer.len(),
+            )
+        })
+    }
+
+    fn survey(&self, record: &[u8], answer: &mut [u64]) -> Returned {
+        Ok(unsafe {
+            afs_survey(
+                record.as_ptr(),
+                record.len(),
                 answer.as_mut_ptr(),
                 answer.len(),
             )

@@ -15,7 +15,7 @@
 //! * [`lists`], [`passes`]: the three lists of each level, and the passes
 //! * [`layout`]: numbers, header, parts, packed bits
 //! * [`reading`]: the walk over a record
-//! * [`coder`], [`server`], [`decoder`], [`partlist`]: the calls
+//! * [`coder`], [`server`], [`decoder`], [`survey`], [`partlist`]: the calls
 //! * [`portal`]: the same calls in the shape in which C sees them
 //!
 //! and for trying the product: [`generate`] makes pyramids and records,
@@ -40,6 +40,7 @@ pub mod refusal;
 pub mod server;
 pub mod size;
 pub mod slip;
+pub mod survey;
 
 #[cfg(feature = "archive")]
 pub mod archive;
@@ -48,3 +49,4 @@ pub use coder::{code, CodeAnswer};
 pub use decoder::{decode, DecodeAnswer};
 pub use partlist::partlist;
 pub use server::{serve, ServeAnswer};
+pub use survey::{survey, SurveyAnswer};

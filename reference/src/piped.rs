@@ -118,6 +118,17 @@ impl<W: Write, R: Read> Subject for Piped<W, R> {
         told.take(answer);
         Ok(returned)
     }
+
+    fn survey(&self, record: &[u8], answer: &mut [u64]) -> Returned {
+        let mut call = Call::new(b'v', &[]);
+        call.lend(record);
+        call.lend(answer);
+        let mut told = self.answer(&call)?;
+        let returned = told.number();
+        told.check_same("the record", record)?;
+        told.take(answer);
+        Ok(returned)
+    }
 }
 
 /// Bytes of a number between stretches of memory.

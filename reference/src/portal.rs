@@ -11,6 +11,8 @@ pub const CODE_ANSWER: usize = 3;
 pub const SERVE_ANSWER: usize = 4;
 /// Number, place, tail length, six reached planes.
 pub const DECODE_ANSWER: usize = 9;
+/// Number, place, W, H, N, planes, whole parts, tail length.
+pub const SURVEY_ANSWER: usize = 8;
 
 #[allow(clippy::too_many_arguments)]
 pub fn afs_code(
@@ -52,6 +54,13 @@ pub fn afs_decode(record: &[u8], out: &mut [i32], work: &mut [u32], answer: &mut
         answer,
         &[said.number, said.place, said.tail, r1, r2, r3, r4, r5, r6],
     )
+}
+
+pub fn afs_survey(record: &[u8], answer: &mut [u64]) -> u64 {
+    if answer.len() < SURVEY_ANSWER {
+        return no_room_for(answer);
+    }
+    put(answer, &crate::survey(record).numbers())
 }
 
 fn put(answer: &mut [u64], numbers: &[u64]) -> u64 {

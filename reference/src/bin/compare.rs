@@ -13,8 +13,8 @@ const SUBJECT: (&str, &dyn Subject) = ("the archive", &reference::archive::Archi
 #[cfg(not(feature = "archive"))]
 const SUBJECT: (&str, &dyn Subject) = ("the reference's own portal", &reference::compare::Own);
 
-const USAGE: &str = "usage: compare code|serve|decode COUNT [SEED]
-       compare --through PROGRAM code|serve|decode COUNT [SEED]
+const USAGE: &str = "usage: compare code|serve|decode|survey COUNT [SEED]
+       compare --through PROGRAM code|serve|decode|survey COUNT [SEED]
        compare partlist PROGRAM COUNT [SEED]";
 
 fn main() -> ExitCode {

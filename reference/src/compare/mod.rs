@@ -10,6 +10,7 @@ mod decoding;
 mod lent;
 mod listing;
 mod serving;
+mod surveying;
 mod tally;
 
 use crate::generate::shapes::shape_of_case;
@@ -23,6 +24,7 @@ use decoding::compare_decode;
 use listing::compare_partlist;
 use serving::compare_serve;
 use std::path::Path;
+use surveying::compare_survey;
 pub use tally::{Difference, Tally};
 
 /// What a call returned, or why it couldn't be made.
@@ -58,6 +60,8 @@ pub trait Subject {
         work: &mut [u32],
         answer: &mut [u64],
     ) -> Returned;
+
+    fn survey(&self, record: &[u8], answer: &mut [u64]) -> Returned;
 }
 
 /// The library itself, through [`portal`]: tries the portal, and the
@@ -98,6 +102,10 @@ impl Subject for Own {
     ) -> Returned {
         Ok(portal::afs_decode(record, out, work, answer))
     }
+
+    fn survey(&self, record: &[u8], answer: &mut [u64]) -> Returned {
+        Ok(portal::afs_survey(record, answer))
+    }
 }
 
 #[derive(Clone, Copy, Debug, PartialEq, Eq)]
@@ -105,31 +113,38 @@ pub enum Routine {
     Code,
     Serve,
     Decode,
+    Survey,
     /// The program; it has no subject but a path ([`run_partlist`]).
     Partlist,
 }
 
 impl Routine {
     /// Those that a [`Subject`] can have.
-    pub const EXPORTED: [Routine; 3] = [Routine::Code, Routine::Serve, Routine::Decode];
+    pub const EXPORTED: [Routine; 4] = [
+        Routine::Code,
+        Routine::Serve,
+        Routine::Decode,
+        Routine::Survey,
+    ];
 
     pub fn name(self) -> &'static str {
         match self {
             Routine::Code => "code",
             Routine::Serve => "serve",
             Routine::Decode => "decode",
+            Routine::Survey => "survey",
             Routine::Partlist => "partlist",
         }
     }
 
-    /// The numbers that the exported routine can give. Decoding has ROOM only
-    /// for an answer slice that is too short.
+    /// The numbers that the exported routine can give. Decoding and surveying
+    /// have ROOM only for an answer slice that is too short.
     pub fn can_answer(self, number: u64) -> bool {
         let numbers: &[u64] = match self {
             Routine::Code => &[0, 1, 2, 3, 4, 5],
             Routine::Serve => &[0, 1, 5, 6, 7, 8, 9, 11],
             Routine::Decode => &[0, 1, 2, 3, 5, 6, 7, 8, 9, 10],
-            Routine::Partlist => &[0, 1, 5, 6, 7, 8, 9],
+            Routine::Survey | Routine::Partlist => &[0, 1, 5, 6, 7, 8, 9],
         };
         numbers.contains(&number)
     }
@@ -154,6 +169,7 @@ pub fn run(
             Routine::Code => compare_code(chance, case, subject),
             Routine::Serve => compare_serve(chance, stock.record(case), subject),
             Routine::Decode => compare_decode(chance, stock.record(case), subject),
+            Routine::Survey => compare_survey(chance, stock.record(case), subject),
             Routine::Partlist => Err("a subject has no part list".to_string()),
         },
     )

@@ -144,6 +144,16 @@ impl Subject for Wrong {
         (self.spoil)(&mut lent);
         Ok(lent.returned)
     }
+
+    fn survey(&self, record: &[u8], answer: &mut [u64]) -> Returned {
+        let mut lent = Lent {
+            returned: Own.survey(record, answer)?,
+            answer,
+            ..Lent::default()
+        };
+        (self.spoil)(&mut lent);
+        Ok(lent.returned)
+    }
 }
 
 fn fails(routine: Routine, spoil: fn(&mut Lent)) {
@@ -168,10 +178,11 @@ fn a_wrong_number_or_place_is_caught() {
 
 #[test]
 fn a_wrong_count_is_caught() {
-    // Length, tail, reached plane of level 6.
+    // Length, tail, reached plane of level 6, whole parts.
     fails(Routine::Code, |lent| bump(lent, 2));
     fails(Routine::Serve, |lent| bump(lent, 3));
     fails(Routine::Decode, |lent| bump(lent, 8));
+    fails(Routine::Survey, |lent| bump(lent, 6));
 }
 
 fn bump(lent: &mut Lent, at: usize) {
@@ -210,7 +221,7 @@ fn memory_left_dirty_is_caught() {
             lent.coefficients.iter_mut().take(1).for_each(|c| *c = 1);
         }
     };
-    for routine in Routine::EXPORTED {
+    for routine in [Routine::Code, Routine::Serve, Routine::Decode] {
         fails(routine, dirty_refusal);
     }
     let dirty_end = |lent: &mut Lent| {
@@ -270,6 +281,10 @@ impl Subject for Overrun {
         answer: &mut [u64],
     ) -> Returned {
         Own.decode(record, out, work, answer)
+    }
+
+    fn survey(&self, record: &[u8], answer: &mut [u64]) -> Returned {
+        Own.survey(record, answer)
     }
 }
 

@@ -1,7 +1,7 @@
 //! The calls in the shape of the exported ones.
 
 use crate::helpers::{EXAMPLE, EXAMPLE_PYRAMID};
-use reference::portal::{afs_code, afs_decode, afs_serve};
+use reference::portal::{afs_code, afs_decode, afs_serve, afs_survey};
 
 const DIRTY: u64 = 0xFEED;
 
@@ -26,6 +26,10 @@ fn answers_stand_at_the_front() {
     assert_eq!(number, 0);
     assert_eq!(answer, [0, 0, 4, 1, 0, 0, 0, 0, 0, 0, 0, 0]);
     assert_eq!(work, [0; 70]);
+
+    let mut answer = [DIRTY; 12];
+    assert_eq!(afs_survey(&EXAMPLE[..29], &mut answer), 0);
+    assert_eq!(answer, [0, 0, 4, 4, 1, 3, 5, 4, 0, 0, 0, 0]);
 }
 
 #[test]
@@ -57,6 +61,13 @@ fn refusals_are_returned_and_written() {
         6
     );
     assert_eq!(answer, [6, 3, 0, 0, 0, 0, 0, 0, 0]);
+
+    let mut answer = [DIRTY; 9];
+    assert_eq!(afs_survey(&EXAMPLE[..3], &mut answer), 6);
+    assert_eq!(answer, [6, 3, 0, 0, 0, 0, 0, 0, 0]);
+    let mut short = [DIRTY; 7];
+    assert_eq!(afs_survey(&EXAMPLE, &mut short), 5);
+    assert_eq!(short, [0; 7]);
     assert_eq!((pyramid, work), ([0; 16], [0; 64]));
 }
 
