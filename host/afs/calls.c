@@ -12,7 +12,7 @@ static size_t room_for_record(size_t coefficients) {
     return 6 * coefficients + 640;
 }
 
-static int32_t coefficient_at(const uint8_t *at) {
+int32_t coefficient_at(const uint8_t *at) {
     uint32_t bits = (uint32_t)at[0] | (uint32_t)at[1] << 8 | (uint32_t)at[2] << 16 | (uint32_t)at[3] << 24;
     int32_t coefficient;
     memcpy(&coefficient, &bits, sizeof coefficient);
@@ -99,8 +99,8 @@ Outcome decode(Bytes record) {
 
 const char *name_of(uint64_t number) {
     static const char *const names[] = {
-        [AFS_SIZE] = "SIZE", [AFS_LENGTH] = "LENGTH",   [AFS_WORK] = "WORK", [AFS_RANGE] = "RANGE", [AFS_ROOM] = "ROOM", [AFS_HEAD] = "HEAD",
-        [AFS_VERSION] = "VERSION", [AFS_PART] = "PART", [AFS_PAD] = "PAD",   [AFS_FIT] = "FIT",     [AFS_ASK] = "ASK",
+        [AFS_ACCEPTED] = "ACCEPTED", [AFS_SIZE] = "SIZE", [AFS_LENGTH] = "LENGTH",   [AFS_WORK] = "WORK", [AFS_RANGE] = "RANGE", [AFS_ROOM] = "ROOM",
+        [AFS_HEAD] = "HEAD",         [AFS_VERSION] = "VERSION", [AFS_PART] = "PART", [AFS_PAD] = "PAD",   [AFS_FIT] = "FIT",     [AFS_ASK] = "ASK",
     };
     return number < sizeof names / sizeof *names && names[number] != NULL ? names[number] : "UNKNOWN";
 }

@@ -22,7 +22,10 @@ Outcome serve(Bytes record, uint64_t level, uint64_t plane);
 
 Outcome decode(Bytes record);
 
-/* The name that goes with a refusal's number. */
+/* One of its numbers. */
+int32_t coefficient_at(const uint8_t *at);
+
+/* The name that goes with a number. */
 const char *name_of(uint64_t number);
 
 #endif

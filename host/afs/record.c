@@ -1,14 +1,16 @@
 #include "record.h"
 
+enum { MOST_BYTES = 4, GROUP = 7, MORE = 0x80 };
+
 static uint32_t read_number(const uint8_t **at) {
     uint32_t value = 0;
     unsigned shift = 0;
     uint8_t byte;
     do {
         byte = *(*at)++;
-        value |= (uint32_t)(byte & 0x7F) << shift;
-        shift += 7;
-    } while (byte & 0x80);
+        value |= (uint32_t)(byte & (MORE - 1)) << shift;
+        shift += GROUP;
+    } while (byte & MORE);
     return value;
 }
 
@@ -33,4 +35,17 @@ Part read_part(const uint8_t **at) {
 
 uint32_t coarsest(Header header) {
     return header.decompositions + 1;
+}
+
+Form try_number(Bytes record, size_t *offset, uint32_t *number) {
+    *number = 0;
+    for (unsigned i = 0; i < MOST_BYTES; i++) {
+        if (*offset == record.length)
+            return ENDS_EARLY;
+        uint8_t byte = record.at[(*offset)++];
+        *number |= (uint32_t)(byte & (MORE - 1)) << (GROUP * i);
+        if (!(byte & MORE))
+            return byte == 0 && i > 0 ? ENDS_IN_ZERO : WELL_FORMED;
+    }
+    return GOES_ON;
 }

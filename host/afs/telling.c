@@ -1,95 +1,18 @@
 #include "telling.h"
 
-#include "record.h"
+#include "holding.h"
 
 #include <inttypes.h>
-#include <stdbool.h>
-#include <stdio.h>
-#include <stdlib.h>
 
-/* Text that grows as it is printed to. */
-typedef struct {
-    FILE *stream;
-    char *at;
-    size_t length;
-} Text;
-
-static void begin_text(Text *text) {
-    text->stream = open_memstream(&text->at, &text->length);
-    if (text->stream == NULL)
-        fail("out of memory");
-}
-
-static Bytes end_text(Text *text) {
-    bool whole = !ferror(text->stream);
-    if (fclose(text->stream) != 0 || !whole)
-        fail("out of memory");
-    return (Bytes){(uint8_t *)text->at, text->length};
-}
-
-/* The parts stand between the header and the tail. */
-static const uint8_t *end_of_parts(Bytes record, const Outcome *outcome) {
-    return record.at + (record.length - outcome->tail);
-}
-
-Bytes list_parts(Bytes record, const Outcome *served) {
-    Text text;
-    begin_text(&text);
+void list_parts(FILE *out, Bytes record, const Outcome *served) {
     const uint8_t *at = record.at, *end = end_of_parts(record, served);
     Header header = read_header(&at);
-    fprintf(text.stream, "record %" PRIu32 " %" PRIu32 " %" PRIu32 " %" PRIu32 "\n", header.width, header.height, header.decompositions,
-            header.planes);
+    fprintf(out, "record %" PRIu32 " %" PRIu32 " %" PRIu32 " %" PRIu32 "\n", header.width, header.height, header.decompositions, header.planes);
     while (at < end) {
         Part part = read_part(&at);
-        fprintf(text.stream, "part %" PRIu32 " %" PRIu32 " %" PRIu32 "\n", part.plane, part.level, part.bits);
+        fprintf(out, "part %" PRIu32 " %" PRIu32 " %" PRIu32 "\n", part.plane, part.level, part.bits);
     }
-    fprintf(text.stream, "tail %" PRIu64 "\n", served->tail);
-    return end_text(&text);
-}
-
-/* Which parts a record holds, and how far decoding came with them. A level's entry is at level - 1. */
-typedef struct {
-    Header header;
-    uint32_t levels;
-    uint32_t there[LEVEL_PLACES]; /* bit n is set if the level's part of plane n is there */
-    const uint64_t *reached;
-    uint64_t tail;
-} Holding;
-
-static Holding holding_of(Bytes record, const Outcome *decoded) {
-    const uint8_t *at = record.at, *end = end_of_parts(record, decoded);
-    Header header = read_header(&at);
-    Holding holding = {.header = header, .levels = coarsest(header), .reached = decoded->reached, .tail = decoded->tail};
-    while (at < end) {
-        Part part = read_part(&at);
-        holding.there[part.level - 1] |= UINT32_C(1) << part.plane;
-    }
-    return holding;
-}
-
-static bool is_there(const Holding *holding, uint32_t plane, uint32_t level) {
-    return holding->there[level - 1] >> plane & 1;
-}
-
-/* Usable planes run without a gap from the top down to the reached one. */
-static bool is_used(const Holding *holding, uint32_t plane, uint32_t level) {
-    return plane >= holding->reached[level - 1];
-}
-
-static uint32_t count_parts(const Holding *holding, bool (*counts)(const Holding *, uint32_t, uint32_t)) {
-    uint32_t count = 0;
-    for (uint32_t level = 1; level <= holding->levels; level++)
-        for (uint32_t plane = 0; plane < holding->header.planes; plane++)
-            count += counts(holding, plane, level);
-    return count;
-}
-
-static uint32_t parts_of_whole(const Holding *holding) {
-    return holding->header.planes * holding->levels;
-}
-
-static bool is_whole(const Holding *holding) {
-    return count_parts(holding, is_there) == parts_of_whole(holding);
+    fprintf(out, "tail %" PRIu64 "\n", served->tail);
 }
 
 static void tell_grid(FILE *out, const Holding *holding) {
@@ -107,7 +30,7 @@ static void tell_grid(FILE *out, const Holding *holding) {
     fputs("    #  there and used   o  there, but not used, as a part that it builds on is missing   .  missing\n", out);
 }
 
-/* Says for what request serving a whole record keeps just these parts, if there is one. */
+/* Says for what request serving a whole record would keep as many, if there is one. Nobody can tell whether that was so. */
 static void tell_request(FILE *out, const Holding *holding) {
     uint32_t least_plane = holding->header.planes, least_level = holding->levels;
     for (uint32_t level = holding->levels; level > 0; level--)
@@ -118,16 +41,24 @@ static void tell_request(FILE *out, const Holding *holding) {
             }
     uint32_t asked = (holding->header.planes - least_plane) * (holding->levels - least_level + 1);
     if (count_parts(holding, is_there) == asked)
-        fprintf(out, "They are just those that 'afs serve -r %" PRIu32 " -p %" PRIu32 "' keeps of a whole record.\n", least_level, least_plane);
+        fprintf(out, "They are as many as 'afs serve -r %" PRIu32 " -p %" PRIu32 "' would keep of a whole record; the others may as well have been lost.\n",
+                least_level, least_plane);
+}
+
+/* Before any figure, what the figures can't show. */
+static void tell_what_shows(FILE *out, Header header) {
+    fprintf(out, "A record of a pyramid of %" PRIu32 " x %" PRIu32 " coefficients. Levels: %" PRIu32 " (coarsest) to 1 (finest). Planes: %" PRIu32 ".\n",
+            header.width, header.height, coarsest(header), header.planes);
+    fputs("Parts that are missing, and an end that is cut off, show below.\n"
+          "Bytes that were changed, or lost inside a part, do not: a record has no checksum. Keep one:\n"
+          "'sha256sum FILE >FILE.sha256' where a record is made or served, 'sha256sum -c FILE.sha256' where it arrives.\n",
+          out);
 }
 
 static void tell_parts(FILE *out, const Holding *holding) {
-    Header header = holding->header;
-    fprintf(out, "A record of a pyramid of %" PRIu32 " x %" PRIu32 " coefficients. Levels: %" PRIu32 " (coarsest) to 1 (finest). Planes: %" PRIu32 ".\n",
-            header.width, header.height, holding->levels, header.planes);
     fprintf(out, "\nParts: %" PRIu32 " of %" PRIu32 " are there, %" PRIu32 " of them are used.\n", count_parts(holding, is_there),
             parts_of_whole(holding), count_parts(holding, is_used));
-    if (header.planes == 0)
+    if (holding->header.planes == 0)
         fputs("Without planes there are no parts: every coefficient is 0.\n", out);
     else
         tell_grid(out, holding);
@@ -151,8 +82,9 @@ static void tell_distances(FILE *out, const Holding *holding) {
     for (uint32_t level = holding->levels; level > 0; level--)
         tell_distance(out, holding, level);
     fputs("It is never of greater magnitude, and it has the recorded sign unless it is 0.\n"
-          "This is so for a record that our coder wrote, whatever parts were left out or lost since.\n"
-          "A record doesn't show who wrote it, nor whether bytes in it were changed.\n", out);
+          "This is so for a record that our coder wrote, whatever whole parts were left out or lost since, and wherever it\n"
+          "was cut off; not where a byte of it was changed, or lost inside a part. A record doesn't show who wrote it.\n",
+          out);
 }
 
 /* The planes that a level lacks, downward, neighbours as one stretch. */
@@ -192,28 +124,11 @@ static void tell_tail(FILE *out, const Holding *holding) {
         fprintf(out, "\nTail: length %" PRIu64 ". What the record ends with is no whole part, and was left unused.\n", holding->tail);
 }
 
-Bytes explain(Bytes record, const Outcome *decoded) {
+void explain(FILE *out, Bytes record, const Outcome *decoded) {
     Holding holding = holding_of(record, decoded);
-    Text text;
-    begin_text(&text);
-    tell_parts(text.stream, &holding);
-    tell_distances(text.stream, &holding);
-    tell_missing(text.stream, &holding);
-    tell_tail(text.stream, &holding);
-    return end_text(&text);
-}
-
-void note_decoded(Bytes record, const Outcome *decoded) {
-    Holding holding = holding_of(record, decoded);
-    if (is_whole(&holding) && holding.tail == 0)
-        return;
-    fputs("afs: reached planes", stderr);
-    for (uint32_t level = 1; level <= holding.levels; level++)
-        fprintf(stderr, " %" PRIu64, holding.reached[level - 1]);
-    fprintf(stderr, " (level 1 first), tail %" PRIu64 "\n", holding.tail);
-}
-
-void note_served(const Outcome *served) {
-    if (served->tail > 0)
-        fprintf(stderr, "afs: tail %" PRIu64 " not served\n", served->tail);
+    tell_what_shows(out, holding.header);
+    tell_parts(out, &holding);
+    tell_distances(out, &holding);
+    tell_missing(out, &holding);
+    tell_tail(out, &holding);
 }

@@ -1,0 +1,219 @@
+#include "options.h"
+
+#include "files.h"
+#include "help.h"
+#include "messages.h"
+#include "output.h"
+
+#include <errno.h>
+#include <inttypes.h>
+#include <stdlib.h>
+#include <string.h>
+
+static const struct {
+    const char *name;
+    unsigned numbers; /* how many numbers stand before FILE */
+} commands[COMMANDS] = {[CODE] = {"code", 3}, [SERVE] = {"serve", 0}, [DECODE] = {"decode", 0}, [PARTS] = {"parts", 0}, [EXPLAIN] = {"explain", 0}};
+
+enum { EVERY = (1 << COMMANDS) - 1 };
+
+typedef enum { LEVEL, PLANE, WHOLE, CHECK, JSON, OUTPUT, FORCE, QUIET, HELP, VERSION_OPTION, OPTIONS } Option;
+
+static const struct {
+    char letter; /* or 0 */
+    const char *word;
+    const char *argument; /* what is to follow, or NULL */
+    unsigned commands;    /* bits of those that it is for */
+    const char *is_for;   /* the same in words */
+} options[OPTIONS] = {
+    [LEVEL] = {'r', "level", "a level", 1 << SERVE | 1 << DECODE, "serve and decode"},
+    [PLANE] = {'p', "plane", "a plane", 1 << SERVE | 1 << DECODE, "serve and decode"},
+    [WHOLE] = {0, "whole", NULL, 1 << DECODE, "decode"},
+    [CHECK] = {0, "check", NULL, 1 << DECODE, "decode"},
+    [JSON] = {0, "json", NULL, 1 << DECODE | 1 << PARTS | 1 << EXPLAIN, "parts, explain and decode --check"},
+    [OUTPUT] = {'o', "output", "a file", EVERY, NULL},
+    [FORCE] = {'f', "force", NULL, EVERY, NULL},
+    [QUIET] = {'q', "quiet", NULL, EVERY, NULL},
+    [HELP] = {'h', "help", NULL, EVERY, NULL},
+    [VERSION_OPTION] = {0, "version", NULL, EVERY, NULL},
+};
+
+/* The words of the command line that are no options, to the front of it, and which options there were. */
+typedef struct {
+    char **operands;
+    size_t count, before_dashes; /* how many of them stand before -- */
+    bool given[OPTIONS], as_word[OPTIONS];
+} Words;
+
+static uint64_t number_from(const char *name, unsigned least, unsigned most, const char *text) {
+    char *end;
+    errno = 0;
+    uint64_t number = strtoull(text, &end, 10);
+    if (text[0] < '0' || text[0] > '9' || *end != '\0' || errno != 0)
+        misused("%s is a number from %u to %u, not '%s'", name, least, most, text);
+    return number;
+}
+
+static _Noreturn void print_and_exit(const char *text) {
+    Output output = output_to(NULL, true, false, NULL);
+    put_out(&output, text, strlen(text));
+    finish_output(&output);
+    exit(STATUS_DONE);
+}
+
+static void take_option(Option option, const char *argument, Request *request) {
+    switch (option) {
+    case LEVEL:
+        request->level = number_from("LEVEL", 1, 6, argument);
+        request->has_expectation = true;
+        break;
+    case PLANE:
+        request->plane = number_from("PLANE", 0, 17, argument);
+        request->has_expectation = true;
+        break;
+    case OUTPUT:
+        request->out = argument;
+        break;
+    case HELP:
+        print_and_exit(help);
+    case VERSION_OPTION:
+        print_and_exit("afs " VERSION "\n");
+    default:
+        break;
+    }
+}
+
+/* Its argument is what is attached to it, or the next word. */
+static void meet_option(Option option, const char *typed, int length, const char *attached, char ***next, Words *words, Request *request) {
+    const char *argument = options[option].argument == NULL ? NULL : attached != NULL ? attached : **next;
+    if (options[option].argument != NULL && argument == NULL)
+        misused("%.*s needs %s", length, typed, options[option].argument);
+    if (argument != NULL && attached == NULL)
+        (*next)++;
+    words->given[option] = true;
+    words->as_word[option] = typed[1] == '-';
+    take_option(option, argument, request);
+}
+
+static void meet_word(const char *word, char ***next, Words *words, Request *request) {
+    size_t length = strcspn(word, "=");
+    const char *attached = word[length] == '=' ? word + length + 1 : NULL;
+    for (Option option = 0; option < OPTIONS; option++)
+        if (strlen(options[option].word) == length - 2 && strncmp(options[option].word, word + 2, length - 2) == 0 &&
+            (attached == NULL || options[option].argument != NULL)) {
+            meet_option(option, word, (int)length, attached, next, words, request);
+            return;
+        }
+    misused("no option %s", word);
+}
+
+/* How many bytes the character at the front of a text has, in UTF-8. */
+static int length_of_character(const char *text) {
+    int length = 1;
+    while (((unsigned char)text[length] & 0xC0) == 0x80)
+        length++;
+    return length;
+}
+
+/* One letter after another, until one takes the rest as its argument. */
+static void meet_letters(const char *letters, char ***next, Words *words, Request *request) {
+    for (; *letters != '\0'; letters++) {
+        Option option = 0;
+        while (option < OPTIONS && options[option].letter != *letters)
+            option++;
+        if (option == OPTIONS)
+            misused("no option -%.*s", length_of_character(letters), letters);
+        const char typed[] = {'-', *letters, '\0'};
+        meet_option(option, typed, 2, letters[1] == '\0' ? NULL : letters + 1, next, words, request);
+        if (options[option].argument != NULL)
+            return;
+    }
+}
+
+/* '-1' is a number that isn't legal rather than an option. */
+static bool is_operand(const char *word) {
+    return word[0] != '-' || word[1] == '\0' || (word[1] >= '0' && word[1] <= '9');
+}
+
+/* Options stand anywhere, whatever POSIXLY_CORRECT says: operands are never taken for them. */
+static void read_words(char **argv, Words *words, Request *request) {
+    bool after_dashes = false;
+    words->operands = argv;
+    for (char **next = argv + (argv[0] != NULL); *next != NULL;) {
+        char *word = *next++;
+        if (!after_dashes && strcmp(word, "--") == 0)
+            after_dashes = true;
+        else if (after_dashes || is_operand(word))
+            words->operands[words->count++] = word;
+        else if (word[1] == '-')
+            meet_word(word, &next, words, request);
+        else
+            meet_letters(word + 1, &next, words, request);
+        if (!after_dashes)
+            words->before_dashes = words->count;
+    }
+}
+
+static Command command_named(const char *name) {
+    for (Command command = 0; command < COMMANDS; command++)
+        if (strcmp(commands[command].name, name) == 0)
+            return command;
+    misused("no command '%s': code, serve, decode, parts and explain are there", name);
+}
+
+static void judge_options(const Words *words, const Request *request) {
+    for (Option option = 0; option < OPTIONS; option++)
+        if (words->given[option] && !(options[option].commands >> request->command & 1)) {
+            const char letter[] = {options[option].letter, '\0'};
+            bool as_word = words->as_word[option];
+            misused("%s%s is for %s", as_word ? "--" : "-", as_word ? options[option].word : letter, options[option].is_for);
+        }
+    if (request->json && request->command == DECODE && !request->check)
+        misused("--json is for %s", options[JSON].is_for);
+    if (request->out != NULL && request->check && !request->json)
+        misused("--check writes nothing, so there is no place for -o");
+}
+
+static bool takes_many(const Request *request) {
+    return request->command == PARTS || request->command == EXPLAIN || request->check;
+}
+
+/* Command, numbers, files. */
+static void read_operands(const Words *words, Request *request) {
+    static char *const standard_input[] = {"-"};
+    static const char *const legal[] = {"W", "H", "N"};
+    uint64_t *const numbers[] = {&request->width, &request->height, &request->decompositions};
+    size_t before_files = 1 + commands[request->command].numbers;
+    if (words->count < before_files)
+        misused("%s needs W, H and N", commands[request->command].name);
+    for (size_t i = 1; i < before_files; i++)
+        *numbers[i - 1] = number_from(legal[i - 1], i < 3 ? 4 : 1, i < 3 ? 512 : 5, words->operands[i]);
+    for (size_t i = before_files; i < words->before_dashes; i++)
+        if (words->operands[i][0] == '-' && words->operands[i][1] != '\0')
+            misused("no option %s", words->operands[i]);
+    request->files = words->operands + before_files;
+    request->count = words->count - before_files;
+    if (request->count > 1 && !takes_many(request))
+        misused("too many arguments: '%s'", request->files[1]);
+    if (request->count == 0) {
+        request->files = standard_input;
+        request->count = 1;
+    }
+}
+
+Request request_from(char **argv) {
+    Words words = {.count = 0};
+    Request request = {.level = 1};
+    read_words(argv, &words, &request);
+    if (words.count == 0)
+        misused("no command: code, serve, decode, parts and explain are there");
+    request.command = command_named(words.operands[0]);
+    request.force = words.given[FORCE];
+    request.quiet = words.given[QUIET];
+    request.whole = words.given[WHOLE];
+    request.check = words.given[CHECK];
+    request.json = words.given[JSON];
+    judge_options(&words, &request);
+    read_operands(&words, &request);
+    return request;
+}

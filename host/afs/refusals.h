@@ -1,0 +1,15 @@
+/* What is wrong where a call refused. */
+#ifndef AFS_REFUSALS_H
+#define AFS_REFUSALS_H
+
+#include "calls.h"
+#include "options.h"
+
+typedef struct {
+    char text[200];
+} Sentence;
+
+/* The refusal's number and place are the call's; the bytes are looked at for the words alone. */
+Sentence why_refused(const Request *request, Bytes input, const Outcome *outcome);
+
+#endif
