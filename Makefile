@@ -1,24 +1,41 @@
-# make test   the gate: what .ci/run calls
-# make run    from nothing: the archive, the tool, and the main job done with it on the sample that ships
-# make bench  times of coder, server and decoder beside the reference's and OpenJPEG's: docs/BENCHMARKS.md; on x86-64 only
-# make soak   ten million records, most of them damaged, decoded by the archive and by the reference, all memory lent compared; a line on
-#             standard error every ten seconds tells how far it is; half an hour or more, hours in an emulator; SEED=.. for other records
-# make fmt    lays out every .rt and .antt file
-.PHONY: test run bench soak fmt
+# make help   what can be made
+.PHONY: help needs run test bench soak install uninstall clean fmt
+
+help:
+	@echo 'make run         from nothing: proves and builds the library, builds the tool, and does the main job with it on the sample that ships'
+	@echo 'make test        the gate: every crate proved from nothing, every must-fail edit refused, all tests'
+	@echo 'make install     tool, library, header, pkg-config files, man pages, completion: PREFIX=/usr/local, DESTDIR before it; uninstall removes them'
+	@echo 'make needs       lists the packages that these need, and which are there; installs nothing'
+	@echo 'make bench       times of coder, server and decoder beside the reference and OpenJPEG: docs/BENCHMARKS.md; on x86-64 only'
+	@echo 'make soak        ten million records, most of them damaged, decoded by the archive and by the reference, all memory lent compared; a line'
+	@echo '                 every ten seconds tells how far it is; half an hour or more, hours in an emulator; SEED=.. for other records'
+	@echo 'make clean       removes all that was made, what was proved too'
+	@echo 'make fmt         lays out every .rt and .antt file'
+
+needs:
+	@tools/needs
+
+# What the library is made of is proved before it is built. All that is for the user is in build/, which the gate leaves alone.
+run:
+	@$(MAKE) --no-print-directory -s -C host afs partlist library
+	@host/demo build/afs build/demo
+	@echo
+	@echo 'The tool is build/afs, the program that lists parts build/partlist, the library build/libafshtruni.a and .so.'
 
 test:
 	@tools/gate
-
-# What the archive is made of is proved before it is built.
-run:
-	@$(MAKE) --no-print-directory -s -C host afs
-	@host/demo
 
 bench:
 	@$(MAKE) --no-print-directory -s -C host bench
 
 soak:
 	@$(MAKE) --no-print-directory -C host soak
+
+install uninstall:
+	@$(MAKE) --no-print-directory -s -C host $@
+
+clean:
+	@rm -rf build target reference/target
 
 fmt:
 	@rt fmt

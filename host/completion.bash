@@ -1,0 +1,25 @@
+# Completion of afs(1) for bash.
+_afs() {
+    local word=${COMP_WORDS[COMP_CWORD]} before=${COMP_WORDS[COMP_CWORD - 1]} command='' i
+    COMPREPLY=()
+    for ((i = 1; i < COMP_CWORD; i++)); do
+        case ${COMP_WORDS[i]} in
+        code | serve | decode | parts | explain) command=${COMP_WORDS[i]} && break ;;
+        esac
+    done
+    case $before in
+    -r | --level) mapfile -t COMPREPLY < <(compgen -W '1 2 3 4 5 6' -- "$word") && return ;;
+    -p | --plane) mapfile -t COMPREPLY < <(compgen -W '{0..17}' -- "$word") && return ;;
+    -o | --output) compopt -o filenames && mapfile -t COMPREPLY < <(compgen -f -- "$word") && return ;;
+    esac
+    case $command:$word in
+    :-*) mapfile -t COMPREPLY < <(compgen -W '--help --version' -- "$word") ;;
+    :*) mapfile -t COMPREPLY < <(compgen -W 'code serve decode parts explain' -- "$word") ;;
+    code:-*) mapfile -t COMPREPLY < <(compgen -W '--output --force --quiet --help' -- "$word") ;;
+    serve:-*) mapfile -t COMPREPLY < <(compgen -W '--level --plane --output --force --quiet --help' -- "$word") ;;
+    decode:-*) mapfile -t COMPREPLY < <(compgen -W '--level --plane --whole --check --json --output --force --quiet --help' -- "$word") ;;
+    parts:-* | explain:-*) mapfile -t COMPREPLY < <(compgen -W '--json --output --force --quiet --help' -- "$word") ;;
+    *) compopt -o filenames && mapfile -t COMPREPLY < <(compgen -f -- "$word") ;;
+    esac
+}
+complete -F _afs afs
