@@ -126,7 +126,8 @@ module _ (s answer answer′ : List ℕ) where
         reports = reported-short surveyPlaces answer numbers n answer′ l r;
       }
 
-  pub survey-long : (a : Survey) (n : ℕ) → surveyPlaces ≤ length answer → a ≡ surveyOf s → Reported (surveyNumbers a) answer n answer′ → AfsSurvey s answer n answer′
+  pub survey-long : (a : Survey) (n : ℕ) → surveyPlaces ≤ length answer → a ≡ surveyOf s → Reported (surveyNumbers a) answer n answer′
+      → AfsSurvey s answer n answer′
   survey-long a n l v r =
       let e : surveyNumbers a ≡ surveyNumbers (surveyOf s) = ap surveyNumbers v in
       record {
