@@ -85,20 +85,25 @@ pub listed-as-serving : {s out out′ : List ℕ} {answer : Served} → Serving 
     → Alike (listedOf s) answer
 listed-as-serving {s = s} v l m = rw (listed-short s m) (survey-as-serving v l)
 
--- What is listed as accepted has the record's own header.
+-- What is surveyed or listed as accepted has the record's own header.
+HasHeader : List ℕ → Survey → Type 0
+HasHeader s a = a .verdict ≡ Accepted → readHeader s ≡ header.Header (a .header)
+
+refusal-has : (s : List ℕ) (r : Refusal) → HasHeader s (refusedWith r)
+unfolding HasHeader
+refusal-has s r e = absurd (let z : _≡_ {A = ℕ} 0 1 = cc in omega arith)
+
+pub survey-header : (s : List ℕ) → surveyOf s .verdict ≡ Accepted → readHeader s ≡ header.Header (surveyOf s .header)
+unfolding HasHeader
+survey-header s = surveyOf-case (HasHeader s) s (λ r f. refusal-has s r) (λ h r f g. refusal-has s r) (λ h t f g e. f)
+
 pub listed-header : (s : List ℕ) → listedOf s .verdict ≡ Accepted → readHeader s ≡ header.Header (listedOf s .header)
-unfolding listedOf
+unfolding listedOf HasHeader
 listed-header s = go (leb (length s) longest)
   where
-    HasHeader : Survey → Type 0
-    HasHeader a = a .verdict ≡ Accepted → readHeader s ≡ header.Header (a .header)
-
-    refusal-has : (r : Refusal) → HasHeader (refusedWith r)
-    refusal-has r e = absurd (let z : _≡_ {A = ℕ} 0 1 = cc in omega arith)
-
-    go : (b : Bool) → HasHeader (cond b (surveyOf s) (refusedWith refusal.Room))
-    go true = surveyOf-case HasHeader s (λ r f. refusal-has r) (λ h r f g. refusal-has r) (λ h t f g e. f)
-    go false = refusal-has refusal.Room
+    go : (b : Bool) → HasHeader s (cond b (surveyOf s) (refusedWith refusal.Room))
+    go true = survey-header s
+    go false = refusal-has s refusal.Room
 
 -- A part that stands at a place ends behind it, within the record.
 pub part-ends : (s : List ℕ) (before : PartName) (place : ℕ) (p : Part) → partAt s before place ≡ part.Part p → length s - p .end < length s - place
