@@ -121,6 +121,8 @@ static int open_way(const Output *output) {
 
 static void open_output(Output *output) {
     int file = open_way(output);
+    if (file == -1 && output->way == TO_FILE && output->is_there)
+        fail("%s: no file can be made beside it: %s", output->name, strerror(errno));
     if (file == -1)
         fail_output(output, errno);
     refuse_terminal(output, file);
