@@ -5,11 +5,11 @@
 #include <stdlib.h>
 #include <string.h>
 
-enum { COEFFICIENT_BYTES = 4, WORK_PER_COEFFICIENT = 4 };
+enum { COEFFICIENT_BYTES = 4, WORK_PER_COEFFICIENT = AFS_WORK(1, 1) };
 
 /* What the description of afs_code() calls always enough. */
 static size_t room_for_record(size_t coefficients) {
-    return 6 * coefficients + 640;
+    return AFS_CODE_BOUND(coefficients, 1);
 }
 
 int32_t coefficient_at(const uint8_t *at) {
