@@ -13,8 +13,11 @@
  * how. It needs no library but C's own, allocates nothing, keeps nothing
  * between calls and may be called from any number of threads at once, each with
  * memory of its own. Every function in it is proved to meet its contract, to
- * end and never to go wrong, for any bytes whatever, provided that the caller
- * keeps to MEMORY BEFORE A CALL below. A record has no checksum: docs/FORMAT.md.
+ * end and never to go wrong, for any bytes whatever. Trusted, not proved: the
+ * prover and back end of the Rattle kit, the C compiler, the linker and the
+ * tool; and a caller must keep the slices that it lends apart and aligned, and
+ * nobody may write to them while the call runs. A record has no checksum:
+ * docs/FORMAT.md.
  */
 #ifndef AFSHTRUNI_H
 #define AFSHTRUNI_H
@@ -76,8 +79,8 @@ enum {
 /*
  * MEMORY BEFORE A CALL
  *
- * Each length counts elements, not bytes. The caller keeps the stretches that
- * it lends apart: no byte of one may belong to another. Each is aligned as its
+ * Each length counts elements, not bytes. The caller keeps the slices that it
+ * lends apart: no byte of one may belong to another. Each is aligned as its
  * type is. Nobody writes to any of them while the call runs. A pointer may be
  * NULL where its length is 0.
  *
