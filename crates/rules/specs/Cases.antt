@@ -141,6 +141,13 @@ without11 =
     ∷ 0x00 ∷ 0x02 ∷ 0x05 ∷ 0xC0
     ∷ 0x00 ∷ 0x01 ∷ 0x0B ∷ 0x0C ∷ 0x20 ∷ []
 
+-- Served for r = 2, p = 1, or for (2, 0) and (1, 1) in either order.
+unfoldable pub servedTwice : List ℕ
+servedTwice =
+    0x01 ∷ 0x04 ∷ 0x04 ∷ 0x01 ∷ 0x03
+    ∷ 0x02 ∷ 0x02 ∷ 0x05 ∷ 0x80
+    ∷ 0x01 ∷ 0x02 ∷ 0x05 ∷ 0x40 ∷ []
+
 -- Its header, and a first part with a padding bit set; one of 4 bits, where its pass takes 5, before a part with a padding bit set; one of 6 bits;
 -- one cut off behind a plane that no part of it has.
 unfoldable pub padSet : List ℕ
@@ -229,7 +236,7 @@ unfolding four eight rowsOf example thirty servedAtTwo servedToPlaneOne without1
 opensExample = tt
 
 unfoldable pub opensOthers : Unit {0}
-unfolding padSet bitsRunOut bitsLeftOver cutInHead single singleBytes early earlyBytes late lateBytes
+unfolding servedTwice padSet bitsRunOut bitsLeftOver cutInHead single singleBytes early earlyBytes late lateBytes
 opensOthers = tt
 
 -- What a row may speak of.
@@ -312,6 +319,13 @@ table =
     ∷ (decodes bitsLeftOver is pyramid (10 ∷ 5 ∷ 0 ∷ 0 ∷ 0 ∷ 0 ∷ 0 ∷ 0 ∷ 0 ∷ []) (replicate 16 (pos 0)))
     -- "its three numbers in turn .., the first that isn't a value deciding; the other causes of 8": cut off, so a tail
     ∷ (serves cutInHead 1 0 is bytes (0 ∷ 0 ∷ 5 ∷ 1 ∷ []) (0x01 ∷ 0x04 ∷ 0x04 ∷ 0x01 ∷ 0x03 ∷ 0x00 ∷ []))
+    -- W7: (2, 0) then (1, 1), (1, 1) then (2, 0), and the larger of both at once: 13 bytes; of the first 29 bytes only the first serving tells a tail
+    ∷ (serves servedAtTwo 1 1 is bytes (0 ∷ 0 ∷ 13 ∷ 0 ∷ []) (servedTwice ++ zeros 4))
+    ∷ (serves servedToPlaneOne 2 0 is bytes (0 ∷ 0 ∷ 13 ∷ 0 ∷ []) (servedTwice ++ zeros 8))
+    ∷ (serves thirty 2 1 is bytes (0 ∷ 0 ∷ 13 ∷ 0 ∷ []) (servedTwice ++ zeros 17))
+    ∷ (serves (take 29 thirty) 2 0 is bytes (0 ∷ 0 ∷ 17 ∷ 4 ∷ []) (servedAtTwo ++ zeros 12))
+    ∷ (serves (take 29 thirty) 1 1 is bytes (0 ∷ 0 ∷ 21 ∷ 4 ∷ []) (servedToPlaneOne ++ zeros 8))
+    ∷ (serves (take 29 thirty) 2 1 is bytes (0 ∷ 0 ∷ 13 ∷ 4 ∷ []) (servedTwice ++ zeros 16))
     -- type B opened, sets handed on below the LL band, sets added and visited in one pass
     ∷ (codes early eight 33 is bytes (0 ∷ 0 ∷ 33 ∷ []) earlyBytes)
     ∷ (codes late eight 46 is bytes (0 ∷ 0 ∷ 46 ∷ []) lateBytes)

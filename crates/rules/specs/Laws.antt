@@ -38,6 +38,7 @@ pub mod Local
 pub mod Selection
 pub mod Results
 pub mod Serving
+pub mod ServedAgain
 pub mod CallCases
 pub mod Demand1
 pub mod Exports

@@ -17,7 +17,7 @@ use Rattle.rules.specs.Document.Pyramid.{mostPlanes, legalSize}
 use Rattle.rules.specs.Document.Passes.{PartName}
 use Rattle.rules.specs.Document.Layout.{headerBytes, CodedPart, partBytes}
 use Rattle.rules.specs.Document.Numbers.{readHeader, follows, tail, readParts}
-use Rattle.rules.specs.Laws.Tests.{not-test}
+use Rattle.rules.specs.Laws.Tests.{not-test, selection-both}
 use Rattle.rules.specs.Laws.Count.{All, all-then, map-all}
 use Rattle.rules.specs.Laws.Parts.{InOrder, After, follows-after, after-follows, order-front, order-behind, legal-head}
 use Rattle.rules.specs.Laws.Demands.{names, kept, wholeIn, tailIn, arrived}
@@ -146,17 +146,7 @@ module _ (z : Size) (planes : ℕ) (ps : List CodedPart) (ok : legalSize z ≡ t
           parts-read = ⊎-elim reads-all reads-cut (all-or-cut n ps);
         }
 
--- Selections: one after another, of lists put together, of all and of none.
-pub selection-both : (t u : CodedPart → Bool) (ps : List CodedPart) → selection (λ p. t p && u p) ps ≡ selection u (selection t ps)
-unfolding selection
-selection-both t u [] = refl
-selection-both t u (p ∷ ps) = by (t p) (selection-both t u ps)
-  where
-    by : (b : Bool) → selection (λ p. t p && u p) ps ≡ selection u (selection t ps)
-        → cond (b && u p) (p ∷ selection (λ p. t p && u p) ps) (selection (λ p. t p && u p) ps) ≡ selection u (cond b (p ∷ selection t ps) (selection t ps))
-    by true e = ap (λ x. cond (u p) (p ∷ x) x) e
-    by false e = e
-
+-- Selections of lists put together, of all and of none.
 selection-append : (t : CodedPart → Bool) (xs ys : List CodedPart) → selection t (xs ++ ys) ≡ selection t xs ++ selection t ys
 unfolding selection
 selection-append t [] ys = refl

@@ -16,6 +16,7 @@ use Rattle.rules.specs.Document.Pyramid.{legalSize, area, levelOf, magni
 use Rattle.rules.specs.Document.Passes.{PartName}
 use Rattle.rules.specs.Document.Layout.{CodedPart, planesIn, partsOf, recordOf}
 use Rattle.rules.specs.Document.Calls.{Result, accepted, workFor, firstOver, fitted, coding, Portion, serving, Picture, planeIn, decoding}
+use Rattle.rules.specs.Laws.Tests.{selection-both}
 use Rattle.rules.specs.Laws.Sizes.{legal}
 use Rattle.rules.specs.Laws.Offspring.Level.{level-most, level-least}
 use Rattle.rules.specs.Laws.Planes.{planesOf-most, magnitude-under, range-greatest}
@@ -24,7 +25,7 @@ use Rattle.rules.specs.Laws.ReadBackPart.{headerOf}
 use Rattle.rules.specs.Laws.ReadBack.{recordBytes, beforeAll}
 use Rattle.rules.specs.Laws.Demands.{Codable, Stated, names, kept, asked, wholeIn, tailIn, arrived, Rounded, Near}
 use Rattle.rules.specs.Laws.Rounding.{rounded-near}
-use Rattle.rules.specs.Laws.Arrival.{ReadsAs, record-reads, arrived-reads, arrived-selection, selection-both, legal-order}
+use Rattle.rules.specs.Laws.Arrival.{ReadsAs, record-reads, arrived-reads, arrived-selection, legal-order}
 use Rattle.rules.specs.Laws.RoundedRun.{rounded-read, coder-legal, kept-legal, rounded-arrived}
 use Rattle.rules.specs.Laws.ServedParts.{served-read}
 

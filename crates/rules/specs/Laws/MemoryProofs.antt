@@ -37,13 +37,14 @@ use Rattle.rules.specs.Laws.Usable.{loss-shows}
 use Rattle.rules.specs.Laws.Exports.{afsCode-short, afsCode-codes, afsServe-short, afsServe-serves, afsDecode-decodes}
 use Rattle.rules.specs.Laws.RecordRoom.{coding-accepts}
 use Rattle.rules.specs.Laws.Results.{number-accepts}
+use Rattle.rules.specs.Laws.Tests.{selection-both}
 use Rattle.rules.specs.Laws.Parts.{at}
 use Rattle.rules.specs.Laws.ReadBackBody.{bitsFrom, packed-length, packed-clear, packed-bit, first-length, body-bit}
 use Rattle.rules.specs.Laws.ReadBackPart.{headerOf, partAt, part-body}
 use Rattle.rules.specs.Laws.ReadBack.{selection, recordBytes, beforeAll, parts-map}
 use Rattle.rules.specs.Laws.Demands.{Codable, Stated, enoughRoom, names, kept, asked, wholeIn, tailIn, arrived, towardZero, Rounded}
 use Rattle.rules.specs.Laws.Arrival.{ReadsAs, header-read, parts-stand, AllThere, CutIn, all-or-cut, arrived-reads, arrived-selection}
-use Rattle.rules.specs.Laws.Arrival.{selection-both, legal-order}
+use Rattle.rules.specs.Laws.Arrival.{legal-order}
 use Rattle.rules.specs.Laws.RoundedRun.{blank-same, kept-legal}
 use Rattle.rules.specs.Laws.ServedParts.{kept-wholes, serves-read, served-read}
 use Rattle.rules.specs.Laws.Demand3.{coding-codable, planes-few, demand3, printed-near}

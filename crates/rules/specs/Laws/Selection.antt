@@ -1,11 +1,12 @@
 -- "Any selection in that order is also a record": the header and any of a record's parts, put together, read as just these parts.
-use mathlib.Core.Path.{_≡_, ap, sym, _∙_, subst, subst₂}
+use mathlib.Core.Path.{_≡_, refl, ap, ap₂, sym, _∙_, subst, subst₂}
 use mathlib.Core.List.{List, [], _∷_, _++_, append-assoc, append-nil}
-use mathlib.Core.Bool.{Bool, true, false, cond}
+use mathlib.Core.Bool.{Bool, true, false, cond, _&&_}
 use Prim.Native.Nat.{ℕ, _+_, _-_, _≤_}
 use native.Mathlib.Omega.{arith}
+use lib.Dec.{leb}
 use lib.ListN.{length, take, drop, length-append, length-drop, List·getD-append}
-use lib.Seq.{getD-append-add, getD-take, getD-drop, length-take-le}
+use lib.Seq.{getD-append-add, getD-take, getD-drop, length-take-le, take-at, drop-append-seam}
 use Rattle.rules.specs.declared.Header.{Header}
 use Rattle.rules.specs.declared.Part.{Part}
 use Rattle.rules.specs.declared.PartRead.the-variants as part
@@ -13,6 +14,7 @@ use Rattle.rules.specs.Document.Notation.{flat}
 use Rattle.rules.specs.Document.Passes.{PartName}
 use Rattle.rules.specs.Document.Layout.{wholeOf, nameOf}
 use Rattle.rules.specs.Document.Numbers.{follows, readPart, tail, Reading}
+use Rattle.rules.specs.Document.Calls.{keptOf}
 use Rattle.rules.specs.Laws.Reading.{PartStands, readPart-stands}
 use Rattle.rules.specs.Laws.Walk.{partsFrom, readPart-past, partsFrom-part, partsFrom-tail}
 use Rattle.rules.specs.Laws.Local.{Same, movedTo, readPart-local}
@@ -94,3 +96,47 @@ module _ (h : Header) (s : List ℕ) (t : Part → Bool) where
               let e : length (front ++ wholeOf s p) ≡ length front + (p .end - p .place) = length-append front (wholeOf s p) ∙ ap (λ (n : ℕ). length front + n) (whole-length s p o (st .within)) in
               subst₂ (λ (v : List ℕ) (n : ℕ). partsFrom h v (nameOf p) n ≡ record { parts = placedFrom n (selection t ps); ending = tail 0 })
               (append-assoc front (wholeOf s p) rest) e (k (front ++ wholeOf s p))
+
+-- A part that was moved holds the same bytes.
+pub moved-whole : (s : List ℕ) (x : Part) → length (wholeOf s x) ≡ x .end - x .place → (front rest : List ℕ)
+    → wholeOf (front ++ (wholeOf s x ++ rest)) (movedTo (length front) x) ≡ wholeOf s x
+unfolding wholeOf movedTo
+moved-whole s x len front rest =
+    let w : List ℕ = take (x .end - x .place) (drop (x .place) s) in
+    let n : length front + (x .end - x .place) - length front ≡ length w = omega (arith, len) in
+    ap₂ (λ (m : ℕ) (l : List ℕ). take m l) n (drop-append-seam front (w ++ rest)) ∙ take-at w rest (length w) refl
+
+moved-kept : (s : List ℕ) (r p : ℕ) (x : Part) → length (wholeOf s x) ≡ x .end - x .place → (front rest : List ℕ)
+    → keptOf (front ++ (wholeOf s x ++ rest)) r p (movedTo (length front) x) ≡ keptOf s r p x
+unfolding keptOf movedTo
+moved-kept s r p x len front rest =
+    ap (λ (l : List ℕ). cond (leb r (x .level .0) && leb p (x .plane .0)) l []) (moved-whole s x len front rest)
+
+-- What is kept of parts that were put together anew is what is kept of the parts themselves.
+module _ (h : Header) (s : List ℕ) (t : Part → Bool) (r p : ℕ) where
+  pub kept-moved : (ps : List Part) (before : PartName) (place : ℕ) → WholeParts h s before place ps → (front : List ℕ)
+      → flat (keptOf (front ++ flat (wholeOf s) (selection t ps)) r p) (placedFrom (length front) (selection t ps))
+      ≡ flat (keptOf s r p) (selection t ps)
+  unfolding WholeParts selection flat placedFrom
+  kept-moved [] before place c front = refl
+  kept-moved (x ∷ ps) before place c front = by (t x) (kept-moved ps (nameOf x) (x .end) (c .1))
+    where
+      these : List Part
+      these = selection t ps
+
+      rest : List ℕ
+      rest = flat (wholeOf s) these
+
+      len : length (wholeOf s x) ≡ x .end - x .place
+      len = let st = readPart-stands h s before place x (c .0) in whole-length s x (omega (arith, st .placed, st .after, st .end)) (st .within)
+
+      by : (b : Bool) → ((f : List ℕ) → flat (keptOf (f ++ rest) r p) (placedFrom (length f) these) ≡ flat (keptOf s r p) these)
+          → flat (keptOf (front ++ flat (wholeOf s) (cond b (x ∷ these) these)) r p) (placedFrom (length front) (cond b (x ∷ these) these))
+          ≡ flat (keptOf s r p) (cond b (x ∷ these) these)
+      by false k = k front
+      by true k =
+          let e : length (front ++ wholeOf s x) ≡ length front + (x .end - x .place)
+          = length-append front (wholeOf s x) ∙ ap (λ (n : ℕ). length front + n) len in
+          ap₂ _++_ (moved-kept s r p x len front rest)
+          (ap₂ (λ (l : List ℕ) (n : ℕ). flat (keptOf l r p) (placedFrom n these)) (sym (append-assoc front (wholeOf s x) rest)) (sym e)
+          ∙ k (front ++ wholeOf s x))

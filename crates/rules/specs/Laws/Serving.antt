@@ -1,11 +1,11 @@
 -- Serving: what is served is a record with exactly the parts named and no tail; a record served whole is itself less its tail.
-use mathlib.Core.Path.{_≡_, refl, ap, sym, _∙_, subst, subst₂}
+use mathlib.Core.Path.{_≡_, refl, ap, ap₂, sym, _∙_, subst, subst₂, fun-ext}
 use mathlib.Core.List.{List, [], _∷_, _++_, append-assoc}
 use mathlib.Core.Bool.{Bool, true, false, cond, _&&_}
-use Prim.Native.Nat.{ℕ, zero, suc, _+_, _-_, _≤_}
+use Prim.Native.Nat.{ℕ, zero, suc, _+_, _-_, _≤_, max}
 use native.Mathlib.Omega.{arith}
 use lib.Dec.{leb}
-use borrow.Author.Tests.{le-leb}
+use borrow.Author.Tests.{leb-true, le-leb}
 use lib.ListN.{length, take, drop, length-append, length-drop, take-append-drop}
 use lib.Seq.{length-take-le, take-all, take-at, drop-drop}
 use Rattle.rules.specs.declared.Refusal.the-variants as refusal
@@ -21,7 +21,7 @@ use Rattle.rules.specs.declared.PartRead.the-variants as part
 use Rattle.rules.specs.Document.Numbers.{tail, Reading, readHeader, readPart, goOn, readFrom, readParts}
 use Rattle.rules.specs.Document.Calls.{accepted, unless, onHeader, onEnding, legalAsk, keptOf, servedBytes, Portion, portioned, serving}
 use Rattle.rules.specs.Laws.Reading.{readHeader-stands, header-within, readPart-stands}
-use Rattle.rules.specs.Laws.Tests.{selection, both}
+use Rattle.rules.specs.Laws.Tests.{selection, selection-both, same-test, both, both-left, both-right}
 use Rattle.rules.specs.Laws.Results.{unless-accepted, onHeader-accepted, onEnding-accepted, accepted-same}
 use Rattle.rules.specs.Laws.Walk.{partsFrom, readParts-from}
 use Rattle.rules.specs.Laws.Local.{Same, same-taken, readHeader-local}
@@ -31,6 +31,23 @@ use Rattle.rules.specs.Laws.WholeParts.{WholeParts, readParts-whole}
 -- the parts with level ≥ r and plane ≥ p
 abbrev pub wanted : ℕ → ℕ → Part → Bool
 wanted r p x = leb r (x .level .0) && leb p (x .plane .0)
+
+-- Two requests are one: what both want is what the larger level and the larger plane want.
+leb-both : (a b x : ℕ) → leb a x && leb b x ≡ leb (max a b) x
+leb-both a b x =
+    same-test _ _ (λ e. le-leb (max a b) x (omega (arith, leb-true a x (both-left _ _ e), leb-true b x (both-right (leb a x) _ e))))
+    (λ e. both _ _ (le-leb a x (omega (arith, leb-true (max a b) x e))) (le-leb b x (omega (arith, leb-true (max a b) x e))))
+
+pub wanted-both : (r1 p1 r2 p2 : ℕ) (x : Part) → wanted r1 p1 x && wanted r2 p2 x ≡ wanted (max r1 r2) (max p1 p2) x
+wanted-both r1 p1 r2 p2 x =
+    four (leb r1 (x .level .0)) (leb p1 (x .plane .0)) (leb r2 (x .level .0)) (leb p2 (x .plane .0))
+    ∙ ap₂ _&&_ (leb-both r1 r2 (x .level .0)) (leb-both p1 p2 (x .plane .0))
+  where
+    four : (a b c d : Bool) → (a && b) && (c && d) ≡ (a && c) && (b && d)
+    four true true c d = refl
+    four true false true d = refl
+    four true false false d = refl
+    four false b c d = refl
 
 -- What was served, and of what.
 pub record IsServed (s : List ℕ) (r p : ℕ) (x : Portion) : Type 0 where
@@ -49,6 +66,14 @@ flat-selection s r p (x ∷ ps) = go (wanted r p x) (flat-selection s r p ps)
         → cond b (wholeOf s x) [] ++ flat (keptOf s r p) ps ≡ flat (wholeOf s) (cond b (x ∷ selection (wanted r p) ps) (selection (wanted r p) ps))
     go true e = ap (λ (l : List ℕ). wholeOf s x ++ l) e
     go false e = e
+
+-- what a request keeps of what another one selects
+pub kept-both : (s : List ℕ) (r1 p1 r2 p2 : ℕ) (ps : List Part)
+    → flat (keptOf s r2 p2) (selection (wanted r1 p1) ps) ≡ flat (keptOf s (max r1 r2) (max p1 p2)) ps
+kept-both s r1 p1 r2 p2 ps =
+    let one : selection (wanted r2 p2) (selection (wanted r1 p1) ps) ≡ selection (wanted (max r1 r2) (max p1 p2)) ps
+    = sym (selection-both (wanted r1 p1) (wanted r2 p2) ps) ∙ ap (λ t. selection t ps) (fun-ext (wanted-both r1 p1 r2 p2)) in
+    flat-selection s r2 p2 (selection (wanted r1 p1) ps) ∙ ap (flat (wholeOf s)) one ∙ sym (flat-selection s (max r1 r2) (max p1 p2) ps)
 
 pub serving-served : (s : List ℕ) (r p room : ℕ) (x : Portion) → serving s r p room ≡ accepted x → IsServed s r p x
 unfolding serving portioned servedBytes

@@ -12,6 +12,19 @@ unfoldable pub selection : {X : Type 0} → (X → Bool) → List X → List X
 selection t [] = []
 selection t (x ∷ xs) = cond (t x) (x ∷ selection t xs) (selection t xs)
 
+-- one selection after another
+pub selection-both : {X : Type 0} (t u : X → Bool) (xs : List X) → selection (λ x. t x && u x) xs ≡ selection u (selection t xs)
+unfolding selection
+selection-both t u [] = refl
+selection-both {X} t u (x ∷ xs) = by (t x) (selection-both t u xs)
+  where
+    rest : List X
+    rest = selection (λ x. t x && u x) xs
+
+    by : (b : Bool) → rest ≡ selection u (selection t xs) → cond (b && u x) (x ∷ rest) rest ≡ selection u (cond b (x ∷ selection t xs) (selection t xs))
+    by true e = ap (λ ys. cond (u x) (x ∷ ys) ys) e
+    by false e = e
+
 -- What `cc` makes of two constructors that differ, for any goal.
 pub clash : {X : Type 0} → _≡_ {A = ℕ} 0 1 → X
 clash e = absurd (omega arith)
