@@ -305,6 +305,56 @@ static void test_cuts(void) {
     free(example.at);
 }
 
+/* A record served for (r1, p1), and the result for (r2, p2), is the record served once for the larger level and the larger plane: the same
+ * bytes where there is just room for them, 5 where a byte is missing. Only the first serving tells a tail. */
+static Bytes served_of(const Bytes *record, uint64_t level, uint64_t plane, uint64_t *tail) {
+    uint64_t answer[AFS_SERVED_NUMBERS];
+    Bytes result = {memory_of(record->length), record->length};
+    uint64_t number = afs_serve(record->at, record->length, level, plane, result.at, result.length, answer, AFS_SERVED_NUMBERS);
+    check(number == 0, "served");
+    result.length = answer[2];
+    *tail = answer[3];
+    return result;
+}
+
+/* With just the room for the result, and with one byte less. */
+static void try_just_room(Call call) {
+    call.room = call.result.length;
+    call.answer_length = AFS_SERVED_NUMBERS;
+    try_call(&call);
+    call.room--;
+    call.number = AFS_ROOM;
+    call.tail = 0;
+    call.result.length = 0;
+    try_call(&call);
+}
+
+static void try_again(const Bytes *record, uint64_t r1, uint64_t p1, uint64_t r2, uint64_t p2) {
+    uint64_t tail, level = r1 > r2 ? r1 : r2, plane = p1 > p2 ? p1 : p2;
+    Bytes first = served_of(record, r1, p1, &tail), once = served_of(record, level, plane, &tail);
+    try_just_room((Call){.record = record, .level = level, .plane = plane, .tail = tail, .result = once});
+    try_just_room((Call){.record = &first, .level = r2, .plane = p2, .result = once});
+    free(once.at);
+    free(first.at);
+}
+
+/* All pairs of legal requests of the example: levels 1 and 2, planes 0 to 3. */
+static void test_again(void) {
+    static const char *const records[] = {EXAMPLE, HEADER PART_2_2 PART_2_1 PART_1_2 PART_1_1 PART_0_2 "00 01 0B 0C"};
+    for (size_t i = 0; i < LENGTH_OF(records); i++) {
+        Bytes record = bytes_of(records[i]);
+        for (unsigned pair = 0; pair < 64; pair++) {
+            unsigned r1 = 1 + pair % 2, p1 = pair / 2 % 4, r2 = 1 + pair / 8 % 2, p2 = pair / 16;
+            char name[64];
+            snprintf(name, sizeof name, "%zu bytes served for (%u, %u), then (%u, %u)", record.length, r1, p1, r2, p2);
+            begin_case(name);
+            try_again(&record, r1, p1, r2, p2);
+            end_case();
+        }
+        free(record.at);
+    }
+}
+
 /* Where a length is 0 the pointer may be NULL. */
 static void try_null(const char *name, Bytes record, size_t room, size_t answer_length, uint64_t number) {
     const uint64_t numbers[AFS_SERVED_NUMBERS] = {number};
@@ -335,6 +385,7 @@ int main(void) {
     test_pairs();
     test_tables();
     test_cuts();
+    test_again();
     test_null();
     return end_tests();
 }

@@ -171,21 +171,3 @@ fn coding_needs_just_its_room() {
         }
     }
 }
-
-#[test]
-fn serving_what_was_served() {
-    let mut chance = Chance::new(28);
-    for _ in 0..200 {
-        let shape = any_shape(&mut chance);
-        let pyramid = any_pyramid(&mut chance, shape);
-        let record = coded(&pyramid, shape);
-        let planes = usize::from(Pieces::of(&record).header[4][0]);
-        let mut request = || {
-            let level = 1 + chance.below(shape.coarsest().0 as usize) as u64;
-            (level, chance.below(planes + 1) as u64)
-        };
-        let ((r1, p1), (r2, p2)) = (request(), request());
-        let twice = served(&served(&record, r1, p1), r2, p2);
-        assert!(twice == served(&record, r1.max(r2), p1.max(p2)));
-    }
-}

@@ -13,6 +13,7 @@ mod portal;
 mod program;
 mod refusals_of_coding;
 mod refusals_of_reading;
+mod served_again;
 mod shapes;
 mod to_be_run;
 mod waterfall;
