@@ -214,7 +214,9 @@ enum {
  *
  * Writes to `out` the header of the record and those of its parts that have
  * level >= `level` and plane >= `plane`, unaltered and in their order. The
- * result is a record too, and can be served again.
+ * result is a record too, and can be served again. Served for one request and
+ * then for another it is the same bytes as served once for the larger level and
+ * the larger plane of both; only the tail differs, as the result has none.
  *
  *   record, record_len   the record; only read
  *   level                the finest level kept, 1 to N + 1; 1 keeps all levels
