@@ -17,7 +17,7 @@ use Rattle.rules.specs.declared.Refusal.the-variants as refusal
 use Rattle.rules.specs.declared.Verdict.{Verdict}
 use Rattle.rules.specs.declared.Verdict.the-variants.{Accepted, Refused}
 use Rattle.rules.specs.Document.Notation.{zeros}
-use Rattle.rules.specs.Document.Pyramid.{legalSize, area}
+use Rattle.rules.specs.Document.Pyramid.{legalSize, area, mostMagnitude}
 use Rattle.rules.specs.Document.Layout.{recordOf}
 use Rattle.rules.specs.Document.Calls.{Result, refused, unless, workFor, firstOver, fitted, coding, codeOut, codeAnswer, Coding}
 use Rattle.rules.specs.Laws.Output.{filled-sets}
@@ -55,16 +55,16 @@ module _ (pyramid : List ℤ) (z : Size) (work : ℕ) where
       judged-work c = rw (a, eq-eqb (length pyramid) (area z) b, lt-leb (workFor z) work c)
 
       module _ (c : workFor z ≤ work) where
-        pub judged-range : (over : ℕ) → over ≡ firstOver pyramid → (over ≡ length pyramid → ⊥)
+        pub judged-range : (over : ℕ) → over ≡ firstOver mostMagnitude pyramid → (over ≡ length pyramid → ⊥)
             → Refused (refusal.Range over) ≡ judgedInput pyramid z work
         unfolding judgedInput
         judged-range over e d =
-            rw (a, eq-eqb (length pyramid) (area z) b, le-leb (workFor z) work c, ne-eqb (firstOver pyramid) (length pyramid) (λ f. d (e ∙ f)), e)
+            rw (a, eq-eqb (length pyramid) (area z) b, le-leb (workFor z) work c, ne-eqb (firstOver mostMagnitude pyramid) (length pyramid) (λ f. d (e ∙ f)), e)
 
-        pub judged-accepted : (over : ℕ) → over ≡ firstOver pyramid → over ≡ length pyramid → Accepted ≡ judgedInput pyramid z work
+        pub judged-accepted : (over : ℕ) → over ≡ firstOver mostMagnitude pyramid → over ≡ length pyramid → Accepted ≡ judgedInput pyramid z work
         unfolding judgedInput
         judged-accepted over e d =
-            rw (a, eq-eqb (length pyramid) (area z) b, le-leb (workFor z) work c, eq-eqb (firstOver pyramid) (length pyramid) (sym e ∙ d))
+            rw (a, eq-eqb (length pyramid) (area z) b, le-leb (workFor z) work c, eq-eqb (firstOver mostMagnitude pyramid) (length pyramid) (sym e ∙ d))
 
 -- What the input alone is judged decides the call, or leaves it to the room.
 ruled : Verdict → Result (List ℕ) → Result (List ℕ)
@@ -88,7 +88,7 @@ module _ (pyramid : List ℤ) (z : Size) where
       ruled-unless (legalSize z) refusal.Size _ x _
       (ruled-unless (eqb (length pyramid) (area z)) refusal.Length _ x _
       (ruled-unless (leb (workFor z) work) refusal.Work _ x _
-      (ruled-unless (eqb (firstOver pyramid) (length pyramid)) (refusal.Range (firstOver pyramid)) Accepted x x refl)))
+      (ruled-unless (eqb (firstOver mostMagnitude pyramid) (length pyramid)) (refusal.Range (firstOver mostMagnitude pyramid)) Accepted x x refl)))
 
   module _ (work : List ℕ) {v : Verdict} (e : v ≡ judgedInput pyramid z (length work)) where
     pub accepted-given : v ≡ Accepted → Given pyramid z work
@@ -97,7 +97,7 @@ module _ (pyramid : List ℤ) (z : Size) where
         let s = accepted-test (legalSize z) _ refusal.Size (sym e ∙ a) in
         let l = accepted-test (eqb (length pyramid) (area z)) _ refusal.Length (s .1) in
         let w = accepted-test (leb (workFor z) (length work)) _ refusal.Work (l .1) in
-        let r = accepted-test (eqb (firstOver pyramid) (length pyramid)) _ (refusal.Range (firstOver pyramid)) (w .1) in
+        let r = accepted-test (eqb (firstOver mostMagnitude pyramid) (length pyramid)) _ (refusal.Range (firstOver mostMagnitude pyramid)) (w .1) in
         record { legal = s .0; whole = eqb-true _ _ (l .0); room = leb-true _ _ (w .0); range = eqb-true _ _ (r .0) }
 
     -- code_or_refuse

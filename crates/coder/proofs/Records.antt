@@ -9,7 +9,7 @@ use lib.Seq.{sets}
 use Rattle.rules.specs.declared.Size.{Size}
 use Rattle.parts.specs.declared.Counts.{Counts}
 use Rattle.rules.specs.Document.Notation.{flat, greatest, zeros}
-use Rattle.rules.specs.Document.Pyramid.{levels, mostPlanes, planesOf}
+use Rattle.rules.specs.Document.Pyramid.{levels, mostMagnitude, mostPlanes, planesOf}
 use Rattle.rules.specs.Document.Passes.{start, PartName, partNames}
 use Rattle.rules.specs.Document.Layout.{version, numberBytes, headerBytes, planesIn, partsOf, recordOf}
 use Rattle.rules.specs.Laws.Sizes.{legal}
@@ -62,7 +62,7 @@ module _ {pyramid : List ℤ} {z : Size} {work : List ℕ} (g : Given pyramid z 
   -- write_record
   module _ (planes : ℕ) (e : planes ≡ planesOf (greatest natAbs pyramid)) where
     pub planes-few : planes ≤ mostPlanes
-    planes-few = omega (arith, planesOf-most (greatest natAbs pyramid) (range-greatest pyramid (g .range)))
+    planes-few = omega (arith, planesOf-most (greatest natAbs pyramid) (range-greatest mostMagnitude pyramid (g .range)))
 
     module _ (lent cleared : List ℕ) (f : cleared ≡ zeros (length lent)) (place : ℕ) (out : List ℕ)
         (w : Wrote cleared 0 (version ∷ z .w ∷ z .h ∷ z .n ∷ planes ∷ []) place out) where

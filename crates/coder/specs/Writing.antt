@@ -15,7 +15,7 @@ use Rattle.rules.specs.declared.Refusal.the-variants as refusal
 use Rattle.rules.specs.declared.Verdict.{Verdict}
 use Rattle.rules.specs.declared.Verdict.the-variants.{Accepted, Refused}
 use Rattle.rules.specs.Document.Notation.{flat}
-use Rattle.rules.specs.Document.Pyramid.{legalSize, area, levels, family, magnitude, negative, mostPlanes}
+use Rattle.rules.specs.Document.Pyramid.{legalSize, area, levels, family, mostMagnitude, magnitude, negative, mostPlanes}
 use Rattle.rules.specs.Document.Passes.{Course, State, after, PartName, coded}
 use Rattle.rules.specs.Document.Layout.{numberBytes, bytesFor, partBytes, codedParts}
 use Rattle.rules.specs.Document.Calls.{Result, workFor, firstOver, codeOut, codeAnswer}
@@ -34,7 +34,7 @@ judgedInput pyramid z work =
     cond (legalSize z)
     (cond (eqb (length pyramid) (area z))
     (cond (leb (workFor z) work)
-    (cond (eqb (firstOver pyramid) (length pyramid)) Accepted (Refused (refusal.Range (firstOver pyramid))))
+    (cond (eqb (firstOver mostMagnitude pyramid) (length pyramid)) Accepted (Refused (refusal.Range (firstOver mostMagnitude pyramid))))
     (Refused refusal.Work))
     (Refused refusal.Length))
     (Refused refusal.Size)
@@ -44,7 +44,7 @@ pub record Given (pyramid : List ℤ) (z : Size) (work : List ℕ) : Type 0 wher
   pub legal : legalSize z ≡ true
   pub whole : length pyramid ≡ area z
   pub room : workFor z ≤ length work
-  pub range : firstOver pyramid ≡ length pyramid
+  pub range : firstOver mostMagnitude pyramid ≡ length pyramid
 
 -- No header and no part has more bytes; no part begins behind this place.
 abbrev pub headerMost : ℕ

@@ -25,6 +25,8 @@ use rules::Verdict;
 
 const VERSION: usize = 1;
 
+const MOST_MAGNITUDE: u32 = 65535;
+
 // Bytes of a part's head whose bit count takes one byte.
 const SHORT_HEAD: usize = 3;
 
@@ -59,7 +61,7 @@ fn judged(pyramid: &[i32], z: Size, work: usize) -> Verdict
     if work < 4 * area {
         return Verdict::Refused(Refusal::Work);
     }
-    let over = coefficients::first_over(pyramid);
+    let over = coefficients::first_over(pyramid, MOST_MAGNITUDE);
     if over != pyramid.len() {
         return Verdict::Refused(Refusal::Range(over));
     }

@@ -20,29 +20,30 @@ use Rattle.rules.specs.Laws.Tests.{lowest-found}
 max-assoc : (a b c : ℕ) → max (max a b) c ≡ max a (max b c)
 max-assoc a b c = omega arith
 
-module _ (pyramid : List ℤ) where
+module _ (most : ℕ) (pyramid : List ℤ) where
   abbrev pub over : ℕ → Bool
-  over q = ltb mostMagnitude (magnitude pyramid q)
+  over q = ltb most (magnitude pyramid q)
 
   abbrev pub NoneOver : ℕ → Type 0
   NoneOver q = (k : ℕ) → k < q → over k ≡ false
 
-  pub over-found : (q : ℕ) → q < length pyramid → NoneOver q → {m : ℕ} → m ≡ magnitude pyramid q → mostMagnitude < m → q ≡ firstOver pyramid
+  pub over-found : (q : ℕ) → q < length pyramid → NoneOver q → {m : ℕ} → m ≡ magnitude pyramid q → most < m → q ≡ firstOver most pyramid
   unfolding firstOver
   over-found q h before {m} e l =
-      lowest-found over (length pyramid) q (omega arith) before (λ k. lt-ltb mostMagnitude (magnitude pyramid q) (omega arith))
+      lowest-found over (length pyramid) q (omega arith) before (λ k. lt-ltb most (magnitude pyramid q) (omega arith))
 
-  pub over-nowhere : (q : ℕ) → q ≤ length pyramid → length pyramid ≤ q → NoneOver q → q ≡ firstOver pyramid
+  pub over-nowhere : (q : ℕ) → q ≤ length pyramid → length pyramid ≤ q → NoneOver q → q ≡ firstOver most pyramid
   unfolding firstOver
   over-nowhere q h l before = lowest-found over (length pyramid) q h before (λ k. absurd (omega arith))
 
-  pub over-onward : (q : ℕ) → NoneOver q → {m : ℕ} → m ≡ magnitude pyramid q → m ≤ mostMagnitude → NoneOver (q + 1)
+  pub over-onward : (q : ℕ) → NoneOver q → {m : ℕ} → m ≡ magnitude pyramid q → m ≤ most → NoneOver (q + 1)
   over-onward q before {m} e l k h = go (decLt k q)
     where
       go : Dec (k < q) → over k ≡ false
       go (yes i) = before k i
-      go (no i) = let s : k ≡ q = omega arith in rw s (le-ltb mostMagnitude (magnitude pyramid q) (omega arith))
+      go (no i) = let s : k ≡ q = omega arith in rw s (le-ltb most (magnitude pyramid q) (omega arith))
 
+module _ (pyramid : List ℤ) where
   -- m is the largest so far, and the rest is still to see
   abbrev pub Seen : ℕ → ℕ → Type 0
   Seen m q = max m (greatest natAbs (drop q pyramid)) ≡ greatest natAbs pyramid

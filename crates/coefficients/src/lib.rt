@@ -10,8 +10,6 @@ ghost use Rattle.rules.specs.Document.Pyramid.{magnitude, negative, below0, pla
 ghost use Rattle.rules.specs.Document.Passes.{signed, grown};
 ghost use Rattle.rules.specs.Document.Calls.{firstOver};
 
-const MOST_MAGNITUDE: u32 = 65535;
-
 const MOST_PLANES: usize = 17;
 
 pub fn is_negative(v: i32) -> bool
@@ -114,13 +112,13 @@ pub fn write_refined(pyramid: &mut [i32], q: usize, bit: bool, plane: Plane)
     write_at(pyramid, q, grown_by(v, bit, plane));
 }
 
-// The first index whose magnitude is over 65,535; the pyramid's length if there is none.
-pub fn first_over(pyramid: &[i32]) -> usize
-    ensures { λ r. ⌜ r ≡ firstOver (now (pyramid .entry)) ⌝ }
+// The first index whose magnitude is over a limit; the pyramid's length if there is none.
+pub fn first_over(pyramid: &[i32], most: u32) -> usize
+    ensures { λ r. ⌜ r ≡ firstOver most (now (pyramid .entry)) ⌝ }
 {
     let mut q = 0;
     while q < pyramid.len() {
-        if MOST_MAGNITUDE < magnitude_at(pyramid, q) {
+        if most < magnitude_at(pyramid, q) {
             return q;
         }
         q += 1;

@@ -8,10 +8,10 @@ use Rattle.coefficients.proofs.first_over.Statement.{statement}
 use Rattle.coefficients.proofs.first_over.Tie as tie
 
 abbrev Inv-loop : tie.InvT-loop
-Inv-loop pyramid q₀ q = (q ≤ length pyramid) × NoneOver pyramid q
+Inv-loop pyramid most q₀ q = (q ≤ length pyramid) × NoneOver most pyramid q
 
 abbrev μ-loop : tie.MeasureT-loop
-μ-loop pyramid q₀ q = length pyramid - q
+μ-loop pyramid most q₀ q = length pyramid - q
 
 loop-holds : tie.Need-loop-holds Inv-loop μ-loop
 loop-holds c = (omega arith, λ k h. absurd (omega arith))
@@ -21,7 +21,7 @@ magnitude-at-requires c κs = search needs
 
 returns : tie.Need-returns Inv-loop μ-loop
 returns c =
-    over-found _ _ (c .before .before .loop-test .taken) (c .before .before .before .loop .inv .1) (c .before .magnitude-at .ensures)
+    over-found _ _ _ (c .before .before .loop-test .taken) (c .before .before .before .loop .inv .1) (c .before .magnitude-at .ensures)
     (c .if1 .taken)
 
 add-q : tie.Need-add-q Inv-loop μ-loop
@@ -31,10 +31,10 @@ loop-less : tie.Need-loop-less Inv-loop μ-loop
 loop-less c = search needs
 
 loop-again : tie.Need-loop-again Inv-loop μ-loop
-loop-again c = (omega arith, over-onward _ _ (c .before .before .before .loop .inv .1) (c .before .magnitude-at .ensures) (c .if1 .left))
+loop-again c = (omega arith, over-onward _ _ _ (c .before .before .before .loop .inv .1) (c .before .magnitude-at .ensures) (c .if1 .left))
 
 returns-2 : tie.Need-returns-2 Inv-loop μ-loop
-returns-2 c = over-nowhere _ _ (c .before .loop .inv .0) (c .loop-test .left) (c .before .loop .inv .1)
+returns-2 c = over-nowhere _ _ _ (c .before .loop .inv .0) (c .loop-test .left) (c .before .loop .inv .1)
 
 pub first-over-spec : {M : Type 1} → statement M
 first-over-spec =

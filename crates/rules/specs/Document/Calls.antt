@@ -38,9 +38,9 @@ unless false r x = refused r
 abbrev pub workFor : Size → ℕ
 workFor z = 4 * area z
 
--- "4 RANGE: a magnitude over 65,535: first such index"
-unfoldable pub firstOver : List ℤ → ℕ
-firstOver pyramid = lowest (λ q. ltb mostMagnitude (magnitude pyramid q)) (length pyramid)
+-- "4 RANGE: a magnitude over 65,535: first such index". Document 02 has another limit for grey pictures.
+unfoldable pub firstOver : ℕ → List ℤ → ℕ
+firstOver most pyramid = lowest (λ q. ltb most (magnitude pyramid q)) (length pyramid)
 
 -- "Coding: 1, 2, 3, 4, 5."
 unfoldable pub fitted : List ℕ → ℕ → Result (List ℕ)
@@ -51,7 +51,7 @@ coding pyramid z room work =
     unless (legalSize z) refusal.Size
     (unless (eqb (length pyramid) (area z)) refusal.Length
     (unless (leb (workFor z) work) refusal.Work
-    (unless (eqb (firstOver pyramid) (length pyramid)) (refusal.Range (firstOver pyramid))
+    (unless (eqb (firstOver mostMagnitude pyramid) (length pyramid)) (refusal.Range (firstOver mostMagnitude pyramid))
     (fitted (recordOf z pyramid) room))))
 
 -- Reading begins with the header.

@@ -15,7 +15,7 @@ use Rattle.rules.specs.declared.Header.{Header}
 use Rattle.rules.specs.declared.HeaderRead.{HeaderRead}
 use Rattle.rules.specs.declared.HeaderRead.the-variants as header
 use Rattle.rules.specs.declared.Part.{Part}
-use Rattle.rules.specs.Document.Pyramid.{legalSize, area, levels, family}
+use Rattle.rules.specs.Document.Pyramid.{legalSize, area, levels, family, mostMagnitude}
 use Rattle.rules.specs.Document.Passes.{Course, Reader, State, PartName, start, after, decoded}
 use Rattle.rules.specs.Document.Layout.{recordOf, bitAt, bodyOf, nameOf, usable}
 use Rattle.rules.specs.Document.Numbers.{readHeader, Ending, tail, fault, Reading, readParts}
@@ -45,17 +45,17 @@ module _ (pyramid : List ℤ) (z : Size) (room work : ℕ) where
       let L : length pyramid ≡ area z = eqb-true _ _ e in
       unless-case codes (leb (workFor z) work) refusal.Work _ (λ e. WORK Z L (leb-false _ _ e)) (λ e.
       let K : workFor z ≤ work = leb-true _ _ e in
-      unless-case codes (eqb (firstOver pyramid) (length pyramid)) (refusal.Range (firstOver pyramid)) _
-      (λ e. RANGE Z L K (first-over pyramid (eqb-false _ _ e))) (λ e.
-      let R : InRange pyramid (length pyramid) = subst (InRange pyramid) (eqb-true _ _ e) (under-first pyramid) in
+      unless-case codes (eqb (firstOver mostMagnitude pyramid) (length pyramid)) (refusal.Range (firstOver mostMagnitude pyramid)) _
+      (λ e. RANGE Z L K (first-over mostMagnitude pyramid (eqb-false _ _ e))) (λ e.
+      let R : InRange mostMagnitude pyramid (length pyramid) = subst (InRange mostMagnitude pyramid) (eqb-true _ _ e) (under-first mostMagnitude pyramid) in
       unless-case codes (leb (length (recordOf z pyramid)) room) refusal.Room _ (λ e. ROOM Z L K R (leb-false _ _ e)) (λ e.
       CODED Z L K R (leb-true _ _ e))))))
 
-  coding-fitted : Legal z → length pyramid ≡ area z → workFor z ≤ work → InRange pyramid (length pyramid)
+  coding-fitted : Legal z → length pyramid ≡ area z → workFor z ≤ work → InRange mostMagnitude pyramid (length pyramid)
       → coding pyramid z room work ≡ fitted (recordOf z pyramid) room
   unfolding coding unless
   coding-fitted Z L K R =
-      let f : eqb (firstOver pyramid) (length pyramid) ≡ true = eq-eqb _ _ (none-over pyramid R) in
+      let f : eqb (firstOver mostMagnitude pyramid) (length pyramid) ≡ true = eq-eqb _ _ (none-over mostMagnitude pyramid R) in
       rw (size-legal z Z, eq-eqb (length pyramid) (area z) L, le-leb (workFor z) work K, f)
 
   pub coding-is : (x : Result (List ℕ)) → CodingCase pyramid z room work x → coding pyramid z room work ≡ x
@@ -64,9 +64,9 @@ module _ (pyramid : List ℤ) (z : Size) (room work : ℕ) where
   coding-is x (LENGTH Z n) = rw (size-legal z Z, ne-eqb (length pyramid) (area z) n)
   coding-is x (WORK Z L k) = rw (size-legal z Z, eq-eqb (length pyramid) (area z) L, lt-leb (workFor z) work k)
   coding-is x (RANGE {at = at} Z L K f) =
-      let q : firstOver pyramid ≡ at = over-first pyramid at f in
-      let n : firstOver pyramid ≢ length pyramid = λ e. omega (arith, f .inside) in
-      rw (size-legal z Z, eq-eqb (length pyramid) (area z) L, le-leb (workFor z) work K, ne-eqb (firstOver pyramid) (length pyramid) n, q)
+      let q : firstOver mostMagnitude pyramid ≡ at = over-first mostMagnitude pyramid at f in
+      let n : firstOver mostMagnitude pyramid ≢ length pyramid = λ e. omega (arith, f .inside) in
+      rw (size-legal z Z, eq-eqb (length pyramid) (area z) L, le-leb (workFor z) work K, ne-eqb (firstOver mostMagnitude pyramid) (length pyramid) n, q)
   coding-is x (ROOM Z L K R l) = coding-fitted Z L K R ∙ rw (lt-leb (length (recordOf z pyramid)) room l)
   coding-is x (CODED Z L K R l) = coding-fitted Z L K R ∙ rw (le-leb (length (recordOf z pyramid)) room l)
 

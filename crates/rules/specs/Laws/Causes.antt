@@ -32,14 +32,14 @@ pub record LegalHeader (z : Size) (planes : ℕ) : Type 0 where
   pub size : Legal z
   pub few : planes ≤ mostPlanes
 
--- 4 RANGE: "a magnitude over 65,535: first such index".
-abbrev pub InRange : List ℤ → ℕ → Type 0
-InRange pyramid m = (i : ℕ) → i < m → magnitude pyramid i ≤ mostMagnitude
+-- 4 RANGE: "a magnitude over 65,535: first such index", or over another limit.
+abbrev pub InRange : ℕ → List ℤ → ℕ → Type 0
+InRange most pyramid m = (i : ℕ) → i < m → magnitude pyramid i ≤ most
 
-pub record FirstOver (pyramid : List ℤ) (at : ℕ) : Type 0 where
+pub record FirstOver (most : ℕ) (pyramid : List ℤ) (at : ℕ) : Type 0 where
   pub inside : at < length pyramid
-  pub over : mostMagnitude < magnitude pyramid at
-  pub first : InRange pyramid at
+  pub over : most < magnitude pyramid at
+  pub first : InRange most pyramid at
 
 -- 11 ASK: "r or p not legal".
 pub record LegalAsk (h : Header) (r p : ℕ) : Type 0 where
@@ -133,11 +133,11 @@ pub data CodingCase (pyramid : List ℤ) (z : Size) (room work : ℕ) : Result (
   SIZE : ¬ Legal z → CodingCase pyramid z room work (refused refusal.Size)
   LENGTH : Legal z → length pyramid ≢ area z → CodingCase pyramid z room work (refused refusal.Length)
   WORK : Legal z → length pyramid ≡ area z → work < workFor z → CodingCase pyramid z room work (refused refusal.Work)
-  RANGE : {at : ℕ} → Legal z → length pyramid ≡ area z → workFor z ≤ work → FirstOver pyramid at
+  RANGE : {at : ℕ} → Legal z → length pyramid ≡ area z → workFor z ≤ work → FirstOver mostMagnitude pyramid at
       → CodingCase pyramid z room work (refused (refusal.Range at))
-  ROOM : Legal z → length pyramid ≡ area z → workFor z ≤ work → InRange pyramid (length pyramid) → room < length (recordOf z pyramid)
+  ROOM : Legal z → length pyramid ≡ area z → workFor z ≤ work → InRange mostMagnitude pyramid (length pyramid) → room < length (recordOf z pyramid)
       → CodingCase pyramid z room work (refused refusal.Room)
-  CODED : Legal z → length pyramid ≡ area z → workFor z ≤ work → InRange pyramid (length pyramid) → length (recordOf z pyramid) ≤ room
+  CODED : Legal z → length pyramid ≡ area z → workFor z ≤ work → InRange mostMagnitude pyramid (length pyramid) → length (recordOf z pyramid) ≤ room
       → CodingCase pyramid z room work (accepted (recordOf z pyramid))
 
 -- "Serving: 11, the parts, at the very end 5." "Serving checks dropped parts too, never for 10." HEADER is 6, 7 or 1, as HeaderCase says,

@@ -12,14 +12,16 @@ use borrow.Author.Tests.{eqb-true}
 use Rattle.rules.specs.declared.Size.{Size}
 use Rattle.rules.specs.declared.Refusal.the-variants as refusal
 use Rattle.rules.specs.Document.Notation.{greatest}
-use Rattle.rules.specs.Document.Pyramid.{legalSize, area, levelOf, magnitude, negative, mostPlanes}
+use Rattle.rules.specs.Document.Pyramid.{legalSize, area, levelOf, mostMagnitude, magnitude, negative, mostPlanes}
 use Rattle.rules.specs.Document.Passes.{PartName}
 use Rattle.rules.specs.Document.Layout.{CodedPart, planesIn, partsOf, recordOf}
 use Rattle.rules.specs.Document.Calls.{Result, accepted, workFor, firstOver, fitted, coding, Portion, serving, Picture, planeIn, decoding}
 use Rattle.rules.specs.Laws.Tests.{selection-both}
 use Rattle.rules.specs.Laws.Sizes.{legal}
 use Rattle.rules.specs.Laws.Offspring.Level.{level-most, level-least}
-use Rattle.rules.specs.Laws.Planes.{planesOf-most, magnitude-under, range-greatest}
+use Rattle.rules.specs.Laws.Causes.{InRange, CODED}
+use Rattle.rules.specs.Laws.CallCases.{coding-is}
+use Rattle.rules.specs.Laws.Planes.{planesOf-most, magnitude-under, under-first, range-greatest}
 use Rattle.rules.specs.Laws.Results.{unless-accepted, accepted-same}
 use Rattle.rules.specs.Laws.ReadBackPart.{headerOf}
 use Rattle.rules.specs.Laws.ReadBack.{recordBytes, beforeAll}
@@ -37,20 +39,27 @@ coding-codable pyramid z room work bytes e =
     let a = unless-accepted (legalSize z) refusal.Size _ bytes e in
     let b = unless-accepted (eqb (length pyramid) (area z)) refusal.Length _ bytes (a .1) in
     let c = unless-accepted (leb (workFor z) work) refusal.Work _ bytes (b .1) in
-    let d = unless-accepted (eqb (firstOver pyramid) (length pyramid)) (refusal.Range (firstOver pyramid)) _ bytes (c .1) in
+    let d = unless-accepted (eqb (firstOver mostMagnitude pyramid) (length pyramid)) (refusal.Range (firstOver mostMagnitude pyramid)) _ bytes (c .1) in
     let f = unless-accepted (leb (length (recordOf z pyramid)) room) refusal.Room _ bytes (d .1) in (
       record { legal-size = a .0; sized = eqb-true _ _ (b .0); in-range = eqb-true _ _ (d .0) },
       sym (accepted-same (f .1)),
     )
 
+pub codable-coded : {z : Size} {pyramid : List ℤ} → Codable z pyramid → (room work : ℕ) → length (recordOf z pyramid) ≤ room → workFor z ≤ work
+    → coding pyramid z room work ≡ accepted (recordOf z pyramid)
+codable-coded {z} {pyramid} c room work enough space =
+    coding-is pyramid z room work (accepted (recordOf z pyramid))
+    (CODED (legal z (c .legal-size)) (c .sized) space
+    (subst (InRange mostMagnitude pyramid) (c .in-range) (under-first mostMagnitude pyramid)) enough)
+
 module _ {z : Size} {pyramid : List ℤ} (c : Codable z pyramid) where
   -- There are planes enough, and no more than a record may have: this is all that the theorem asks of their number.
   pub planes-enough : (q : ℕ) → magnitude pyramid q < 2 ^ planesIn pyramid
-  planes-enough = magnitude-under pyramid (range-greatest pyramid (c .in-range))
+  planes-enough = magnitude-under pyramid (range-greatest mostMagnitude pyramid (c .in-range))
 
   pub planes-few : planesIn pyramid ≤ mostPlanes
   unfolding planesIn
-  planes-few = planesOf-most (greatest natAbs pyramid) (range-greatest pyramid (c .in-range))
+  planes-few = planesOf-most (greatest natAbs pyramid) (range-greatest mostMagnitude pyramid (c .in-range))
 
   module _ (room work : ℕ) (sizes : Stated z room work) where
     -- Any selection of the record's parts, cut anywhere behind the header.

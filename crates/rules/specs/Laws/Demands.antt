@@ -8,7 +8,7 @@ use lib.Dec.{leb}
 use lib.ListN.{length, getD, take}
 use lib.IntN.{ℤ, pos, natAbs, _-ℤ_}
 use Rattle.rules.specs.declared.Size.{Size}
-use Rattle.rules.specs.Document.Pyramid.{legalSize, area, levels, levelOf, family, below0, magnitude, negative}
+use Rattle.rules.specs.Document.Pyramid.{legalSize, area, levels, levelOf, family, below0, mostMagnitude, magnitude, negative}
 use Rattle.rules.specs.Document.Passes.{start, PartName, partNames, signed}
 use Rattle.rules.specs.Document.Layout.{headerBytes, CodedPart, partBytes, codedParts, reached}
 use Rattle.rules.specs.Document.Calls.{Result, accepted, firstOver, workFor, Picture, levelPlaces, planeIn}
@@ -18,7 +18,7 @@ use Rattle.rules.specs.Laws.ReadBack.{recordBytes, selection}
 pub record Codable (z : Size) (pyramid : List ℤ) : Type 0 where
   pub legal-size : legalSize z ≡ true
   pub sized : length pyramid ≡ area z
-  pub in-range : firstOver pyramid ≡ length pyramid
+  pub in-range : firstOver mostMagnitude pyramid ≡ length pyramid
 
 -- "Buffers of the stated sizes", for decoding.
 pub record Stated (z : Size) (room work : ℕ) : Type 0 where

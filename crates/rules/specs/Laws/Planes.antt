@@ -73,36 +73,36 @@ unfolding planesIn
 magnitude-under v h q = omega (arith, magnitude-most v q, planesOf-above (greatest natAbs v) h)
 
 -- The first magnitude over the most there may be.
-abbrev over : List ℤ → ℕ → Bool
-over v q = ltb mostMagnitude (magnitude v q)
+abbrev over : ℕ → List ℤ → ℕ → Bool
+over most v q = ltb most (magnitude v q)
 
-module _ (v : List ℤ) where
-  pub under-first : InRange v (firstOver v)
+module _ (most : ℕ) (v : List ℤ) where
+  pub under-first : InRange most v (firstOver most v)
   unfolding firstOver
-  under-first i l = cases (over v i) refl
+  under-first i l = cases (over most v i) refl
     where
-      cases : (b : Bool) → over v i ≡ b → magnitude v i ≤ mostMagnitude
-      cases true e = absurd (omega (arith, lowest-least (over v) (length v) i e))
-      cases false e = ltb-false mostMagnitude (magnitude v i) e
+      cases : (b : Bool) → over most v i ≡ b → magnitude v i ≤ most
+      cases true e = absurd (omega (arith, lowest-least (over most v) (length v) i e))
+      cases false e = ltb-false most (magnitude v i) e
 
-  pub first-over : firstOver v ≢ length v → FirstOver v (firstOver v)
+  pub first-over : firstOver most v ≢ length v → FirstOver most v (firstOver most v)
   unfolding firstOver
   first-over n =
-      let l : firstOver v < length v = omega (arith, lowest-within (over v) (length v)) in
-      record { inside = l; over = ltb-true mostMagnitude _ (lowest-passes (over v) (length v) l); first = under-first }
+      let l : firstOver most v < length v = omega (arith, lowest-within (over most v) (length v)) in
+      record { inside = l; over = ltb-true most _ (lowest-passes (over most v) (length v) l); first = under-first }
 
-  none-before : (m : ℕ) → InRange v m → (i : ℕ) → i < m → over v i ≡ false
-  none-before m r i l = le-ltb mostMagnitude (magnitude v i) (r i l)
+  none-before : (m : ℕ) → InRange most v m → (i : ℕ) → i < m → over most v i ≡ false
+  none-before m r i l = le-ltb most (magnitude v i) (r i l)
 
-  pub none-over : InRange v (length v) → firstOver v ≡ length v
+  pub none-over : InRange most v (length v) → firstOver most v ≡ length v
   unfolding firstOver
-  none-over r = sym (lowest-found (over v) (length v) (length v) (omega arith) (none-before (length v) r) (λ l. absurd (omega arith)))
+  none-over r = sym (lowest-found (over most v) (length v) (length v) (omega arith) (none-before (length v) r) (λ l. absurd (omega arith)))
 
-  pub over-first : (at : ℕ) → FirstOver v at → firstOver v ≡ at
+  pub over-first : (at : ℕ) → FirstOver most v at → firstOver most v ≡ at
   unfolding firstOver
   over-first at f =
-      sym (lowest-found (over v) (length v) at (omega (arith, f .inside)) (none-before at (f .first)) (λ l. lt-ltb mostMagnitude (magnitude v at) (f .over)))
+      sym (lowest-found (over most v) (length v) at (omega (arith, f .inside)) (none-before at (f .first)) (λ l. lt-ltb most (magnitude v at) (f .over)))
 
-  pub range-greatest : firstOver v ≡ length v → greatest natAbs v ≤ mostMagnitude
+  pub range-greatest : firstOver most v ≡ length v → greatest natAbs v ≤ most
   unfolding magnitude
-  range-greatest e = greatest-each natAbs v (pos 0) mostMagnitude (subst (InRange v) e under-first)
+  range-greatest e = greatest-each natAbs v (pos 0) most (subst (InRange most v) e under-first)

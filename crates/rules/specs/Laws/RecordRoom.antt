@@ -14,7 +14,7 @@ use Rattle.rules.specs.declared.Size.{Size}
 use Rattle.rules.specs.declared.Verdict.the-variants.{Accepted}
 use Rattle.rules.specs.declared.Coded.{Coded}
 use Rattle.rules.specs.Document.Notation.{flat}
-use Rattle.rules.specs.Document.Pyramid.{area, levels, mostPlanes, magnitude, negative}
+use Rattle.rules.specs.Document.Pyramid.{area, levels, mostPlanes, mostMagnitude, magnitude, negative}
 use Rattle.rules.specs.Document.Passes.{PartName, partsOfPlane, partNames, start}
 use Rattle.rules.specs.Document.Layout.{numberBytes, version, headerBytes, CodedPart, partBytes, planesIn, partsOf, recordOf}
 use Rattle.rules.specs.Document.Numbers.{verdictNumber}
@@ -22,9 +22,9 @@ use Rattle.rules.specs.Document.Calls.{Result, accepted, workFor, coding
 use Rattle.rules.specs.Laws.Count.{sum, All, all-then, all-both, map-all, sum-append, sum-map, sum-plus, sum-times, sum-le, sum-one, all-of}
 use Rattle.rules.specs.Laws.Sizes.{Legal, legal, size-legal, area-bound, levelStart, levelSize, span-whole, levelStart-fine}
 use Rattle.rules.specs.Laws.Sizes.{levelEnd-start, levelSize-end}
-use Rattle.rules.specs.Laws.Planes.{none-over, under-first}
-use Rattle.rules.specs.Laws.Causes.{InRange, CodingCase, SIZE, LENGTH, WORK, RANGE, ROOM, CODED}
-use Rattle.rules.specs.Laws.CallCases.{coding-case, coding-is}
+use Rattle.rules.specs.Laws.Planes.{none-over}
+use Rattle.rules.specs.Laws.Causes.{CodingCase, SIZE, LENGTH, WORK, RANGE, ROOM, CODED}
+use Rattle.rules.specs.Laws.CallCases.{coding-case}
 use Rattle.rules.specs.Laws.Exports.{afsCode-codes}
 use Rattle.rules.specs.Laws.Offspring.Lawful.{lawful}
 use Rattle.rules.specs.Laws.Offspring.Counts.{level-count}
@@ -34,7 +34,7 @@ use Rattle.rules.specs.Laws.StateParts.{partNames-levels, codedParts-tak
 use Rattle.rules.specs.Laws.StateRecord.{start-sound, partsOf-bits}
 use Rattle.rules.specs.Laws.ReadBackPart.{part-length}
 use Rattle.rules.specs.Laws.Demands.{Codable, enoughRoom}
-use Rattle.rules.specs.Laws.Demand3.{planes-few}
+use Rattle.rules.specs.Laws.Demand3.{planes-few, codable-coded}
 use Rattle.rules.specs.Laws.Demand2.{demand2-names}
 
 flat-length : {X Y : Type 0} (f : X → List Y) (xs : List X) → length (flat f xs) ≡ sum (λ x. length (f x)) xs
@@ -175,7 +175,7 @@ room-found l (LENGTH Z n) = λ e. omega arith
 room-found l (WORK Z L k) = λ e. omega arith
 room-found l (RANGE Z L K f) = λ e. omega arith
 room-found {pyramid} {z} l (ROOM Z L K R s) =
-    λ e. omega (arith, record-room (record { legal-size = size-legal z Z; sized = L; in-range = none-over pyramid R }))
+    λ e. omega (arith, record-room (record { legal-size = size-legal z Z; sized = L; in-range = none-over mostMagnitude pyramid R }))
 room-found l (CODED Z L K R s) = λ e. omega arith
 
 pub coding-room : {pyramid : List ℤ} {z : Size} {out work : List ℕ} {answer : Coded} {out′ work′ : List ℕ}
@@ -191,8 +191,6 @@ pub coding-accepts : {pyramid : List ℤ} {z : Size} {out work : List ℕ} {answ
     → Coding pyramid z out work answer out′ work′ → Codable z pyramid → enoughRoom z ≤ length out → workFor z ≤ length work → answer .verdict ≡ Accepted
 unfolding codeAnswer
 coding-accepts {pyramid} {z} {out} {work} x c room enough =
-    let range : InRange pyramid (length pyramid) = subst (InRange pyramid) (c .in-range) (under-first pyramid) in
     let fits : length (recordOf z pyramid) ≤ length out = omega (arith, record-room c) in
-    let coded : coding pyramid z (length out) (length work) ≡ accepted (recordOf z pyramid)
-    = coding-is pyramid z (length out) (length work) _ (CODED (legal z (c .legal-size)) (c .sized) enough range fits) in
+    let coded : coding pyramid z (length out) (length work) ≡ accepted (recordOf z pyramid) = codable-coded c (length out) (length work) fits enough in
     ap (λ a. a .verdict) (x .answers) ∙ ap (λ y. codeAnswer y .verdict) coded
