@@ -29,6 +29,7 @@ fn refusal_number(r: Refusal) -> u64
         Refusal::Pad(_) => 9,
         Refusal::Fit(_) => 10,
         Refusal::Ask => 11,
+        Refusal::Grey => 13,
     }
 }
 
@@ -47,6 +48,7 @@ fn refusal_place(r: Refusal) -> u64
         Refusal::Room => 0,
         Refusal::Version => 0,
         Refusal::Ask => 0,
+        Refusal::Grey => 0,
     }
 }
 

@@ -34,6 +34,7 @@ refusalNumber (refusal.Part i) = 8
 refusalNumber (refusal.Pad i) = 9
 refusalNumber (refusal.Fit i) = 10
 refusalNumber refusal.Ask = 11
+refusalNumber refusal.Grey = 13
 
 abbrev pub refusalPlace : Refusal → ℕ
 refusalPlace refusal.Size = 0
@@ -47,6 +48,7 @@ refusalPlace (refusal.Part i) = i
 refusalPlace (refusal.Pad i) = i
 refusalPlace (refusal.Fit i) = i
 refusalPlace refusal.Ask = 0
+refusalPlace refusal.Grey = 0
 
 abbrev pub verdictNumber : Verdict → ℕ
 verdictNumber Accepted = 0

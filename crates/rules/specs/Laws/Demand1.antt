@@ -2,12 +2,12 @@
 -- document 01's table), with 0 exactly where it is accepted; and what it leaves in the memory lent to it is what document 01 says.
 use mathlib.Core.Path.{_≡_, refl, ap, ap₂, sym, _∙_, subst}
 use mathlib.Core.List.{List, [], _∷_, _++_}
-use mathlib.Core.Bool.{true}
+use mathlib.Core.Bool.{true, cond}
 use mathlib.Core.Logic.{_↔_}
 use Prim.Native.Nat.{ℕ, _-_}
 use native.Mathlib.Omega.{arith}
 use lib.Dec.{eqb}
-use lib.ListN.{length, getD, replicate}
+use lib.ListN.{length, replicate}
 use lib.IntN.{ℤ, pos}
 use Rattle.rules.specs.declared.Size.{Size}
 use Rattle.rules.specs.declared.Refusal.{Refusal}
@@ -54,16 +54,20 @@ pub record Exactly {X : Type 0} (Case : Result X → Type 0) (own : List ℕ) (v
   pub refusing : (r : Refusal) → Case (refused r) → Refusing
   pub accepting : (x : X) → Case (accepted x) → Accepting x
 
--- Number and place tell refusals apart.
+-- Number and place tell refusals apart: of those with this place it is the one with this number.
+withNumber : ℕ → List Refusal → Refusal
+withNumber n [] = refusal.Size
+withNumber n (r ∷ rs) = cond (eqb (refusalNumber r) n) r (withNumber n rs)
+
 refusalOf : ℕ → ℕ → Refusal
 refusalOf n at =
-    getD (
+    withNumber n (
     refusal.Size ∷ refusal.Length ∷ refusal.Work ∷ refusal.Range at ∷ refusal.Room ∷ refusal.Head at ∷ refusal.Version ∷ refusal.Part at ∷ refusal.Pad at
-    ∷ refusal.Fit at ∷ refusal.Ask ∷ []
-    ) (n - 1) refusal.Size
+    ∷ refusal.Fit at ∷ refusal.Ask ∷ refusal.Grey ∷ []
+    )
 
 refusal-told : (r : Refusal) → refusalOf (refusalNumber r) (refusalPlace r) ≡ r
-unfolding refusalOf
+unfolding withNumber refusalOf
 refusal-told refusal.Size = refl
 refusal-told refusal.Length = refl
 refusal-told refusal.Work = refl
@@ -75,8 +79,9 @@ refusal-told (refusal.Part i) = refl
 refusal-told (refusal.Pad i) = refl
 refusal-told (refusal.Fit i) = refl
 refusal-told refusal.Ask = refl
+refusal-told refusal.Grey = refl
 
-verdictOf : {X : Type 0} → Result X → Verdict
+unfoldable pub verdictOf : {X : Type 0} → Result X → Verdict
 verdictOf (refused r) = Refused r
 verdictOf (accepted x) = Accepted
 
@@ -93,7 +98,7 @@ module _ {X : Type 0} where
   told-accepted (accepted x) n = (x, refl)
 
   -- A call whose result has its case, and no other's.
-  exactly : (Case : Result X → Type 0) (y : Result X) → Case y → ((x : Result X) → Case x → y ≡ x) → (own : List ℕ)
+  pub exactly : (Case : Result X → Type 0) (y : Result X) → Case y → ((x : Result X) → Case x → y ≡ x) → (own : List ℕ)
       → among own (verdictNumber (verdictOf y)) → (verdict : Verdict) → verdict ≡ verdictOf y → (Refusing : Type 0)
       → ((r : Refusal) → y ≡ refused r → Refusing) → (Accepting : X → Type 0) → ((x : X) → y ≡ accepted x → Accepting x)
       → Exactly Case own verdict Refusing Accepting
