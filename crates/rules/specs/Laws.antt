@@ -56,5 +56,6 @@ pub mod ServedParts
 pub mod Demand3
 pub mod Demand2
 pub mod RecordRoom
+pub mod Magnitudes
 pub mod Memory
 pub mod MemoryProofs

@@ -144,7 +144,7 @@ module _ {F : Family} (L : Lawful F) where
     added-settled (typeB p) m =
         all-map (Settled F k) typeA (F .offspring p) (all-then _ _ (F .offspring p) (λ q a. met-settled a) (typeA-met k p m))
 
-    levels-fates : {S : Type 0} (C : Side S) → Fates F k C (levelClaims F k)
+    pub levels-fates : {S : Type 0} (C : Side S) → Fates F k C (levelClaims F k)
     levels-fates C = record {
       insignificant = λ s p b h. h;
       significant = λ s p b h. h;

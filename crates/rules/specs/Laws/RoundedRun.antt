@@ -38,13 +38,13 @@ use Rattle.rules.specs.Laws.Followed.{Arrives, decodes-rebuilt}
 use Rattle.rules.specs.Laws.Arrival.{ReadsAs, header-read, parts-stand, arrived-reads, arrived-selection, legal-order}
 
 -- The reached planes, place by place.
-map-from : {X : Type 0} (f : ℕ → X) (d : X) (a m i : ℕ) → i < m → getD (map f (from a m)) i d ≡ f (a + i)
+pub map-from : {X : Type 0} (f : ℕ → X) (d : X) (a m i : ℕ) → i < m → getD (map f (from a m)) i d ≡ f (a + i)
 unfolding from
 map-from f d a zero i l = absurd (omega arith)
 map-from f d a (suc m) zero l = let e : a ≡ a + 0 = omega arith in ap f e
 map-from f d a (suc m) (suc i) l = let e : suc a + i ≡ a + suc i = omega arith in map-from f d (suc a) m i (omega arith) ∙ ap f e
 
-map-length : {X : Type 0} (f : ℕ → X) (a m : ℕ) → length (map f (from a m)) ≡ m
+pub map-length : {X : Type 0} (f : ℕ → X) (a m : ℕ) → length (map f (from a m)) ≡ m
 unfolding from
 map-length f a zero = refl
 map-length f a (suc m) = omega (arith, map-length f (suc a) m)
