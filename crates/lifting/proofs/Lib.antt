@@ -1,0 +1,14 @@
+pub mod Filling
+pub mod Signs
+pub mod SplitLines
+pub mod Stored
+pub mod RowLaws
+pub mod PairLaws
+pub mod TurnLaws
+pub mod Blocks
+pub mod Stages
+pub mod JoinLines
+pub mod JoinRows
+pub mod JoinPairs
+pub mod JoinTurns
+pub mod BackStages

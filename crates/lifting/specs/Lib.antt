@@ -1,0 +1,6 @@
+pub mod Fills
+pub mod Lines
+pub mod Rows
+pub mod Turns
+pub mod Joins
+pub mod Pictures
