@@ -1,0 +1,16 @@
+-- `grey::has_room`: by what is left behind the place.
+use Rattle.grey.proofs.Printing.{room-none, room-left}
+use borrow.Author.Needs.{needs}
+use Rattle.grey.proofs.has_room.Statement.{statement}
+use Rattle.grey.proofs.has_room.Tie as tie
+use Rattle.grey.proofs.has_room.Reads as reads
+use Rattle.grey.proofs.has_room.Lts as lts
+
+returns : tie.Need-returns
+returns c = room-none _ _ _ (c .if1 .taken)
+
+returns-2 : tie.Need-returns-2
+returns-2 c = room-left _ _ _ (c .if1 .left)
+
+pub has-room-spec : {M : Type 1} → statement M
+has-room-spec = tie.close (tie.spec returns returns-2)
