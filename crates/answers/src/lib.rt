@@ -5,7 +5,10 @@ ghost use lib.ListN.{length};
 ghost use Rattle.rules.specs.Document.Numbers.{refusalNumber, refusalPlace, verdictNumber, verdictPlace};
 ghost use Rattle.rules.specs.Document.Calls.{levelPlaces, codePlaces, servePlaces, decodePlaces, codeNumbers, serveNumbers, planeIn, decodeNumbers};
 ghost use Rattle.survey.specs.Surveyed.{surveyPlaces, surveyNumbers};
+ghost use Rattle.pictures.specs.Document.Calls.{greyReadNumbers, greyWrittenNumbers, greyPlaces};
 ghost use Rattle.answers.specs.Report.{Reported};
+use pictures::GreyRead;
+use pictures::GreyWritten;
 use rules::Coded;
 use rules::Decoded;
 use rules::Plane;
@@ -142,5 +145,33 @@ pub fn report_surveyed(a: Survey, answer: &mut [u64]) -> u64
     answer[5] = header.planes as u64;
     answer[6] = a.parts as u64;
     answer[7] = a.tail as u64;
+    n
+}
+
+pub fn report_grey_read(a: GreyRead, answer: &mut [u64]) -> u64
+    requires { ⌜ greyPlaces ≤ length (now answer) ⌝ }
+    ensures { λ n. ⌜ Reported (greyReadNumbers a) (now (answer .entry)) n (now (answer .exit)) ⌝ }
+{
+    memory::zero_u64(answer);
+    let v = a.verdict;
+    let n = number(v);
+    answer[0] = n;
+    answer[1] = place(v);
+    answer[2] = a.w as u64;
+    answer[3] = a.h as u64;
+    n
+}
+
+pub fn report_grey_written(a: GreyWritten, answer: &mut [u64]) -> u64
+    requires { ⌜ greyPlaces ≤ length (now answer) ⌝ }
+    ensures { λ n. ⌜ Reported (greyWrittenNumbers a) (now (answer .entry)) n (now (answer .exit)) ⌝ }
+{
+    memory::zero_u64(answer);
+    let v = a.verdict;
+    let n = number(v);
+    answer[0] = n;
+    answer[1] = place(v);
+    answer[2] = a.length as u64;
+    answer[3] = a.clipped as u64;
     n
 }

@@ -18,6 +18,11 @@ use Rattle.rules.specs.Document.Calls.{servePlaces, serving, serveAnswer, serve
 use Rattle.rules.specs.Document.Calls.{decodePlaces, decoding, decodeAnswer, decodeNumbers, Decoding, AfsDecode}
 use Rattle.survey.specs.declared.Survey.{Survey}
 use Rattle.survey.specs.Surveyed.{surveyPlaces, surveyOf, surveyNumbers, AfsSurvey}
+use Rattle.pictures.specs.declared.GreyRead.{GreyRead}
+use Rattle.pictures.specs.declared.GreyWritten.{GreyWritten}
+use Rattle.pictures.specs.Document.Netpbm.{readFile}
+use Rattle.pictures.specs.Document.Calls.{greyIn, greyInAnswer, GreyIn, greyOut, greyOutAnswer, GreyOut, greySize, GreySize}
+use Rattle.pictures.specs.Document.Calls.{greyReadNumbers, greyWrittenNumbers, greyPlaces, AfsGreyIn, AfsGreyOut, AfsGreySize}
 use Rattle.answers.specs.Report.{Reported}
 
 -- What `too_short` leaves.
@@ -133,4 +138,70 @@ module _ (s answer answer′ : List ℕ) where
       record {
         returns = returned-long surveyPlaces answer (surveyNumbers a) n answer′ l r ∙ ap (returned surveyPlaces answer) e;
         reports = reported-long surveyPlaces answer (surveyNumbers a) n answer′ l r ∙ ap (reported surveyPlaces answer) e;
+      }
+
+-- Grey pictures.
+module _ (file : List ℕ) (m : ℕ) (out : List ℤ) (work answer : List ℕ) (out′ : List ℤ) (work′ answer′ : List ℕ) where
+  pub in-short : (n : ℕ) → length answer < greyPlaces → out′ ≡ replicate (length out) (pos 0) → work′ ≡ zeros (length work) → TooShort answer n answer′
+      → AfsGreyIn file m out work answer n out′ work′ answer′
+  in-short n l e g r =
+      let numbers = greyReadNumbers (greyInAnswer (greyIn file m (length out) (length work))) in
+      record {
+        returns = returned-short greyPlaces answer numbers n answer′ l r;
+        reports = reported-short greyPlaces answer numbers n answer′ l r;
+        writes = e ∙ lent-short greyPlaces answer numbers _ _ l;
+        clears = g;
+      }
+
+  pub in-long : (a : GreyRead) (n : ℕ) → greyPlaces ≤ length answer → GreyIn file m out work a out′ work′ → Reported (greyReadNumbers a) answer n answer′
+      → AfsGreyIn file m out work answer n out′ work′ answer′
+  in-long a n l v r =
+      let e : greyReadNumbers a ≡ greyReadNumbers (greyInAnswer (greyIn file m (length out) (length work))) = ap greyReadNumbers (v .answers) in
+      record {
+        returns = returned-long greyPlaces answer (greyReadNumbers a) n answer′ l r ∙ ap (returned greyPlaces answer) e;
+        reports = reported-long greyPlaces answer (greyReadNumbers a) n answer′ l r ∙ ap (reported greyPlaces answer) e;
+        writes = v .writes ∙ lent-long greyPlaces answer (greyReadNumbers a) _ _ l;
+        clears = v .clears;
+      }
+
+module _ (pyramid : List ℤ) (z : Size) (out work answer out′ work′ answer′ : List ℕ) where
+  pub out-short : (n : ℕ) → length answer < greyPlaces → out′ ≡ zeros (length out) → work′ ≡ zeros (length work) → TooShort answer n answer′
+      → AfsGreyOut pyramid z out work answer n out′ work′ answer′
+  out-short n l e g r =
+      let numbers = greyWrittenNumbers (greyOutAnswer (greyOut pyramid z (length out) (length work))) in
+      record {
+        returns = returned-short greyPlaces answer numbers n answer′ l r;
+        reports = reported-short greyPlaces answer numbers n answer′ l r;
+        writes = e ∙ lent-short greyPlaces answer numbers _ _ l;
+        clears = g;
+      }
+
+  pub out-long : (a : GreyWritten) (n : ℕ) → greyPlaces ≤ length answer → GreyOut pyramid z out work a out′ work′
+      → Reported (greyWrittenNumbers a) answer n answer′ → AfsGreyOut pyramid z out work answer n out′ work′ answer′
+  out-long a n l v r =
+      let e : greyWrittenNumbers a ≡ greyWrittenNumbers (greyOutAnswer (greyOut pyramid z (length out) (length work)))
+      = ap greyWrittenNumbers (v .answers) in
+      record {
+        returns = returned-long greyPlaces answer (greyWrittenNumbers a) n answer′ l r ∙ ap (returned greyPlaces answer) e;
+        reports = reported-long greyPlaces answer (greyWrittenNumbers a) n answer′ l r ∙ ap (reported greyPlaces answer) e;
+        writes = v .writes ∙ lent-long greyPlaces answer (greyWrittenNumbers a) _ _ l;
+        clears = v .clears;
+      }
+
+module _ (file answer answer′ : List ℕ) where
+  pub size-short : (n : ℕ) → length answer < greyPlaces → TooShort answer n answer′ → AfsGreySize file answer n answer′
+  size-short n l r =
+      let numbers = greyReadNumbers (greySize (readFile file)) in
+      record {
+        returns = returned-short greyPlaces answer numbers n answer′ l r;
+        reports = reported-short greyPlaces answer numbers n answer′ l r;
+      }
+
+  pub size-long : (a : GreyRead) (n : ℕ) → greyPlaces ≤ length answer → GreySize file a → Reported (greyReadNumbers a) answer n answer′
+      → AfsGreySize file answer n answer′
+  size-long a n l v r =
+      let e : greyReadNumbers a ≡ greyReadNumbers (greySize (readFile file)) = ap greyReadNumbers (v .answers) in
+      record {
+        returns = returned-long greyPlaces answer (greyReadNumbers a) n answer′ l r ∙ ap (returned greyPlaces answer) e;
+        reports = reported-long greyPlaces answer (greyReadNumbers a) n answer′ l r ∙ ap (reported greyPlaces answer) e;
       }

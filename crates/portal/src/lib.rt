@@ -3,6 +3,7 @@ ghost use mathlib.Core.Path.{_≡_};
 ghost use lib.ListN.{length};
 ghost use Rattle.rules.specs.Document.Notation.{zeros};
 ghost use Rattle.rules.specs.Document.Calls.{AfsCode, AfsServe, AfsDecode};
+ghost use Rattle.pictures.specs.Document.Calls.{AfsGreySize, AfsGreyIn, AfsGreyOut};
 ghost use Rattle.survey.specs.Surveyed.{AfsSurvey};
 use rules::Level;
 use rules::Plane;
@@ -87,4 +88,60 @@ pub extern "C" fn afs_survey(bytes: &[u8], answer: &mut [u64]) -> u64
     }
     let a = survey::survey_of(bytes);
     answers::report_surveyed(a, answer)
+}
+
+#[no_mangle]
+pub extern "C" fn afs_grey_size(file: &[u8], answer: &mut [u64]) -> u64
+    ensures { λ n. ⌜ AfsGreySize (now (file .entry)) (now (answer .entry)) n (now (answer .exit)) ⌝ }
+{
+    if answer.len() < 4 {
+        return too_short(answer);
+    }
+    let a = grey::grey_size(file);
+    answers::report_grey_read(a, answer)
+}
+
+#[no_mangle]
+pub extern "C" fn afs_grey_in(
+    file: &[u8],
+    decompositions: u64,
+    pyramid: &mut [i32],
+    work: &mut [u32],
+    answer: &mut [u64],
+) -> u64
+    ensures { λ number. ⌜ AfsGreyIn (now (file .entry)) decompositions (now (pyramid .entry)) (now (work .entry)) (now (answer .entry)) number (now (pyramid .exit)) (now (work .exit)) (now (answer .exit)) ⌝ }
+{
+    if answer.len() < 4 {
+        memory::zero_i32(pyramid);
+        memory::zero_u32(work);
+        return too_short(answer);
+    }
+    let a = grey::grey_in(file, decompositions as usize, pyramid, work);
+    answers::report_grey_read(a, answer)
+}
+
+#[no_mangle]
+pub extern "C" fn afs_grey_out(
+    pyramid: &[i32],
+    width: u64,
+    height: u64,
+    decompositions: u64,
+    out: &mut [u8],
+    work: &mut [u32],
+    answer: &mut [u64],
+) -> u64
+    ensures { λ number. ⌜ AfsGreyOut (now (pyramid .entry)) (record { w = width; h = height; n = decompositions }) (now (out .entry)) (now (work .entry)) (now (answer .entry)) number (now (out .exit)) (now (work .exit)) (now (answer .exit)) ⌝ }
+{
+    if answer.len() < 4 {
+        memory::zero_u8(out);
+        memory::zero_u32(work);
+        return too_short(answer);
+    }
+    let z = Size {
+        w: width as usize,
+        h: height as usize,
+        n: decompositions as usize,
+    };
+    let a = grey::grey_out(pyramid, z, out, work);
+    answers::report_grey_written(a, answer)
 }

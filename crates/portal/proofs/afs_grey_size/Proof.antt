@@ -1,0 +1,44 @@
+use Rattle.portal.proofs.Laws.{size-short, size-long}
+use borrow.Author.Needs.{needs}
+use Rattle.portal.proofs.afs_grey_size.Statement.{statement}
+use Rattle.portal.proofs.afs_grey_size.Tie as tie
+
+too-short-requires : tie.Need-too-short-requires
+too-short-requires c κs = search needs
+
+same-length : tie.Need-same-length
+same-length c = search needs
+
+returns : tie.Need-returns
+returns c =
+    let short = c .before .before .before .before .if1 .taken in
+    let left = c .before .before .too-short .ensures in
+    size-short _ _ _ _ short left
+
+grey-size-requires : tie.Need-grey-size-requires
+grey-size-requires c κs = search needs
+
+report-grey-read-requires : tie.Need-report-grey-read-requires
+report-grey-read-requires c κs = search needs
+
+same-length-2 : tie.Need-same-length-2
+same-length-2 c = search needs
+
+returns-2 : tie.Need-returns-2
+returns-2 c =
+    let long = c .before .before .before .before .before .if1 .left in
+    let surveyed = c .before .before .before .before .grey-size .ensures in
+    let told = c .before .before .report-grey-read .ensures in
+    size-long _ _ _ _ _ long surveyed told
+
+pub afs-grey-size-spec : {M : Type 1} → statement M
+afs-grey-size-spec =
+    tie.close
+    (tie.spec
+    too-short-requires
+    same-length
+    returns
+    grey-size-requires
+    report-grey-read-requires
+    same-length-2
+    returns-2)
