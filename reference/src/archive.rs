@@ -51,6 +51,34 @@ extern "C" {
 
     fn afs_survey(record: *const u8, record_len: usize, answer: *mut u64, answer_len: usize)
         -> u64;
+
+    fn afs_grey_size(file: *const u8, file_len: usize, answer: *mut u64, answer_len: usize) -> u64;
+
+    fn afs_grey_in(
+        file: *const u8,
+        file_len: usize,
+        n: u64,
+        out: *mut i32,
+        out_len: usize,
+        work: *mut u32,
+        work_len: usize,
+        answer: *mut u64,
+        answer_len: usize,
+    ) -> u64;
+
+    fn afs_grey_out(
+        pyramid: *const i32,
+        pyramid_len: usize,
+        w: u64,
+        h: u64,
+        n: u64,
+        out: *mut u8,
+        out_len: usize,
+        work: *mut u32,
+        work_len: usize,
+        answer: *mut u64,
+        answer_len: usize,
+    ) -> u64;
 }
 
 /// The archive's calls.
@@ -134,6 +162,60 @@ impl Subject for Archive {
             afs_survey(
                 record.as_ptr(),
                 record.len(),
+                answer.as_mut_ptr(),
+                answer.len(),
+            )
+        })
+    }
+
+    fn grey_size(&self, file: &[u8], answer: &mut [u64]) -> Returned {
+        Ok(unsafe { afs_grey_size(file.as_ptr(), file.len(), answer.as_mut_ptr(), answer.len()) })
+    }
+
+    fn grey_in(
+        &self,
+        file: &[u8],
+        n: u64,
+        out: &mut [i32],
+        work: &mut [u32],
+        answer: &mut [u64],
+    ) -> Returned {
+        Ok(unsafe {
+            afs_grey_in(
+                file.as_ptr(),
+                file.len(),
+                n,
+                out.as_mut_ptr(),
+                out.len(),
+                work.as_mut_ptr(),
+                work.len(),
+                answer.as_mut_ptr(),
+                answer.len(),
+            )
+        })
+    }
+
+    fn grey_out(
+        &self,
+        pyramid: &[i32],
+        w: u64,
+        h: u64,
+        n: u64,
+        out: &mut [u8],
+        work: &mut [u32],
+        answer: &mut [u64],
+    ) -> Returned {
+        Ok(unsafe {
+            afs_grey_out(
+                pyramid.as_ptr(),
+                pyramid.len(),
+                w,
+                h,
+                n,
+                out.as_mut_ptr(),
+                out.len(),
+                work.as_mut_ptr(),
+                work.len(),
                 answer.as_mut_ptr(),
                 answer.len(),
             )

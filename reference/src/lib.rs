@@ -15,25 +15,35 @@
 //! * [`lists`], [`passes`]: the three lists of each level, and the passes
 //! * [`layout`]: numbers, header, parts, packed bits
 //! * [`reading`]: the walk over a record
-//! * [`coder`], [`server`], [`decoder`], [`survey`], [`partlist`]: the calls
+//! * [`lifting`]: from a picture's numbers to a pyramid and back
+//! * [`netpbm`]: grey files
+//! * [`bound`]: how far a printed pixel can be from the recorded one
+//! * [`coder`], [`server`], [`decoder`], [`survey`], [`grey`],
+//!   [`partlist`]: the calls
 //! * [`portal`]: the same calls in the shape in which C sees them
 //!
 //! and for trying the product: [`generate`] makes pyramids and records,
 //! [`compare`] compares, [`piped`] makes the calls of an archive that can't be
-//! linked, [`openjpeg`] gives times to compare with, [`slip`] holds the rules'
-//! "errors that look reasonable" so that the tests can be shown to catch them.
+//! linked, [`openjpeg`] and [`plain`] give times to compare with, [`slip`] holds
+//! the rules' "errors that look reasonable" so that the tests can be shown to
+//! catch them.
 
+pub mod bound;
 pub mod coder;
 pub mod compare;
 pub mod decoder;
 pub mod family;
 pub mod generate;
+pub mod grey;
 pub mod layout;
+pub mod lifting;
 pub mod lists;
+pub mod netpbm;
 pub mod openjpeg;
 pub mod partlist;
 pub mod passes;
 pub mod piped;
+pub mod plain;
 pub mod portal;
 pub mod reading;
 pub mod refusal;
@@ -47,6 +57,7 @@ pub mod archive;
 
 pub use coder::{code, CodeAnswer};
 pub use decoder::{decode, DecodeAnswer};
+pub use grey::{grey_in, grey_out, grey_size, GreyInAnswer, GreyOutAnswer};
 pub use partlist::partlist;
 pub use server::{serve, ServeAnswer};
 pub use survey::{survey, SurveyAnswer};

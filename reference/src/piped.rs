@@ -129,6 +129,63 @@ impl<W: Write, R: Read> Subject for Piped<W, R> {
         told.take(answer);
         Ok(returned)
     }
+
+    fn grey_size(&self, file: &[u8], answer: &mut [u64]) -> Returned {
+        let mut call = Call::new(b'g', &[]);
+        call.lend(file);
+        call.lend(answer);
+        let mut told = self.answer(&call)?;
+        let returned = told.number();
+        told.check_same("the file", file)?;
+        told.take(answer);
+        Ok(returned)
+    }
+
+    fn grey_in(
+        &self,
+        file: &[u8],
+        n: u64,
+        out: &mut [i32],
+        work: &mut [u32],
+        answer: &mut [u64],
+    ) -> Returned {
+        let mut call = Call::new(b'i', &[n]);
+        call.lend(file);
+        call.lend(out);
+        call.lend(work);
+        call.lend(answer);
+        let mut told = self.answer(&call)?;
+        let returned = told.number();
+        told.check_same("the file", file)?;
+        told.take(out);
+        told.take(work);
+        told.take(answer);
+        Ok(returned)
+    }
+
+    fn grey_out(
+        &self,
+        pyramid: &[i32],
+        w: u64,
+        h: u64,
+        n: u64,
+        out: &mut [u8],
+        work: &mut [u32],
+        answer: &mut [u64],
+    ) -> Returned {
+        let mut call = Call::new(b'o', &[w, h, n]);
+        call.lend(pyramid);
+        call.lend(out);
+        call.lend(work);
+        call.lend(answer);
+        let mut told = self.answer(&call)?;
+        let returned = told.number();
+        told.check_same("the pyramid", pyramid)?;
+        told.take(out);
+        told.take(work);
+        told.take(answer);
+        Ok(returned)
+    }
 }
 
 /// Bytes of a number between stretches of memory.

@@ -13,6 +13,10 @@ pub const SERVE_ANSWER: usize = 4;
 pub const DECODE_ANSWER: usize = 9;
 /// Number, place, W, H, N, planes, whole parts, tail length.
 pub const SURVEY_ANSWER: usize = 8;
+/// Number, place, width, height.
+pub const GREY_IN_ANSWER: usize = 4;
+/// Number, place, length, pixels set to the nearer end.
+pub const GREY_OUT_ANSWER: usize = 4;
 
 #[allow(clippy::too_many_arguments)]
 pub fn afs_code(
@@ -61,6 +65,52 @@ pub fn afs_survey(record: &[u8], answer: &mut [u64]) -> u64 {
         return no_room_for(answer);
     }
     put(answer, &crate::survey(record).numbers())
+}
+
+pub fn afs_grey_size(file: &[u8], answer: &mut [u64]) -> u64 {
+    if answer.len() < GREY_IN_ANSWER {
+        return no_room_for(answer);
+    }
+    let said = crate::grey_size(file);
+    put(answer, &[said.number, said.place, said.width, said.height])
+}
+
+pub fn afs_grey_in(
+    file: &[u8],
+    n: u64,
+    out: &mut [i32],
+    work: &mut [u32],
+    answer: &mut [u64],
+) -> u64 {
+    if answer.len() < GREY_IN_ANSWER {
+        out.fill(0);
+        work.fill(0);
+        return no_room_for(answer);
+    }
+    let said = crate::grey_in(file, n, out, work);
+    put(answer, &[said.number, said.place, said.width, said.height])
+}
+
+#[allow(clippy::too_many_arguments)]
+pub fn afs_grey_out(
+    pyramid: &[i32],
+    w: u64,
+    h: u64,
+    n: u64,
+    out: &mut [u8],
+    work: &mut [u32],
+    answer: &mut [u64],
+) -> u64 {
+    if answer.len() < GREY_OUT_ANSWER {
+        out.fill(0);
+        work.fill(0);
+        return no_room_for(answer);
+    }
+    let said = crate::grey_out(pyramid, w, h, n, out, work);
+    put(
+        answer,
+        &[said.number, said.place, said.length, said.clipped],
+    )
 }
 
 fn put(answer: &mut [u64], numbers: &[u64]) -> u64 {

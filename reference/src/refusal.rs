@@ -14,6 +14,7 @@ pub enum Cause {
     Pad = 9,
     Fit = 10,
     Ask = 11,
+    Grey = 13,
 }
 
 /// A cause and the place reported with it: an index into the pyramid for

@@ -12,6 +12,9 @@ pub const MOST_PLANES: u32 = 17;
 pub const SIDES: std::ops::RangeInclusive<u64> = 4..=512;
 /// The largest magnitude that is coded.
 pub const LARGEST_MAGNITUDE: u32 = 65_535;
+/// The largest magnitude that decoding writes, all of 17 planes; so also the
+/// largest that goes back to a picture.
+pub const LARGEST_DECODED: u32 = 131_071;
 
 /// A spatial level: N + 1 is the LL band, 1 the finest.
 ///

@@ -13,9 +13,10 @@ const SUBJECT: (&str, &dyn Subject) = ("the archive", &reference::archive::Archi
 #[cfg(not(feature = "archive"))]
 const SUBJECT: (&str, &dyn Subject) = ("the reference's own portal", &reference::compare::Own);
 
-const USAGE: &str = "usage: compare code|serve|decode|survey COUNT [SEED]
-       compare --through PROGRAM code|serve|decode|survey COUNT [SEED]
-       compare partlist PROGRAM COUNT [SEED]";
+const USAGE: &str = "usage: compare CALL COUNT [SEED]
+       compare --through PROGRAM CALL COUNT [SEED]
+       compare partlist PROGRAM COUNT [SEED]
+where CALL is code, serve, decode, survey, grey_size, grey_in or grey_out";
 
 fn main() -> ExitCode {
     let arguments: Vec<String> = std::env::args().skip(1).collect();

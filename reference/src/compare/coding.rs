@@ -1,14 +1,14 @@
 //! Cases of coding.
 
 use super::lent::*;
-use super::{Compared, Subject};
+use super::{Case, Compared, Subject};
 use crate::generate::shapes::shape_of_case;
 use crate::generate::{pyramids, records, Chance};
 use crate::portal::CODE_ANSWER;
 use crate::size::{Shape, LARGEST_MAGNITUDE};
 
 /// Sizes that are not legal, and legal ones that another size makes wrong.
-fn any_size_number(chance: &mut Chance) -> u64 {
+pub fn any_size_number(chance: &mut Chance) -> u64 {
     *chance.pick(&[
         0,
         1,
@@ -138,5 +138,5 @@ pub fn compare_code(chance: &mut Chance, case: u64, subject: &dyn Subject) -> Co
     out.check("out", &mut want_out)?;
     work.check("work", &mut want_work)?;
     check_input("the pyramid", &pyramid, &case.pyramid)?;
-    Ok((want, Shape::judge(w, h, n).ok()))
+    Ok(Case::new(want, Shape::judge(w, h, n).ok()))
 }

@@ -1,6 +1,6 @@
 //! Cases of the part list program.
 
-use super::{header_of, Compared};
+use super::{header_of, Case, Compared};
 use crate::generate::{records, Chance};
 use crate::partlist::LONGEST_INPUT;
 use std::io::Write;
@@ -20,7 +20,7 @@ pub fn compare_partlist(chance: &mut Chance, base: &[u8], program: &Path) -> Com
         return Err(format!("printed\n{got}expected\n{want}"));
     }
     let shape = header_of(&record).map(|header| header.shape);
-    Ok((listed_number(&want), shape))
+    Ok(Case::new(listed_number(&want), shape))
 }
 
 /// What a program prints for this input.

@@ -7,6 +7,8 @@
 
 mod coding;
 mod decoding;
+mod grey_in;
+mod grey_out;
 mod lent;
 mod listing;
 mod serving;
@@ -21,6 +23,8 @@ use crate::reading::Walk;
 use crate::size::Shape;
 use coding::compare_code;
 use decoding::compare_decode;
+use grey_in::{compare_grey_in, compare_grey_size};
+use grey_out::compare_grey_out;
 use listing::compare_partlist;
 use serving::compare_serve;
 use std::path::Path;
@@ -62,6 +66,29 @@ pub trait Subject {
     ) -> Returned;
 
     fn survey(&self, record: &[u8], answer: &mut [u64]) -> Returned;
+
+    fn grey_size(&self, file: &[u8], answer: &mut [u64]) -> Returned;
+
+    fn grey_in(
+        &self,
+        file: &[u8],
+        n: u64,
+        out: &mut [i32],
+        work: &mut [u32],
+        answer: &mut [u64],
+    ) -> Returned;
+
+    #[allow(clippy::too_many_arguments)]
+    fn grey_out(
+        &self,
+        pyramid: &[i32],
+        w: u64,
+        h: u64,
+        n: u64,
+        out: &mut [u8],
+        work: &mut [u32],
+        answer: &mut [u64],
+    ) -> Returned;
 }
 
 /// The library itself, through [`portal`]: tries the portal, and the
@@ -106,6 +133,34 @@ impl Subject for Own {
     fn survey(&self, record: &[u8], answer: &mut [u64]) -> Returned {
         Ok(portal::afs_survey(record, answer))
     }
+
+    fn grey_size(&self, file: &[u8], answer: &mut [u64]) -> Returned {
+        Ok(portal::afs_grey_size(file, answer))
+    }
+
+    fn grey_in(
+        &self,
+        file: &[u8],
+        n: u64,
+        out: &mut [i32],
+        work: &mut [u32],
+        answer: &mut [u64],
+    ) -> Returned {
+        Ok(portal::afs_grey_in(file, n, out, work, answer))
+    }
+
+    fn grey_out(
+        &self,
+        pyramid: &[i32],
+        w: u64,
+        h: u64,
+        n: u64,
+        out: &mut [u8],
+        work: &mut [u32],
+        answer: &mut [u64],
+    ) -> Returned {
+        Ok(portal::afs_grey_out(pyramid, w, h, n, out, work, answer))
+    }
 }
 
 #[derive(Clone, Copy, Debug, PartialEq, Eq)]
@@ -114,17 +169,23 @@ pub enum Routine {
     Serve,
     Decode,
     Survey,
+    GreySize,
+    GreyIn,
+    GreyOut,
     /// The program; it has no subject but a path ([`run_partlist`]).
     Partlist,
 }
 
 impl Routine {
     /// Those that a [`Subject`] can have.
-    pub const EXPORTED: [Routine; 4] = [
+    pub const EXPORTED: [Routine; 7] = [
         Routine::Code,
         Routine::Serve,
         Routine::Decode,
         Routine::Survey,
+        Routine::GreySize,
+        Routine::GreyIn,
+        Routine::GreyOut,
     ];
 
     pub fn name(self) -> &'static str {
@@ -133,20 +194,71 @@ impl Routine {
             Routine::Serve => "serve",
             Routine::Decode => "decode",
             Routine::Survey => "survey",
+            Routine::GreySize => "grey_size",
+            Routine::GreyIn => "grey_in",
+            Routine::GreyOut => "grey_out",
             Routine::Partlist => "partlist",
         }
     }
 
-    /// The numbers that the exported routine can give. Decoding and surveying
-    /// have ROOM only for an answer slice that is too short.
+    /// The numbers that the exported routine can give. Decoding, surveying and
+    /// the calls that read grey files have ROOM only for an answer slice that is
+    /// too short.
     pub fn can_answer(self, number: u64) -> bool {
         let numbers: &[u64] = match self {
             Routine::Code => &[0, 1, 2, 3, 4, 5],
             Routine::Serve => &[0, 1, 5, 6, 7, 8, 9, 11],
             Routine::Decode => &[0, 1, 2, 3, 5, 6, 7, 8, 9, 10],
+            Routine::GreySize => &[0, 5, 13],
+            Routine::GreyIn => &[0, 1, 2, 3, 5, 13],
+            Routine::GreyOut => &[0, 1, 2, 3, 4, 5],
             Routine::Survey | Routine::Partlist => &[0, 1, 5, 6, 7, 8, 9],
         };
         numbers.contains(&number)
+    }
+
+    /// Whether its cases have an N, and so a shape to be counted by.
+    fn has_shapes(self) -> bool {
+        self != Routine::GreySize
+    }
+
+    /// What else its cases are counted by, and how many of them are wanted.
+    fn sorts(self) -> Vec<(&'static str, Wanted)> {
+        match self {
+            Routine::GreySize => grey_in::sorts_of_headers(),
+            Routine::GreyIn => grey_in::sorts_of_files(),
+            Routine::GreyOut => grey_out::SORTS.to_vec(),
+            _ => Vec::new(),
+        }
+    }
+}
+
+/// How many cases of a sort a comparison must have had.
+#[derive(Clone, Copy, Debug, PartialEq, Eq)]
+pub enum Wanted {
+    One,
+    AThird,
+}
+
+/// What a case is counted by: the answer's number, its shape, if it has a legal
+/// one, and its sorts.
+pub struct Case {
+    number: u64,
+    shape: Option<Shape>,
+    sorts: Vec<&'static str>,
+}
+
+impl Case {
+    fn new(number: u64, shape: Option<Shape>) -> Case {
+        Case {
+            number,
+            shape,
+            sorts: Vec::new(),
+        }
+    }
+
+    fn sorted(self, sorts: Vec<&'static str>) -> Case {
+        Case { sorts, ..self }
     }
 }
 
@@ -170,6 +282,9 @@ pub fn run(
             Routine::Serve => compare_serve(chance, stock.record(case), subject),
             Routine::Decode => compare_decode(chance, stock.record(case), subject),
             Routine::Survey => compare_survey(chance, stock.record(case), subject),
+            Routine::GreySize => compare_grey_size(chance, subject),
+            Routine::GreyIn => compare_grey_in(chance, case, subject),
+            Routine::GreyOut => compare_grey_out(chance, case, &mut stock, subject),
             Routine::Partlist => Err("a subject has no part list".to_string()),
         },
     )
@@ -199,7 +314,7 @@ fn all_cases(
     let mut tally = Tally::new(routine, seed);
     for case in 0..count {
         match compare(&mut Chance::of_case(seed, case), case) {
-            Ok((number, shape)) => tally.count(number, shape),
+            Ok(case) => tally.count(case),
             Err(what) => {
                 return Err(Difference {
                     routine,
@@ -245,9 +360,8 @@ impl Stock {
     }
 }
 
-/// The answer number of a case and its shape, if it has a legal one; or what
-/// differs.
-type Compared = Result<(u64, Option<Shape>), String>;
+/// A case that was equal, or what differs.
+type Compared = Result<Case, String>;
 
 /// The header that reading finds, if it finds one.
 fn header_of(record: &[u8]) -> Option<Header> {

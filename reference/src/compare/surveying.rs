@@ -1,7 +1,7 @@
 //! Cases of surveying.
 
 use super::lent::*;
-use super::{header_of, Compared, Subject};
+use super::{header_of, Case, Compared, Subject};
 use crate::generate::{records, Chance};
 use crate::portal::SURVEY_ANSWER;
 
@@ -18,5 +18,8 @@ pub fn compare_survey(chance: &mut Chance, base: &[u8], subject: &dyn Subject) -
     check_returned(got, want)?;
     answer.check("answer", &mut want_answer)?;
     check_input("the record", &record, &before)?;
-    Ok((want, header_of(&record).map(|header| header.shape)))
+    Ok(Case::new(
+        want,
+        header_of(&record).map(|header| header.shape),
+    ))
 }

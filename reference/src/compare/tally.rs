@@ -1,9 +1,12 @@
 //! The count of cases, and the difference that ends it.
 
-use super::Routine;
+use super::{Case, Routine, Wanted};
 use crate::generate::shapes::SizeClass;
-use crate::size::{Shape, MOST_DECOMPOSITIONS};
+use crate::size::MOST_DECOMPOSITIONS;
 use std::fmt::{self, Display};
+
+/// The numbers that a call may come back with go up to 13.
+const NUMBERS: usize = 14;
 
 /// How many cases a comparison had of each sort.
 #[derive(Clone, Debug)]
@@ -11,9 +14,10 @@ pub struct Tally {
     routine: Routine,
     seed: u64,
     cases: u64,
-    answers: [u64; 12],
+    answers: [u64; NUMBERS],
     decompositions: [u64; MOST_DECOMPOSITIONS as usize],
     classes: [u64; SizeClass::ALL.len()],
+    sorts: Vec<(&'static str, Wanted, u64)>,
 }
 
 impl Tally {
@@ -22,28 +26,48 @@ impl Tally {
             routine,
             seed,
             cases: 0,
-            answers: [0; 12],
+            answers: [0; NUMBERS],
             decompositions: [0; MOST_DECOMPOSITIONS as usize],
             classes: [0; SizeClass::ALL.len()],
+            sorts: routine
+                .sorts()
+                .into_iter()
+                .map(|(name, wanted)| (name, wanted, 0))
+                .collect(),
         }
     }
 
     /// By N and by size only accepted cases count: what a refused case says
     /// of its size may be anything.
-    pub(super) fn count(&mut self, number: u64, shape: Option<Shape>) {
+    pub(super) fn count(&mut self, case: Case) {
         self.cases += 1;
-        self.answers[number as usize] += 1;
-        if let (0, Some(shape)) = (number, shape) {
+        self.answers[case.number as usize] += 1;
+        if let (0, Some(shape)) = (case.number, case.shape) {
             self.decompositions[shape.decompositions() as usize - 1] += 1;
             self.classes[SizeClass::of(shape) as usize] += 1;
+        }
+        for (name, _, count) in &mut self.sorts {
+            *count += u64::from(case.sorts.contains(name));
         }
     }
 
     /// What can occur and did not.
     pub fn missing(&self) -> Vec<String> {
-        let answers = (0..12)
-            .filter(|&number| self.routine.can_answer(number) && self.answers[number as usize] == 0)
-            .map(|number| format!("answer {number}"));
+        let answers = (0..)
+            .zip(&self.answers)
+            .filter(|&(number, &count)| self.routine.can_answer(number) && count == 0)
+            .map(|(number, _)| format!("answer {number}"));
+        let sorts = self.sorts.iter().filter_map(|&(name, wanted, count)| {
+            let (enough, least) = match wanted {
+                Wanted::One => (count > 0, ""),
+                Wanted::AThird => (3 * count >= self.cases, "a third being "),
+            };
+            Some(format!("{least}{name}")).filter(|_| !enough)
+        });
+        let missing: Vec<String> = answers.chain(sorts).collect();
+        if !self.routine.has_shapes() {
+            return missing;
+        }
         let decompositions = (1..)
             .zip(&self.decompositions)
             .filter(|(_, &count)| count == 0)
@@ -53,7 +77,8 @@ impl Tally {
             .zip(&self.classes)
             .filter(|(_, &count)| count == 0)
             .map(|(class, _)| format!("size {}", class.name()));
-        answers.chain(decompositions).chain(classes).collect()
+        let all = missing.into_iter().chain(decompositions).chain(classes);
+        all.collect()
     }
 }
 
@@ -73,6 +98,15 @@ impl Display for Tally {
             } else {
                 write!(f, "  {number}: -")?;
             }
+        }
+        if !self.sorts.is_empty() {
+            write!(f, "\n  sorts")?;
+        }
+        for (name, _, count) in &self.sorts {
+            write!(f, "  {name}: {count}")?;
+        }
+        if !self.routine.has_shapes() {
+            return writeln!(f);
         }
         write!(f, "\n  accepted by N")?;
         for (n, count) in (1..).zip(&self.decompositions) {

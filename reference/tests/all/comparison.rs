@@ -9,12 +9,28 @@ fn compare(routine: Routine, count: u64, subject: &dyn Subject) -> Result<Tally,
     run(routine, count, 1, subject, &mut |_| {})
 }
 
+fn is_equal_and_all_occurs(routine: Routine, count: u64) {
+    let tally = compare(routine, count, &Own).unwrap_or_else(|d| panic!("{d}"));
+    assert_eq!(tally.missing(), [""; 0], "{tally}");
+}
+
 #[test]
 fn the_own_portal_is_equal_and_all_occurs() {
-    for routine in Routine::EXPORTED {
-        let tally = compare(routine, 4_000, &Own).unwrap_or_else(|d| panic!("{d}"));
-        assert_eq!(tally.missing(), [""; 0], "{tally}");
+    for routine in [
+        Routine::Code,
+        Routine::Serve,
+        Routine::Decode,
+        Routine::Survey,
+    ] {
+        is_equal_and_all_occurs(routine, 4_000);
     }
+}
+
+#[test]
+fn pictures_by_the_own_portal_are_equal_and_all_occurs() {
+    is_equal_and_all_occurs(Routine::GreySize, 4_000);
+    is_equal_and_all_occurs(Routine::GreyIn, 1_500);
+    is_equal_and_all_occurs(Routine::GreyOut, 1_500);
 }
 
 #[test]
@@ -59,6 +75,10 @@ fn the_comparing_program() {
 fn what_did_not_occur_is_named() {
     let tally = compare(Routine::Serve, 1, &Own).unwrap();
     assert!(tally.missing().len() > 10);
+    let missing = compare(Routine::GreySize, 1, &Own).unwrap().missing();
+    assert!(missing.len() > 15, "{missing:?}");
+    let third = |name: &&String| name.starts_with("a third being ");
+    assert_eq!(missing.iter().filter(third).count(), 1, "{missing:?}");
 }
 
 #[test]
@@ -154,6 +174,56 @@ impl Subject for Wrong {
         (self.spoil)(&mut lent);
         Ok(lent.returned)
     }
+
+    fn grey_size(&self, file: &[u8], answer: &mut [u64]) -> Returned {
+        let mut lent = Lent {
+            returned: Own.grey_size(file, answer)?,
+            answer,
+            ..Lent::default()
+        };
+        (self.spoil)(&mut lent);
+        Ok(lent.returned)
+    }
+
+    fn grey_in(
+        &self,
+        file: &[u8],
+        n: u64,
+        out: &mut [i32],
+        work: &mut [u32],
+        answer: &mut [u64],
+    ) -> Returned {
+        let mut lent = Lent {
+            returned: Own.grey_in(file, n, out, work, answer)?,
+            coefficients: out,
+            work,
+            answer,
+            ..Lent::default()
+        };
+        (self.spoil)(&mut lent);
+        Ok(lent.returned)
+    }
+
+    fn grey_out(
+        &self,
+        pyramid: &[i32],
+        w: u64,
+        h: u64,
+        n: u64,
+        out: &mut [u8],
+        work: &mut [u32],
+        answer: &mut [u64],
+    ) -> Returned {
+        let mut lent = Lent {
+            returned: Own.grey_out(pyramid, w, h, n, out, work, answer)?,
+            bytes: out,
+            work,
+            answer,
+            ..Lent::default()
+        };
+        (self.spoil)(&mut lent);
+        Ok(lent.returned)
+    }
 }
 
 fn fails(routine: Routine, spoil: fn(&mut Lent)) {
@@ -178,11 +248,27 @@ fn a_wrong_number_or_place_is_caught() {
 
 #[test]
 fn a_wrong_count_is_caught() {
-    // Length, tail, reached plane of level 6, whole parts.
+    // Length, tail, reached plane of level 6, whole parts; width, height,
+    // length, pixels that were clipped.
     fails(Routine::Code, |lent| bump(lent, 2));
     fails(Routine::Serve, |lent| bump(lent, 3));
     fails(Routine::Decode, |lent| bump(lent, 8));
     fails(Routine::Survey, |lent| bump(lent, 6));
+    fails(Routine::GreySize, |lent| bump(lent, 2));
+    fails(Routine::GreyIn, |lent| bump(lent, 3));
+    fails(Routine::GreyOut, |lent| bump(lent, 2));
+    fails(Routine::GreyOut, |lent| bump(lent, 3));
+}
+
+#[test]
+fn sides_in_each_others_place_are_caught() {
+    for routine in [Routine::GreySize, Routine::GreyIn] {
+        fails(routine, |lent| {
+            if lent.answer.len() >= 4 {
+                lent.answer.swap(2, 3);
+            }
+        });
+    }
 }
 
 fn bump(lent: &mut Lent, at: usize) {
@@ -213,15 +299,18 @@ fn memory_left_dirty_is_caught() {
             *last = 1;
         }
     };
-    fails(Routine::Code, dirty_work);
-    fails(Routine::Decode, dirty_work);
+    for routine in lent_memory() {
+        if routine != Routine::Serve {
+            fails(routine, dirty_work);
+        }
+    }
     let dirty_refusal = |lent: &mut Lent| {
         if lent.returned != 0 {
             lent.bytes.iter_mut().take(1).for_each(|byte| *byte = 1);
             lent.coefficients.iter_mut().take(1).for_each(|c| *c = 1);
         }
     };
-    for routine in [Routine::Code, Routine::Serve, Routine::Decode] {
+    for routine in lent_memory() {
         fails(routine, dirty_refusal);
     }
     let dirty_end = |lent: &mut Lent| {
@@ -231,13 +320,28 @@ fn memory_left_dirty_is_caught() {
     };
     fails(Routine::Code, dirty_end);
     fails(Routine::Serve, dirty_end);
+    fails(Routine::GreyOut, dirty_end);
+}
+
+/// The routines that are lent more than an answer to write to.
+fn lent_memory() -> impl Iterator<Item = Routine> {
+    let all = Routine::EXPORTED.iter().copied();
+    all.filter(|&routine| routine != Routine::GreySize && routine != Routine::Survey)
 }
 
 #[test]
-fn a_wrong_coefficient_is_caught() {
-    fails(Routine::Decode, |lent| {
-        if let (0, Some(last)) = (lent.returned, lent.coefficients.last_mut()) {
-            *last = -*last;
+fn a_wrong_coefficient_or_pixel_is_caught() {
+    for routine in [Routine::Decode, Routine::GreyIn] {
+        fails(routine, |lent| {
+            if let (0, Some(last)) = (lent.returned, lent.coefficients.last_mut()) {
+                *last = -*last;
+            }
+        });
+    }
+    // 255 clipped to 254.
+    fails(Routine::GreyOut, |lent| {
+        for byte in lent.bytes.iter_mut().filter(|byte| **byte == 255) {
+            *byte = 254;
         }
     });
 }
@@ -286,10 +390,51 @@ impl Subject for Overrun {
     fn survey(&self, record: &[u8], answer: &mut [u64]) -> Returned {
         Own.survey(record, answer)
     }
+
+    fn grey_size(&self, file: &[u8], answer: &mut [u64]) -> Returned {
+        let number = Own.grey_size(file, answer);
+        unsafe { *answer.as_mut_ptr().add(answer.len()) = 0 };
+        number
+    }
+
+    fn grey_in(
+        &self,
+        file: &[u8],
+        n: u64,
+        out: &mut [i32],
+        work: &mut [u32],
+        answer: &mut [u64],
+    ) -> Returned {
+        let number = Own.grey_in(file, n, out, work, answer);
+        unsafe { *work.as_mut_ptr().sub(1) = 0 };
+        number
+    }
+
+    fn grey_out(
+        &self,
+        pyramid: &[i32],
+        w: u64,
+        h: u64,
+        n: u64,
+        out: &mut [u8],
+        work: &mut [u32],
+        answer: &mut [u64],
+    ) -> Returned {
+        let number = Own.grey_out(pyramid, w, h, n, out, work, answer);
+        unsafe { *out.as_mut_ptr().add(out.len()) = 0 };
+        number
+    }
 }
 
 #[test]
 fn writing_outside_is_caught() {
-    let difference = compare(Routine::Serve, 10, &Overrun).unwrap_err();
-    assert_eq!(difference.what, "written outside of out");
+    for (routine, of) in [
+        (Routine::Serve, "out"),
+        (Routine::GreySize, "answer"),
+        (Routine::GreyIn, "work"),
+        (Routine::GreyOut, "out"),
+    ] {
+        let difference = compare(routine, 10, &Overrun).unwrap_err();
+        assert_eq!(difference.what, format!("written outside of {of}"));
+    }
 }

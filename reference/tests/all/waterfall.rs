@@ -1,34 +1,9 @@
-//! The sample waterfall and its transform.
+//! The sample waterfall.
 
 use crate::helpers::{coded, decoded, shape};
-use reference::generate::shapes::any_shape;
-use reference::generate::waterfall::{picture, pyramid, transform, transform_back};
+use reference::generate::waterfall::{picture, pyramid};
 use reference::generate::Chance;
-
-#[test]
-fn pictures_come_back_from_the_transform() {
-    let mut chance = Chance::new(31);
-    for _ in 0..60 {
-        let shape = any_shape(&mut chance);
-        let before = picture(&mut chance, shape.width() as usize, shape.height() as usize);
-        assert!(before.iter().all(|grey| (0..=255).contains(grey)));
-        let mut after = before.clone();
-        transform(&mut after, shape);
-        transform_back(&mut after, shape);
-        assert_eq!(after, before);
-    }
-}
-
-#[test]
-fn a_known_line() {
-    // Rows 10 20 30 40, each row the same, so that columns pass unchanged:
-    // high 20 - 20 = 0 and 40 - 30 = 10; low 10 + (0+0+2)/4 and 30 + (0+10+2)/4.
-    let mut cells = [10, 20, 30, 40].repeat(4);
-    transform(&mut cells, shape(4, 4, 1));
-    assert_eq!(cells[..4], [10, 33, 0, 10]);
-    assert_eq!(cells[4..8], [10, 33, 0, 10]);
-    assert_eq!(cells[8..], [0; 8]);
-}
+use std::process::Command;
 
 #[test]
 fn the_sample_is_a_waterfall() {
@@ -58,6 +33,43 @@ fn the_sample_codes_smaller_than_its_picture() {
     let record = coded(&pyramid, shape);
     assert!(record.len() < shape.area(), "{} bytes", record.len());
     assert_eq!(decoded(&record).1, pyramid);
+}
+
+/// The program's grey file is the picture of its pyramid.
+#[test]
+fn the_sample_as_a_grey_file() {
+    let run = |arguments: &[&str]| {
+        Command::new(env!("CARGO_BIN_EXE_waterfall"))
+            .args(arguments)
+            .output()
+            .expect("the program runs")
+    };
+    let file = run(&["64", "32", "6"]).stdout;
+    assert_eq!(file.len(), "P5\n64 32\n255\n".len() + 64 * 32);
+    let (mut made, mut work) = ([0; 64 * 32], [0; 4 * 64 * 32]);
+    assert_eq!(reference::grey_in(&file, 3, &mut made, &mut work).number, 0);
+    let bytes: Vec<u8> = made.iter().flat_map(|value| value.to_le_bytes()).collect();
+    assert!(run(&["64", "32", "3", "6"]).stdout == bytes);
+    for wrong in [
+        &["64", "32"][..],
+        &["62", "32", "6"],
+        &["64", "32", "5", "6"],
+    ] {
+        assert_eq!(run(wrong).status.code(), Some(2));
+    }
+}
+
+#[test]
+fn the_shipped_picture_is_made_here() {
+    let shipped = include_bytes!("../../../host/sample/waterfall.pgm");
+    let made = Command::new(env!("CARGO_BIN_EXE_waterfall"))
+        .args(["64", "64", "6"])
+        .output()
+        .expect("the program runs");
+    assert!(
+        made.stdout == shipped,
+        "waterfall 64 64 6 gives another picture"
+    );
 }
 
 #[test]

@@ -1,20 +1,20 @@
-//! `bench [RUNS [SIDE]]`: times of coder, server and decoder, N = 5, on squares
-//! of side 512, and how they grow from 64; or on squares of SIDE alone. With
-//! the feature `archive` also the archive's, with `openjpeg` also OpenJPEG's for
-//! the same picture; all on the same input, in turns.
+//! `bench [RUNS [SIDE]]`: times of coder, server and decoder, and of pictures in
+//! and out, N = 5, on squares of side 512, and how they grow from 64; or on
+//! squares of SIDE alone. With the feature `archive` also the archive's, with
+//! `openjpeg` also OpenJPEG's for the same picture, with `plain_c` also those of
+//! lifting in plain C; all on the same input, in turns.
 
-use reference::compare::{Own, Returned, Subject};
-use reference::generate::waterfall::transform_back;
+mod pictures;
+mod times;
+
+use pictures::{bench_pictures, bench_pictures_growth};
+use reference::compare::Subject;
 use reference::generate::{pyramids, records, waterfall, Chance};
+use reference::lifting::{halved, transform_back};
 use reference::openjpeg::{Jpeg2000, SquarePicture};
 use reference::portal::{CODE_ANSWER, DECODE_ANSWER, SERVE_ANSWER};
 use reference::size::Shape;
-use std::time::{Duration, Instant};
-
-#[cfg(feature = "archive")]
-const ARCHIVE: Option<&dyn Subject> = Some(&reference::archive::Archive);
-#[cfg(not(feature = "archive"))]
-const ARCHIVE: Option<&dyn Subject> = None;
+use times::{print_growth, print_heading, Row};
 
 #[cfg(feature = "openjpeg")]
 const OPENJPEG: Option<&dyn Jpeg2000> = Some(&reference::openjpeg::OpenJpeg);
@@ -30,10 +30,16 @@ const REQUESTS: [(u64, u64); 7] = [(1, 0), (2, 0), (3, 0), (4, 0), (1, 1), (1, 2
 fn main() {
     let arguments: Vec<String> = std::env::args().skip(1).collect();
     match parse(&arguments) {
-        Some((runs, Some(shape))) => bench_one(runs, shape),
+        Some((runs, Some(shape))) => {
+            bench_one(runs, shape);
+            bench_pictures(runs, shape);
+        }
         Some((runs, None)) => {
-            bench_one(runs, square(512).expect("512 is legal"));
+            let largest = square(512).expect("512 is legal");
+            bench_one(runs, largest);
+            bench_pictures(runs, largest);
             bench_growth(runs);
+            bench_pictures_growth(runs);
         }
         None => {
             eprintln!("usage: bench [RUNS [SIDE]], SIDE a multiple of 64 up to 512");
@@ -74,7 +80,7 @@ fn bench_one(runs: usize, shape: Shape) {
     );
     for mut sample in samples(shape) {
         sample.print_name();
-        print_heading();
+        print_heading(OPENJPEG.map(|_| "OpenJPEG"));
         sample.code(runs).print("code", sample.record.len());
         for (level, plane) in REQUESTS {
             let length = sample.served_length(level, plane);
@@ -98,36 +104,18 @@ fn bench_growth(runs: usize) {
         .collect();
     for kind in 0..2 {
         println!("{}", by_side[0][kind].name);
-        print_growth("code", &mut by_side, |sides| sides[kind].code(runs));
-        print_growth("serve", &mut by_side, |sides| sides[kind].serve(runs, 1, 0));
-        print_growth("decode", &mut by_side, |sides| {
-            sides[kind].decode(runs, 1, 0)
-        });
+        let mut of_each = |timed: &dyn Fn(&mut Sample) -> Row| -> Vec<(usize, Row)> {
+            let samples = by_side.iter_mut().map(|sides| &mut sides[kind]);
+            samples
+                .map(|sample| (sample.shape.area(), timed(sample)))
+                .collect()
+        };
+        print_growth("code", "OpenJPEG", &of_each(&|sample| sample.code(runs)));
+        let served = of_each(&|sample| sample.serve(runs, 1, 0));
+        print_growth("serve", "OpenJPEG", &served);
+        let decoded = of_each(&|sample| sample.decode(runs, 1, 0));
+        print_growth("decode", "OpenJPEG", &decoded);
     }
-}
-
-fn print_growth(
-    call: &str,
-    by_side: &mut [[Sample; 2]],
-    mut timed: impl FnMut(&mut [Sample; 2]) -> Row,
-) {
-    let rows: Vec<(usize, Row)> = by_side
-        .iter_mut()
-        .map(|sides| (sides[0].shape.area(), timed(sides)))
-        .collect();
-    let print = |who: &str, times_of: fn(&Row) -> Option<&Times>| {
-        if rows.iter().all(|(_, row)| times_of(row).is_some()) {
-            print!("  {call:6} {who:9}");
-            for (area, row) in &rows {
-                let least = times_of(row).map_or(0.0, |times| times.least);
-                print!(" {:8.3}", 1e3 * least / *area as f64);
-            }
-            println!();
-        }
-    };
-    print("reference", |row| Some(&row.reference));
-    print("archive", |row| row.archive.as_ref());
-    print("OpenJPEG", |row| row.openjpeg.as_ref());
 }
 
 /// A pyramid with its record, its picture and codestream, and all that is
@@ -181,15 +169,7 @@ impl Sample {
     }
 
     fn coarser_picture(&self, halvings: u32) -> Vec<i32> {
-        let side = self.shape.width() >> halvings;
-        let left = u64::from(self.shape.decompositions() - halvings);
-        let smaller = Shape::judge(side.into(), side.into(), left).expect("a legal size");
-        let rows = self.pyramid.chunks(self.shape.width() as usize);
-        let mut coarser: Vec<i32> = rows
-            .take(side as usize)
-            .flat_map(|row| &row[..side as usize])
-            .copied()
-            .collect();
+        let (mut coarser, smaller) = halved(&self.pyramid, self.shape, halvings);
         transform_back(&mut coarser, smaller);
         coarser
     }
@@ -223,7 +203,8 @@ impl Sample {
                 let mut answer = [0; CODE_ANSWER];
                 subject.code(pyramid, w, h, DECOMPOSITIONS, bytes, work, &mut answer)
             },
-            Some(&mut |codec| codec.encode(picture, &mut codestream)),
+            OPENJPEG,
+            |codec| codec.encode(picture, &mut codestream),
         );
         let record = &self.record;
         assert!(bytes.starts_with(record), "the last one coded the same");
@@ -237,7 +218,7 @@ impl Sample {
             let mut answer = [0; SERVE_ANSWER];
             subject.serve(record, level, plane, out, &mut answer)
         };
-        Row::take(runs, call, None)
+        Row::take(runs, call, None, |()| 0)
     }
 
     /// JPEG 2000 has no request for planes: it decodes whole, or with the side
@@ -248,111 +229,15 @@ impl Sample {
         let (coefficients, work) = (&mut self.coefficients, &mut self.work);
         let codestream = &self.codestream;
         let mut samples = vec![0; self.shape.area()];
-        let mut halved =
-            |codec: &dyn Jpeg2000| codec.decode(codestream, level as u32 - 1, &mut samples);
+        let halvings = level as u32 - 1;
         Row::take(
             runs,
             |subject| {
                 let mut answer = [0; DECODE_ANSWER];
                 subject.decode(served, coefficients, work, &mut answer)
             },
-            if plane == 0 { Some(&mut halved) } else { None },
+            OPENJPEG.filter(|_| plane == 0),
+            |codec| codec.decode(codestream, halvings, &mut samples),
         )
-    }
-}
-
-/// Answers how many bytes or samples were made.
-type JpegCall<'c> = &'c mut dyn FnMut(&dyn Jpeg2000) -> usize;
-
-/// The times of one call.
-struct Row {
-    reference: Times,
-    archive: Option<Times>,
-    openjpeg: Option<Times>,
-}
-
-impl Row {
-    /// All run in turns, so that whatever else the machine does falls on each.
-    fn take(
-        runs: usize,
-        mut call: impl FnMut(&dyn Subject) -> Returned,
-        mut jpeg: Option<JpegCall>,
-    ) -> Row {
-        let mut reference = Vec::with_capacity(runs);
-        let mut archive = Vec::with_capacity(runs);
-        let mut openjpeg = Vec::with_capacity(runs);
-        for _ in 0..runs {
-            reference.push(timed(|| assert_eq!(call(&Own), Ok(0), "it is accepted")));
-            if let Some(subject) = ARCHIVE {
-                archive.push(timed(|| assert_eq!(call(subject), Ok(0), "it is accepted")));
-            }
-            if let (Some(jpeg), Some(codec)) = (&mut jpeg, OPENJPEG) {
-                openjpeg.push(timed(|| assert!(jpeg(codec) > 0, "it works")));
-            }
-        }
-        Row {
-            reference: Times::of(reference).expect("there are runs"),
-            archive: Times::of(archive),
-            openjpeg: Times::of(openjpeg),
-        }
-    }
-
-    fn print(&self, name: &str, length: usize) {
-        print!("  {name:19} {length:7} {}", self.reference);
-        if let Some(archive) = &self.archive {
-            print!("  {archive}  {}", archive.beside(&self.reference));
-        }
-        if let Some(openjpeg) = &self.openjpeg {
-            let ours = self.archive.as_ref().unwrap_or(&self.reference);
-            print!("  {openjpeg}  {}", ours.beside(openjpeg));
-        }
-        println!();
-    }
-}
-
-/// A ratio is the archive's time (without an archive the reference's) to the
-/// other's.
-fn print_heading() {
-    print!("  {:19} {:>7} {:>19}", "", "bytes", "reference");
-    if ARCHIVE.is_some() {
-        print!("  {:>19}  {:>11}", "archive", "ratio");
-    }
-    if OPENJPEG.is_some() {
-        print!("  {:>19}  {:>11}", "OpenJPEG", "ratio");
-    }
-    println!();
-}
-
-fn timed(call: impl FnOnce()) -> Duration {
-    let begun = Instant::now();
-    call();
-    begun.elapsed()
-}
-
-/// In microseconds.
-struct Times {
-    least: f64,
-    median: f64,
-}
-
-impl Times {
-    fn of(mut times: Vec<Duration>) -> Option<Times> {
-        times.sort();
-        let microseconds = |time: &Duration| time.as_secs_f64() * 1e6;
-        Some(Times {
-            least: microseconds(times.first()?),
-            median: microseconds(times.get(times.len() / 2)?),
-        })
-    }
-
-    fn beside(&self, others: &Times) -> String {
-        let (least, median) = (self.least / others.least, self.median / others.median);
-        format!("{least:4.2} / {median:4.2}")
-    }
-}
-
-impl std::fmt::Display for Times {
-    fn fmt(&self, out: &mut std::fmt::Formatter) -> std::fmt::Result {
-        write!(out, "{:8.1} / {:8.1}", self.least, self.median)
     }
 }
