@@ -6,7 +6,7 @@ help:
 	@echo 'make test        the gate: every crate proved from nothing, every must-fail edit refused, all tests'
 	@echo 'make install     tool, library, header, pkg-config files, man pages, completion: PREFIX=/usr/local, DESTDIR before it; uninstall removes them'
 	@echo 'make needs       lists the packages that these need, and which are there; installs nothing'
-	@echo 'make bench       times of coder, server and decoder beside the reference and OpenJPEG: docs/BENCHMARKS.md; on x86-64 only'
+	@echo 'make bench       times of the calls beside the reference, plain C and OpenJPEG: docs/BENCHMARKS.md; on x86-64 only'
 	@echo 'make soak        ten million records, most of them damaged, decoded by the archive and by the reference, all memory lent compared; a line'
 	@echo '                 every ten seconds tells how far it is; half an hour or more, hours in an emulator; SEED=.. for other records'
 	@echo 'make clean       removes all that was made, what was proved too'

@@ -7,7 +7,8 @@
  * A smaller version of a record is some of its parts, so it is cut out of the
  * bytes without decoding them: that is serving. A survey tells what a record
  * holds, and so how much to lend for decoding it. Decoding makes a pyramid of
- * whatever parts of a record are there, and tells how far each level got.
+ * whatever parts of a record are there, and tells how far each level got. The
+ * pyramid of a picture is made of a grey file, and a grey file of a pyramid.
  *
  * Link with libafshtruni (x86-64), static or shared: pkg-config afshtruni tells
  * how. It needs no library but C's own, allocates nothing, keeps nothing
@@ -55,14 +56,15 @@ enum {
     AFS_SIZE = 1,    /* width, height, decompositions or planes not legal; place 0 */
     AFS_LENGTH = 2,  /* pyramid not exactly width x height; place 0; never from serving */
     AFS_WORK = 3,    /* workspace under 4 x width x height; place 0; never from serving */
-    AFS_RANGE = 4,   /* a magnitude over 65535; first such index; only from coding */
+    AFS_RANGE = 4,   /* a magnitude over 65535, from coding, or over 131071, from afs_grey_out(); first such index */
     AFS_ROOM = 5,    /* the output, or the answer, is too short; place 0 */
     AFS_HEAD = 6,    /* header ends early, or a number in it is malformed; offset of that number */
     AFS_VERSION = 7, /* version not 1; place 0 */
     AFS_PART = 8,    /* head of a part not legal; offset of the part */
     AFS_PAD = 9,     /* a padding bit set; offset of the part */
     AFS_FIT = 10,    /* bits of a part run out or are left over; offset of the part; only from decoding */
-    AFS_ASK = 11     /* level or plane asked for not legal; place 0; only from serving */
+    AFS_ASK = 11,    /* level or plane asked for not legal; place 0; only from serving */
+    AFS_GREY = 13    /* no grey file, or cut short; place 0; only from afs_grey_size() and afs_grey_in() */
 };
 
 /*
@@ -95,9 +97,10 @@ enum {
  *
  *   AFS_CODE_BOUND(w, h)   bytes in which every record that afs_code() makes of
  *                          such a pyramid has room: 6 x w x h + 640
- *   AFS_WORK(w, h)         numbers of workspace that coding and decoding need:
- *                          4 x w x h. Without parentheses AFS_WORK is the
- *                          refusal of a workspace that is shorter.
+ *   AFS_WORK(w, h)         numbers of workspace that coding and decoding need,
+ *                          and reading and writing grey files: 4 x w x h.
+ *                          Without parentheses AFS_WORK is the refusal of a
+ *                          workspace that is shorter.
  */
 #ifdef __cplusplus
 #define AFS_SIDE_(n) static_cast<size_t>(n)
@@ -374,6 +377,29 @@ enum {
 };
 
 /*
+ * HOW FAR A PIXEL MAY BE
+ *
+ * Where a record was made of a picture, by afs_grey_in() and afs_code(), and
+ * parts of it were left out or lost and its end cut off since, a pixel that
+ * afs_grey_out() prints of what afs_decode() made is at most E grey values from
+ * the recorded one. With m_k the reached plane of level k,
+ *
+ *   E = 2^m_(N+1) - 1, and for each k of 1 to N with m_k > 0: + 3 x 2^m_k
+ *
+ * and never over 255. In the picture halved S times the sum begins at k = S + 1,
+ * and the recorded pixel is that of the whole record's picture halved likewise.
+ * Proved as pixel-near, in crates/pictures/specs/Laws/PixelNear. For other
+ * pyramids, and where a byte was changed or lost inside a part, there is no such
+ * bound.
+ *
+ *   const uint64_t *reached = answer + AFS_DECODED_REACHED;
+ *   uint64_t e = ((uint64_t)1 << reached[n]) - 1;
+ *   for (uint64_t k = s + 1; k <= n; k++)
+ *       e += reached[k - 1] > 0 ? (uint64_t)3 << reached[k - 1] : 0;
+ *   e = e < 255 ? e : 255;
+ */
+
+/*
  * afs_decode() - make a pyramid of the parts of a record that are there.
  *
  * Any selection of a record's parts, in their order, is a record. A part is
@@ -454,6 +480,216 @@ uint64_t afs_decode(const uint8_t *record, size_t record_len,
                     int32_t *out, size_t out_len,
                     uint32_t *work, size_t work_len,
                     uint64_t *answer, size_t answer_len);
+
+/*
+ * GREY FILES
+ *
+ * Pictures come in and go out as binary grey files of Netpbm's: P5, maxval 255.
+ *
+ *   file     'P' '5' gap width gap height gap maxval end pixels rest
+ *   gap      one or more of: a blank; a comment
+ *   blank    space, TAB, LF or CR
+ *   comment  '#' and all bytes up to the next LF or CR, which is a blank then
+ *   number   (width, height, maxval) digits; zeros in front don't matter
+ *   end      one blank; or a comment and the LF or CR that ended it
+ *   pixels   width x height bytes, row by row
+ *   rest     anything; it isn't looked at
+ *
+ * maxval is 255. What is written has no comment, one space between width and
+ * height, and else LF: 'P5', LF, width, space, height, LF, '255', LF, pixels.
+ *
+ * A picture becomes a pyramid, and a pyramid a picture, by the reversible 5/3
+ * lifting of JPEG 2000, without a level shift, N times. Every pixel comes back
+ * as it was; and afs_code() never refuses what afs_grey_in() made.
+ */
+
+/*
+ * ANSWER OF READING A GREY FILE
+ *
+ * Where each number stands in the answers of afs_grey_size() and afs_grey_in(),
+ * and how many there are. An answer may be longer; what is beyond is set to 0.
+ */
+enum {
+    AFS_GREY_READ_NUMBER = 0, /* one of the numbers above, the same as is returned */
+    AFS_GREY_READ_PLACE = 1,  /* 0 */
+    AFS_GREY_READ_WIDTH = 2,  /* as the file tells it, 0 if refused */
+    AFS_GREY_READ_HEIGHT = 3, /* so too */
+    AFS_GREY_READ_NUMBERS = 4 /* the least length of the answer */
+};
+
+/*
+ * afs_grey_size() - tell the width and height of a grey file.
+ *
+ * So that a caller knows how much to lend to afs_grey_in(). Both say 13 of the
+ * same files. Whether the sizes are legal isn't judged here: a number is told
+ * as the file has it, or as 2^64 - 1 where it is greater. width x height is
+ * never more than file_len.
+ *
+ *   file, file_len       the file; only read
+ *   answer, answer_len   where the answer goes, at least AFS_GREY_READ_NUMBERS
+ *
+ * Returns the number, which is also answer[AFS_GREY_READ_NUMBER] where the
+ * answer is long enough.
+ *
+ *   5 ROOM     answer_len is under 4. This alone is judged before the file,
+ *              and only returned: the answer itself is all 0.
+ *   13 GREY    not a file as above: another beginning than P5, a number that is
+ *              missing, another maxval than 255, header or pixels cut short.
+ *              Place 0.
+ *
+ * Memory after the call.
+ *
+ *   outcome            answer
+ *   accepted           0, 0, width, height, 0 ...
+ *   refused            13, 0, 0, 0, 0 ...
+ *   answer too short   all 0
+ *
+ * Example. Of these 27 bytes,
+ *
+ *   50 35 0A 34 20 34 0A 32 35 35 0A    'P5', '4 4', '255'
+ *   00 0A 14 1E  28 32 3C 46  50 5A 64 6E  FF 00 FF 00
+ *
+ * the answer is 0, 0, 4, 4. Of the first 26 it is 13, 0, 0, 0.
+ */
+uint64_t afs_grey_size(const uint8_t *file, size_t file_len,
+                       uint64_t *answer, size_t answer_len);
+
+/*
+ * afs_grey_in() - make the pyramid of a grey file.
+ *
+ *   file, file_len       the file; only read
+ *   decompositions       N, 1 to 5
+ *   out, out_len         where the pyramid goes: exactly width x height of the
+ *                        file, row by row
+ *   work, work_len       workspace, at least 4 x width x height numbers
+ *   answer, answer_len   where the answer goes, at least AFS_GREY_READ_NUMBERS
+ *
+ * Returns the number, which is also answer[AFS_GREY_READ_NUMBER] where the
+ * answer is long enough.
+ *
+ * Numbers, in the order in which they are judged; the first that is due is
+ * given:
+ *
+ *   5 ROOM     answer_len is under 4. This alone is judged before all else,
+ *              and only returned: the answer itself is all 0.
+ *   13 GREY    as afs_grey_size(). Place 0.
+ *   1 SIZE     decompositions not 1 to 5, or width or height not 4 to 512 or
+ *              not a multiple of 2^(N+1). Place 0.
+ *   2 LENGTH   out_len is not exactly width x height. Place 0.
+ *   3 WORK     work_len is under 4 x width x height. Place 0.
+ *
+ * Memory after the call.
+ *
+ *   outcome            out           answer                          work
+ *   accepted           the pyramid   0, 0, width, height, 0 ...      all 0
+ *   refused            all 0         number, 0, 0, 0, 0 ...          all 0
+ *   answer too short   all 0         all 0                           all 0
+ *
+ * `decompositions` is never truncated: 2^32 + 1 is not 1, but SIZE.
+ *
+ * Example. With the 27 bytes that stand at afs_grey_size(),
+ *
+ *   int32_t out[16];
+ *   uint32_t work[64];
+ *   uint64_t answer[AFS_GREY_READ_NUMBERS];
+ *   if (afs_grey_in(file, 27, 1, out, 16, work, 64, answer, 4) == AFS_ACCEPTED)
+ *       code(out, answer[AFS_GREY_READ_WIDTH], answer[AFS_GREY_READ_HEIGHT]);
+ *
+ * answers 0, 0, 4, 4, and `out` holds
+ *
+ *      0   23    0   10
+ *     93  109  -63  -56
+ *      0    0    0    0
+ *     48   25 -255 -265
+ *
+ * With an `out` of 15 numbers it answers 2, 0, 0, 0, and those are all 0.
+ */
+uint64_t afs_grey_in(const uint8_t *file, size_t file_len, uint64_t decompositions,
+                     int32_t *out, size_t out_len,
+                     uint32_t *work, size_t work_len,
+                     uint64_t *answer, size_t answer_len);
+
+/*
+ * ANSWER OF WRITING A GREY FILE
+ *
+ * Where each number stands in the answer of afs_grey_out(), and how many there
+ * are. An answer may be longer; what is beyond is set to 0.
+ */
+enum {
+    AFS_GREY_WRITTEN_NUMBER = 0,  /* one of the numbers above, the same as is returned */
+    AFS_GREY_WRITTEN_PLACE = 1,   /* place of a refusal, else 0 */
+    AFS_GREY_WRITTEN_LENGTH = 2,  /* bytes written to the front of the output, 0 if refused */
+    AFS_GREY_WRITTEN_CLIPPED = 3, /* pixels that were under 0 or over 255, 0 if refused */
+    AFS_GREY_WRITTEN_NUMBERS = 4  /* the least length of the answer */
+};
+
+/*
+ * afs_grey_out() - make the grey file of a pyramid.
+ *
+ * A pyramid that was decoded from some of a record's parts, or that was made of
+ * no picture, may give pixels under 0 or over 255. They are set to the nearer
+ * end, and counted. The top left block of width / 2^S columns and height / 2^S
+ * rows, S under N, is a pyramid of N - S decompositions: its picture is the one
+ * halved S times.
+ *
+ *   pyramid, pyramid_len   the coefficients, exactly width x height of them;
+ *                          only read
+ *   width, height          4 to 512
+ *   decompositions         N, 1 to 5
+ *   out, out_len           where the file goes; width x height + 15 bytes are
+ *                          always enough
+ *   work, work_len         workspace, at least 4 x width x height numbers
+ *   answer, answer_len     where the answer goes, at least
+ *                          AFS_GREY_WRITTEN_NUMBERS
+ *
+ * Returns the number, which is also answer[AFS_GREY_WRITTEN_NUMBER] where the
+ * answer is long enough.
+ *
+ * Numbers, in the order in which they are judged; the first that is due is
+ * given:
+ *
+ *   5 ROOM     answer_len is under 4. This alone is judged before all else,
+ *              and only returned: the answer itself is all 0.
+ *   1 SIZE     decompositions not 1 to 5, or width or height not 4 to 512 or
+ *              not a multiple of 2^(N+1). Place 0.
+ *   2 LENGTH   pyramid_len is not exactly width x height. Place 0.
+ *   3 WORK     work_len is under 4 x width x height. Place 0.
+ *   4 RANGE    a magnitude is over 131071, as no decoded one is. Place: the
+ *              index of the first one.
+ *   5 ROOM     the whole file is longer than out_len. Place 0.
+ *
+ * Memory after the call.
+ *
+ *   outcome            out                     answer                           work
+ *   accepted           the file, 0 after it    0, 0, length, clipped, 0 ...     all 0
+ *   refused            all 0                   number, place, 0, 0, 0 ...       all 0
+ *   answer too short   all 0                   all 0                            all 0
+ *
+ * `width`, `height` and `decompositions` are never truncated.
+ *
+ * Example. With the pyramid of 4 x 4 that stands at afs_grey_in(),
+ *
+ *   uint8_t out[31];
+ *   uint32_t work[64];
+ *   uint64_t answer[AFS_GREY_WRITTEN_NUMBERS];
+ *   if (afs_grey_out(pyramid, 16, 4, 4, 1, out, 31, work, 64, answer, 4) == AFS_ACCEPTED)
+ *       print(out, answer[AFS_GREY_WRITTEN_LENGTH]);
+ *
+ * answers 0, 0, 27, 0, and `out` holds the 27 bytes that stand at
+ * afs_grey_size() and then 4 of 0. An `out` of 27 bytes does as well. With one
+ * of 26 the answer is 5, 0, 0, 0, and those are all 0.
+ *
+ * With the pyramid that stands at afs_code(), which was made of no picture, the
+ * answer is 0, 0, 27, 5: five of its pixels are under 0, and `out` holds
+ *
+ *   50 35 0A 34 20 34 0A 32 35 35 0A
+ *   04 01 00 00  02 01 00 00  02 01 01 00  02 01 01 00
+ */
+uint64_t afs_grey_out(const int32_t *pyramid, size_t pyramid_len,
+                      uint64_t width, uint64_t height, uint64_t decompositions,
+                      uint8_t *out, size_t out_len,
+                      uint32_t *work, size_t work_len,
+                      uint64_t *answer, size_t answer_len);
 
 #ifdef __cplusplus
 }

@@ -8,6 +8,9 @@ _afs() {
         esac
     done
     case $before in
+    -n | --decompositions) mapfile -t COMPREPLY < <(compgen -W '1 2 3 4 5' -- "$word") && return ;;
+    -s | --halve) mapfile -t COMPREPLY < <(compgen -W '0 1 2 3 4' -- "$word") && return ;;
+    -e | --error) return ;;
     -r | --level) mapfile -t COMPREPLY < <(compgen -W '1 2 3 4 5 6' -- "$word") && return ;;
     -p | --plane) mapfile -t COMPREPLY < <(compgen -W '{0..17}' -- "$word") && return ;;
     -o | --output) compopt -o filenames && mapfile -t COMPREPLY < <(compgen -f -- "$word") && return ;;
@@ -15,9 +18,11 @@ _afs() {
     case $command:$word in
     :-*) mapfile -t COMPREPLY < <(compgen -W '--help --version' -- "$word") ;;
     :*) mapfile -t COMPREPLY < <(compgen -W 'code serve decode parts explain' -- "$word") ;;
-    code:-*) mapfile -t COMPREPLY < <(compgen -W '--output --force --quiet --help' -- "$word") ;;
-    serve:-*) mapfile -t COMPREPLY < <(compgen -W '--level --plane --output --force --quiet --help' -- "$word") ;;
-    decode:-*) mapfile -t COMPREPLY < <(compgen -W '--level --plane --whole --check --json --output --force --quiet --help' -- "$word") ;;
+    code:-*) mapfile -t COMPREPLY < <(compgen -W '--decompositions --output --force --quiet --help' -- "$word") ;;
+    serve:-*) mapfile -t COMPREPLY < <(compgen -W '--level --plane --error --output --force --quiet --help' -- "$word") ;;
+    decode:-*)
+        mapfile -t COMPREPLY < <(compgen -W '--grey --halve --level --plane --whole --check --json --output --force --quiet --help' -- "$word")
+        ;;
     parts:-* | explain:-*) mapfile -t COMPREPLY < <(compgen -W '--json --output --force --quiet --help' -- "$word") ;;
     *) compopt -o filenames && mapfile -t COMPREPLY < <(compgen -f -- "$word") ;;
     esac

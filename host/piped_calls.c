@@ -2,9 +2,10 @@
  * Makes the archive's calls for a program that can't link it: reads calls from standard input until it ends, and writes to standard output
  * what each returned and what became of the memory that it was lent.
  *
- * A call is a letter (c, s, d or v for code, serve, decode or survey), its numbers, and each of its stretches of memory as length in bytes
- * and contents, in the order of afshtruni.h. Its answer is the returned number and the contents of the stretches, in the same order. A
- * number between them has 64 bits, lowest byte first, and contents are as they stand in the memory of an x86-64.
+ * A call is a letter (c, s, d or v for code, serve, decode or survey; g, i or o for grey_size, grey_in or grey_out), its numbers, and each of
+ * its stretches of memory as length in bytes and contents, in the order of afshtruni.h. Its answer is the returned number and the contents of
+ * the stretches, in the same order. A number between them has 64 bits, lowest byte first, and contents are as they stand in the memory of an
+ * x86-64.
  *
  * It fails where the input ends inside of a call, or where a call has written next to the memory that it was lent.
  */
@@ -111,6 +112,35 @@ static void survey(void) {
     give_memory(answer);
 }
 
+static void grey_size(void) {
+    Lent file = take_memory(), answer = take_memory();
+    give_number(afs_grey_size(file.at, file.size, answer.at, answer.size / sizeof(uint64_t)));
+    give_memory(file);
+    give_memory(answer);
+}
+
+static void grey_in(void) {
+    uint64_t decompositions = take_number();
+    Lent file = take_memory(), out = take_memory(), work = take_memory(), answer = take_memory();
+    give_number(afs_grey_in(file.at, file.size, decompositions, out.at, out.size / sizeof(int32_t), work.at, work.size / sizeof(uint32_t),
+                            answer.at, answer.size / sizeof(uint64_t)));
+    give_memory(file);
+    give_memory(out);
+    give_memory(work);
+    give_memory(answer);
+}
+
+static void grey_out(void) {
+    uint64_t width = take_number(), height = take_number(), decompositions = take_number();
+    Lent pyramid = take_memory(), out = take_memory(), work = take_memory(), answer = take_memory();
+    give_number(afs_grey_out(pyramid.at, pyramid.size / sizeof(int32_t), width, height, decompositions, out.at, out.size, work.at,
+                             work.size / sizeof(uint32_t), answer.at, answer.size / sizeof(uint64_t)));
+    give_memory(pyramid);
+    give_memory(out);
+    give_memory(work);
+    give_memory(answer);
+}
+
 int main(void) {
     for (int call; (call = getchar()) != EOF;) {
         switch (call) {
@@ -125,6 +155,15 @@ int main(void) {
             break;
         case 'v':
             survey();
+            break;
+        case 'g':
+            grey_size();
+            break;
+        case 'i':
+            grey_in();
+            break;
+        case 'o':
+            grey_out();
             break;
         default:
             fail("no such call");

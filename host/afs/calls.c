@@ -1,11 +1,9 @@
 #include "calls.h"
 
-#include "record.h"
-
 #include <stdlib.h>
 #include <string.h>
 
-enum { COEFFICIENT_BYTES = 4, WORK_PER_COEFFICIENT = AFS_WORK(1, 1) };
+enum { COEFFICIENT_BYTES = 4 };
 
 /* What the description of afs_code() calls always enough. */
 static size_t room_for_record(size_t coefficients) {
@@ -30,22 +28,28 @@ static size_t coefficients_in(Bytes pyramid) {
     return pyramid.length % COEFFICIENT_BYTES == 0 ? pyramid.length / COEFFICIENT_BYTES : 0;
 }
 
-Outcome code(Bytes pyramid, uint64_t width, uint64_t height, uint64_t decompositions) {
-    size_t count = coefficients_in(pyramid), room = room_for_record(count), work_count = WORK_PER_COEFFICIENT * count;
-    int32_t *coefficients = memory_for(count, sizeof *coefficients);
+Outcome code_numbers(const int32_t *pyramid, size_t count, uint64_t width, uint64_t height, uint64_t decompositions) {
+    size_t room = room_for_record(count), work_count = WORK_PER_COEFFICIENT * count;
     uint32_t *work = memory_for(work_count, sizeof *work);
     uint8_t *out = memory_for(room, 1);
     uint64_t answer[AFS_CODED_NUMBERS];
-    for (size_t i = 0; i < count; i++)
-        coefficients[i] = coefficient_at(pyramid.at + COEFFICIENT_BYTES * i);
-    afs_code(coefficients, count, width, height, decompositions, out, room, work, work_count, answer, AFS_CODED_NUMBERS);
+    afs_code(pyramid, count, width, height, decompositions, out, room, work, work_count, answer, AFS_CODED_NUMBERS);
     free(work);
-    free(coefficients);
     return (Outcome){
         .number = answer[AFS_CODED_NUMBER],
         .place = answer[AFS_CODED_PLACE],
         .bytes = {out, answer[AFS_CODED_LENGTH]},
     };
+}
+
+Outcome code(Bytes pyramid, uint64_t width, uint64_t height, uint64_t decompositions) {
+    size_t count = coefficients_in(pyramid);
+    int32_t *coefficients = memory_for(count, sizeof *coefficients);
+    for (size_t i = 0; i < count; i++)
+        coefficients[i] = coefficient_at(pyramid.at + COEFFICIENT_BYTES * i);
+    Outcome outcome = code_numbers(coefficients, count, width, height, decompositions);
+    free(coefficients);
+    return outcome;
 }
 
 Outcome serve(Bytes record, uint64_t level, uint64_t plane) {
@@ -79,20 +83,32 @@ static Outcome decode_into(Bytes record, int32_t *pyramid, size_t count, uint32_
     return outcome;
 }
 
-Outcome decode(Bytes record) {
+Outcome decode_numbers(Bytes record, int32_t **pyramid, Header *header) {
+    *pyramid = NULL;
     /* No pyramid is empty: a header at fault is refused here for its fault, and a good one for LENGTH. */
     Outcome header_judged = decode_into(record, NULL, 0, NULL, 0);
     if (header_judged.number != AFS_LENGTH)
         return header_judged;
     const uint8_t *at = record.at;
-    Header header = read_header(&at);
-    size_t count = (size_t)header.width * header.height, work_count = WORK_PER_COEFFICIENT * count;
-    int32_t *pyramid = memory_for(count, sizeof *pyramid);
+    *header = read_header(&at);
+    size_t count = (size_t)header->width * header->height, work_count = WORK_PER_COEFFICIENT * count;
+    int32_t *numbers = memory_for(count, sizeof *numbers);
     uint32_t *work = memory_for(work_count, sizeof *work);
-    Outcome outcome = decode_into(record, pyramid, count, work, work_count);
-    if (outcome.number == AFS_ACCEPTED)
-        outcome.bytes = bytes_of(pyramid, count);
+    Outcome outcome = decode_into(record, numbers, count, work, work_count);
     free(work);
+    if (outcome.number == AFS_ACCEPTED)
+        *pyramid = numbers;
+    else
+        free(numbers);
+    return outcome;
+}
+
+Outcome decode(Bytes record) {
+    int32_t *pyramid;
+    Header header;
+    Outcome outcome = decode_numbers(record, &pyramid, &header);
+    if (pyramid != NULL)
+        outcome.bytes = bytes_of(pyramid, (size_t)header.width * header.height);
     free(pyramid);
     return outcome;
 }
@@ -101,6 +117,7 @@ const char *name_of(uint64_t number) {
     static const char *const names[] = {
         [AFS_ACCEPTED] = "ACCEPTED", [AFS_SIZE] = "SIZE", [AFS_LENGTH] = "LENGTH",   [AFS_WORK] = "WORK", [AFS_RANGE] = "RANGE", [AFS_ROOM] = "ROOM",
         [AFS_HEAD] = "HEAD",         [AFS_VERSION] = "VERSION", [AFS_PART] = "PART", [AFS_PAD] = "PAD",   [AFS_FIT] = "FIT",     [AFS_ASK] = "ASK",
+        [AFS_GREY] = "GREY",
     };
     return number < sizeof names / sizeof *names && names[number] != NULL ? names[number] : "UNKNOWN";
 }

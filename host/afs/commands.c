@@ -4,8 +4,10 @@
 #include "holding.h"
 #include "json.h"
 #include "messages.h"
+#include "nearness.h"
 #include "notes.h"
 #include "output.h"
+#include "pictures.h"
 #include "progress.h"
 #include "refusals.h"
 #include "telling.h"
@@ -25,11 +27,15 @@ typedef struct {
 static Outcome call(const Request *request, Bytes input) {
     switch (request->command) {
     case CODE:
+        if (request->is_picture)
+            return code_picture(input, request->has_decompositions ? &request->decompositions : NULL);
         return code(input, request->width, request->height, request->decompositions);
     case SERVE:
-        return serve(input, request->level, request->plane);
+        return request->has_most ? serve_within(input, request->most) : serve(input, request->level, request->plane);
     case PARTS:
         return serve(input, 1, 0);
+    case DECODE:
+        return request->grey ? print_picture(input, request->halvings) : decode(input);
     default:
         return decode(input);
     }
@@ -37,7 +43,7 @@ static Outcome call(const Request *request, Bytes input) {
 
 /* What decoding was to expect has to be something that can be asked for. */
 static Outcome call_and_judge(const Request *request, Bytes input) {
-    if (request->command == DECODE && request->has_expectation) {
+    if (request->command == DECODE && request->asks) {
         Outcome served = serve(input, request->level, request->plane);
         free(served.bytes.at);
         served.bytes = (Bytes){NULL, 0};
@@ -98,6 +104,8 @@ static int finish_decoded(const Turn *turn, const Outcome *outcome) {
     bool is_short = lacks(request, &holding), is_too_short = is_short && request->whole;
     if (is_short)
         note_decoded(request, turn->name, &holding);
+    if (outcome->clipped > 0)
+        note_clipped(request, turn->name, outcome->clipped);
     if (request->json)
         tell(turn, outcome);
     else if (!request->check && !is_too_short)

@@ -1,6 +1,6 @@
 #include "json.h"
 
-#include "holding.h"
+#include "nearness.h"
 
 #include <inttypes.h>
 #include <string.h>
@@ -57,6 +57,14 @@ static void tell_reached(FILE *out, const Holding *holding) {
     fputc(']', out);
 }
 
+/* For the picture itself, and for each halving of it. */
+static void tell_farthest_pixels(FILE *out, const Holding *holding) {
+    fputs(", \"farthest_pixels\": [", out);
+    for (uint32_t halvings = 0; halvings < holding->header.decompositions; halvings++)
+        fprintf(out, "%s%" PRIu64, halvings > 0 ? ", " : "", farthest_pixel(holding, halvings));
+    fputc(']', out);
+}
+
 static void tell_parts(FILE *out, Bytes record, const Outcome *outcome) {
     const uint8_t *at = record.at, *end = end_of_parts(record, outcome);
     const char *before = "";
@@ -86,17 +94,19 @@ void tell_accepted(FILE *out, const Request *request, const char *name, Bytes re
     Holding holding = holding_of(record, outcome);
     tell_outcome(out, name, record.length, outcome, NULL);
     tell_sizes(out, holding.header);
-    if (request->command == PARTS)
-        fputs(", \"reached\": null", out);
-    else
+    if (request->command == PARTS) {
+        fputs(", \"reached\": null, \"farthest_pixels\": null", out);
+    } else {
         tell_reached(out, &holding);
+        tell_farthest_pixels(out, &holding);
+    }
     tell_parts(out, record, outcome);
     tell_missing(out, &holding);
     fprintf(out, ", \"tail\": %" PRIu64 ", \"lacks\": %s}\n", outcome->tail, lacks(request, &holding) ? "true" : "false");
 }
 
-static const char nothing_known[] = ", \"width\": null, \"height\": null, \"decompositions\": null, \"planes\": null, \"reached\": null, \"parts\": null, "
-                                    "\"missing\": null, \"tail\": null, \"lacks\": null}\n";
+static const char nothing_known[] = ", \"width\": null, \"height\": null, \"decompositions\": null, \"planes\": null, \"reached\": null, "
+                                    "\"farthest_pixels\": null, \"parts\": null, \"missing\": null, \"tail\": null, \"lacks\": null}\n";
 
 void tell_refused(FILE *out, const char *name, Bytes record, const Outcome *outcome, const char *why) {
     tell_outcome(out, name, record.length, outcome, why);

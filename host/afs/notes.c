@@ -1,10 +1,18 @@
 #include "notes.h"
 
 #include "messages.h"
+#include "nearness.h"
 #include "text.h"
 
 #include <inttypes.h>
 #include <stdlib.h>
+
+static const char if_picture[] = "if it was made of a picture, a printed pixel is at most";
+
+static void tell_farthest(FILE *out, const Request *request, const Holding *holding) {
+    if (request->grey)
+        fprintf(out, "; %s %" PRIu64 " grey values from the recorded one", if_picture, farthest_pixel(holding, (uint32_t)request->halvings));
+}
 
 static void note(const char *name, Text *text) {
     Bytes said = end_text(text);
@@ -13,13 +21,14 @@ static void note(const char *name, Text *text) {
 }
 
 /* All levels, where all of the record was to be expected. */
-static void note_reached(const char *name, const Holding *holding) {
+static void note_reached(const Request *request, const char *name, const Holding *holding) {
     Text text;
     begin_text(&text);
     fputs("reached planes", text.stream);
     for (uint32_t level = 1; level <= holding->levels; level++)
         fprintf(text.stream, " %" PRIu64, holding->reached[level - 1]);
     fprintf(text.stream, " (level 1 first), tail %" PRIu64, holding->tail);
+    tell_farthest(text.stream, request, holding);
     note(name, &text);
 }
 
@@ -39,6 +48,7 @@ static void note_short(const Request *request, const char *name, const Holding *
         fprintf(text.stream, ", expected plane %" PRIu64 "; ", expected);
     }
     fprintf(text.stream, "tail %" PRIu64, holding->tail);
+    tell_farthest(text.stream, request, holding);
     note(name, &text);
 }
 
@@ -48,16 +58,25 @@ void note_decoded(const Request *request, const char *name, const Holding *holdi
     if (request->has_expectation)
         note_short(request, name, holding);
     else
-        note_reached(name, holding);
+        note_reached(request, name, holding);
+}
+
+void note_clipped(const Request *request, const char *name, uint64_t clipped) {
+    if (!request->quiet && !request->json)
+        complain("%s: pixels under 0 or over 255, set to the nearer end: %" PRIu64, name, clipped);
 }
 
 void note_served(const Request *request, const char *name, const Outcome *served) {
     if (request->quiet)
         return;
+    if (request->has_most)
+        complain("%s: served for plane %" PRIu64 "; %s %" PRIu64 " grey values from the recorded one%s", name, served->plane, if_picture,
+                 served->farthest, served->farthest > request->most ? ", and nothing nearer can be served, as parts are missing" : "");
     Outcome without_tail = *served;
     without_tail.tail = 0;
     Holding kept = holding_of(served->bytes, &without_tail);
-    uint64_t asked = (kept.header.planes - request->plane) * (kept.levels + 1 - request->level), there = count_parts(&kept, is_there);
+    uint64_t plane = request->has_most ? served->plane : request->plane;
+    uint64_t asked = (kept.header.planes - plane) * (kept.levels + 1 - request->level), there = count_parts(&kept, is_there);
     if (there < asked)
         complain("%s: lacks %" PRIu64 " of the %" PRIu64 " parts asked for", name, asked - there, asked);
     if (served->tail > 0)

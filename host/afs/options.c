@@ -10,14 +10,11 @@
 #include <stdlib.h>
 #include <string.h>
 
-static const struct {
-    const char *name;
-    unsigned numbers; /* how many numbers stand before FILE */
-} commands[COMMANDS] = {[CODE] = {"code", 3}, [SERVE] = {"serve", 0}, [DECODE] = {"decode", 0}, [PARTS] = {"parts", 0}, [EXPLAIN] = {"explain", 0}};
+static const char *const commands[COMMANDS] = {[CODE] = "code", [SERVE] = "serve", [DECODE] = "decode", [PARTS] = "parts", [EXPLAIN] = "explain"};
 
 enum { EVERY = (1 << COMMANDS) - 1 };
 
-typedef enum { LEVEL, PLANE, WHOLE, CHECK, JSON, OUTPUT, FORCE, QUIET, HELP, VERSION_OPTION, OPTIONS } Option;
+typedef enum { DECOMPOSITIONS, LEVEL, PLANE, GREY, HALVE, MOST, WHOLE, CHECK, JSON, OUTPUT, FORCE, QUIET, HELP, VERSION_OPTION, OPTIONS } Option;
 
 static const struct {
     char letter; /* or 0 */
@@ -26,8 +23,12 @@ static const struct {
     unsigned commands;    /* bits of those that it is for */
     const char *is_for;   /* the same in words */
 } options[OPTIONS] = {
+    [DECOMPOSITIONS] = {'n', "decompositions", "a number", 1 << CODE, "code"},
     [LEVEL] = {'r', "level", "a level", 1 << SERVE | 1 << DECODE, "serve and decode"},
     [PLANE] = {'p', "plane", "a plane", 1 << SERVE | 1 << DECODE, "serve and decode"},
+    [GREY] = {'g', "grey", NULL, 1 << DECODE, "decode"},
+    [HALVE] = {'s', "halve", "a number", 1 << DECODE, "decode"},
+    [MOST] = {'e', "error", "a number", 1 << SERVE, "serve"},
     [WHOLE] = {0, "whole", NULL, 1 << DECODE, "decode"},
     [CHECK] = {0, "check", NULL, 1 << DECODE, "decode"},
     [JSON] = {0, "json", NULL, 1 << DECODE | 1 << PARTS | 1 << EXPLAIN, "parts, explain and decode --check"},
@@ -63,13 +64,20 @@ static _Noreturn void print_and_exit(const char *text) {
 
 static void take_option(Option option, const char *argument, Request *request) {
     switch (option) {
+    case DECOMPOSITIONS:
+        request->decompositions = number_from("N", 1, 5, argument);
+        break;
     case LEVEL:
         request->level = number_from("LEVEL", 1, 6, argument);
-        request->has_expectation = true;
         break;
     case PLANE:
         request->plane = number_from("PLANE", 0, 17, argument);
-        request->has_expectation = true;
+        break;
+    case HALVE:
+        request->halvings = number_from("S", 0, 4, argument);
+        break;
+    case MOST:
+        request->most = number_from("E", 0, 255, argument);
         break;
     case OUTPUT:
         request->out = argument;
@@ -156,7 +164,7 @@ static void read_words(char **argv, Words *words, Request *request) {
 
 static Command command_named(const char *name) {
     for (Command command = 0; command < COMMANDS; command++)
-        if (strcmp(commands[command].name, name) == 0)
+        if (strcmp(commands[command], name) == 0)
             return command;
     misused("no command '%s': code, serve, decode, parts and explain are there", name);
 }
@@ -170,6 +178,10 @@ static void judge_options(const Words *words, const Request *request) {
         }
     if (request->json && request->command == DECODE && !request->check)
         misused("--json is for %s", options[JSON].is_for);
+    if (words->given[HALVE] && !request->grey)
+        misused("%s is for pictures: -g, or -o NAME.pgm, stands beside it", words->as_word[HALVE] ? "--halve" : "-s");
+    if (request->has_most && (words->given[LEVEL] || words->given[PLANE]))
+        misused("beside %s there is no place for -r or -p", words->as_word[MOST] ? "--error" : "-e");
     if (request->out != NULL && request->check && !request->json)
         misused("--check writes nothing, so there is no place for -o");
 }
@@ -178,16 +190,26 @@ static bool takes_many(const Request *request) {
     return request->command == PARTS || request->command == EXPLAIN || request->check;
 }
 
+/* W, H and N of a pyramid stand before its file; where there is at most one operand, it is a picture. */
+static size_t read_numbers(const Words *words, Request *request) {
+    static const char *const names[] = {"W", "H", "N"};
+    uint64_t *const numbers[] = {&request->width, &request->height, &request->decompositions};
+    request->is_picture = request->command == CODE && words->count <= 2;
+    if (request->command != CODE || request->is_picture)
+        return 1;
+    if (words->count == 3)
+        misused("before a pyramid stand W, H and N, and before a picture nothing");
+    if (words->given[DECOMPOSITIONS])
+        misused("%s is for pictures; of a pyramid N stands behind W and H", words->as_word[DECOMPOSITIONS] ? "--decompositions" : "-n");
+    for (size_t i = 0; i < 3; i++)
+        *numbers[i] = number_from(names[i], i < 2 ? 4 : 1, i < 2 ? 512 : 5, words->operands[1 + i]);
+    return 4;
+}
+
 /* Command, numbers, files. */
 static void read_operands(const Words *words, Request *request) {
     static char *const standard_input[] = {"-"};
-    static const char *const legal[] = {"W", "H", "N"};
-    uint64_t *const numbers[] = {&request->width, &request->height, &request->decompositions};
-    size_t before_files = 1 + commands[request->command].numbers;
-    if (words->count < before_files)
-        misused("%s needs W, H and N", commands[request->command].name);
-    for (size_t i = 1; i < before_files; i++)
-        *numbers[i - 1] = number_from(legal[i - 1], i < 3 ? 4 : 1, i < 3 ? 512 : 5, words->operands[i]);
+    size_t before_files = read_numbers(words, request);
     for (size_t i = before_files; i < words->before_dashes; i++)
         if (words->operands[i][0] == '-' && words->operands[i][1] != '\0')
             misused("no option %s", words->operands[i]);
@@ -201,9 +223,23 @@ static void read_operands(const Words *words, Request *request) {
     }
 }
 
+static bool is_grey_name(const char *path) {
+    static const char ending[] = ".pgm";
+    size_t length = path == NULL ? 0 : strlen(path), of_ending = sizeof ending - 1;
+    return length >= of_ending && strcmp(path + length - of_ending, ending) == 0;
+}
+
+/* The halved picture needs no finer levels than these. */
+static void expect(const Words *words, Request *request) {
+    request->asks = words->given[LEVEL] || words->given[PLANE];
+    request->has_expectation = request->asks || request->halvings > 0;
+    if (!words->given[LEVEL])
+        request->level = request->halvings + 1;
+}
+
 Request request_from(char **argv) {
     Words words = {.count = 0};
-    Request request = {.level = 1};
+    Request request = {.command = CODE};
     read_words(argv, &words, &request);
     if (words.count == 0)
         misused("no command: code, serve, decode, parts and explain are there");
@@ -213,6 +249,10 @@ Request request_from(char **argv) {
     request.whole = words.given[WHOLE];
     request.check = words.given[CHECK];
     request.json = words.given[JSON];
+    request.has_most = words.given[MOST];
+    request.has_decompositions = words.given[DECOMPOSITIONS];
+    request.grey = words.given[GREY] || (request.command == DECODE && is_grey_name(request.out));
+    expect(&words, &request);
     judge_options(&words, &request);
     read_operands(&words, &request);
     return request;

@@ -10,9 +10,16 @@ typedef enum { CODE, SERVE, DECODE, PARTS, EXPLAIN, COMMANDS } Command;
 
 typedef struct {
     Command command;
-    uint64_t width, height, decompositions; /* of code */
+    bool is_picture;                        /* code: a grey file and no pyramid */
+    uint64_t width, height, decompositions; /* of code; for a picture only the last: */
+    bool has_decompositions;                /* with -n */
     uint64_t level, plane;
-    bool has_expectation; /* -r or -p was given */
+    bool asks;            /* -r or -p was given */
+    bool has_expectation; /* decode: it is known what was to be expected */
+    bool grey;            /* decode: a grey file is to be written */
+    uint64_t halvings;    /* so many times halved */
+    bool has_most;        /* serve: as much as keeps every pixel */
+    uint64_t most;        /* within so many grey values */
     bool force, quiet, whole, check, json;
     const char *out;    /* NULL without -o */
     char *const *files; /* at least one; "-" is standard input */

@@ -1,23 +1,12 @@
 #include "refusals.h"
 
+#include "grey_words.h"
+#include "pictures.h"
 #include "record.h"
 
 #include <inttypes.h>
-#include <stdarg.h>
-#include <stdio.h>
 
 enum { LEAST_SIDE = 4, GREATEST_SIDE = 512, MOST_DECOMPOSITIONS = 5, MOST_PLANES = 17, COEFFICIENT_BYTES = 4, BITS_PER_COEFFICIENT = 4 };
-
-static Sentence say(const char *format, ...) __attribute__((format(printf, 1, 2)));
-
-static Sentence say(const char *format, ...) {
-    Sentence sentence;
-    va_list arguments;
-    va_start(arguments, format);
-    vsnprintf(sentence.text, sizeof sentence.text, format, arguments);
-    va_end(arguments);
-    return sentence;
-}
 
 /* Sizes that a header or a command line tells. */
 typedef struct {
@@ -36,6 +25,11 @@ static bool is_side(uint64_t side, uint64_t decompositions) {
     return side >= LEAST_SIDE && side <= GREATEST_SIDE && side % (UINT64_C(2) << decompositions) == 0;
 }
 
+static bool is_legal(Sizes sizes) {
+    return sizes.decompositions >= 1 && sizes.decompositions <= MOST_DECOMPOSITIONS && is_side(sizes.width, sizes.decompositions) &&
+           is_side(sizes.height, sizes.decompositions) && sizes.planes <= MOST_PLANES;
+}
+
 static Sentence why_size(Sizes sizes) {
     if (sizes.decompositions < 1 || sizes.decompositions > MOST_DECOMPOSITIONS)
         return say("N, the number of decompositions,%s is %" PRIu64 "; legal is 1 to %d", sizes.where, sizes.decompositions, MOST_DECOMPOSITIONS);
@@ -49,6 +43,18 @@ static Sentence why_size(Sizes sizes) {
 static Sentence why_range(const Request *request, Bytes pyramid, uint64_t index) {
     return say("coefficient %" PRIu64 " (row %" PRIu64 ", column %" PRIu64 ", counted from 0) is %" PRId32 "; legal is -65535 to 65535", index,
                index / request->width, index % request->width, coefficient_at(pyramid.at + COEFFICIENT_BYTES * index));
+}
+
+static Sentence why_not_taken(const Request *request, Bytes file, const Outcome *outcome) {
+    PictureSizes sizes = sizes_of(file, request->has_decompositions ? &request->decompositions : NULL);
+    switch (outcome->number) {
+    case AFS_GREY:
+        return why_not_grey(file);
+    case AFS_SIZE:
+        return why_size((Sizes){sizes.width, sizes.height, sizes.decompositions, 0, " of the picture"});
+    default:
+        return say("memory that was lent is too short");
+    }
 }
 
 static Sentence why_not_coded(const Request *request, Bytes pyramid, const Outcome *outcome) {
@@ -166,6 +172,13 @@ static Sentence why_ask(const Request *request, Header header) {
     return say("plane %" PRIu64 " was asked for; of this record 0 to %" PRIu32 " can be", request->plane, header.planes);
 }
 
+static Sentence why_not_this_size(const Request *request, Header header) {
+    Sizes sizes = {header.width, header.height, header.decompositions, header.planes, " in the header"};
+    if (is_legal(sizes))
+        return say("%" PRIu64 " halvings were asked for; of this picture 0 to %" PRIu32 " can be", request->halvings, header.decompositions - 1);
+    return why_size(sizes);
+}
+
 static Sentence why_not_read(const Request *request, Bytes record, const Outcome *outcome) {
     if (outcome->number == AFS_HEAD)
         return why_head(record);
@@ -175,7 +188,7 @@ static Sentence why_not_read(const Request *request, Bytes record, const Outcome
     Header header = read_header(&at);
     switch (outcome->number) {
     case AFS_SIZE:
-        return why_size((Sizes){header.width, header.height, header.decompositions, header.planes, " in the header"});
+        return why_not_this_size(request, header);
     case AFS_PART:
         return why_part(record, outcome->place, header);
     case AFS_PAD:
@@ -189,5 +202,7 @@ static Sentence why_not_read(const Request *request, Bytes record, const Outcome
 }
 
 Sentence why_refused(const Request *request, Bytes input, const Outcome *outcome) {
-    return request->command == CODE ? why_not_coded(request, input, outcome) : why_not_read(request, input, outcome);
+    if (request->command != CODE)
+        return why_not_read(request, input, outcome);
+    return request->is_picture ? why_not_taken(request, input, outcome) : why_not_coded(request, input, outcome);
 }

@@ -4,10 +4,7 @@
 
 #include "calls.h"
 #include "options.h"
-
-typedef struct {
-    char text[200];
-} Sentence;
+#include "sentence.h"
 
 /* The refusal's number and place are the call's; the bytes are looked at for the words alone. */
 Sentence why_refused(const Request *request, Bytes input, const Outcome *outcome);

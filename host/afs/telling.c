@@ -1,6 +1,6 @@
 #include "telling.h"
 
-#include "holding.h"
+#include "nearness.h"
 
 #include <inttypes.h>
 
@@ -87,6 +87,21 @@ static void tell_distances(FILE *out, const Holding *holding) {
           out);
 }
 
+/* The same in grey values, where anything lacks. */
+static void tell_farthest_pixel(FILE *out, const Holding *holding) {
+    if (farthest_pixel(holding, 0) == 0)
+        return;
+    fprintf(out, "\nIf this record was made of a picture, a printed pixel is at most %" PRIu64 " grey values from the recorded one.\n",
+            farthest_pixel(holding, 0));
+    for (uint32_t level = holding->levels; level > 0; level--)
+        fprintf(out, "    level %" PRIu32 "  adds %" PRIu64 "\n", level, added_by(holding, level));
+    for (uint32_t halvings = 1; halvings < holding->header.decompositions; halvings++)
+        fprintf(out, "%sin the picture halved %" PRIu32 " time%s at most %" PRIu64, halvings == 1 ? "    " : ", ", halvings, halvings == 1 ? "" : "s",
+                farthest_pixel(holding, halvings));
+    if (holding->header.decompositions > 1)
+        fputc('\n', out);
+}
+
 /* The planes that a level lacks, downward, neighbours as one stretch. */
 static void tell_missing_of(FILE *out, const Holding *holding, uint32_t level) {
     const char *before = "";
@@ -129,6 +144,7 @@ void explain(FILE *out, Bytes record, const Outcome *decoded) {
     tell_what_shows(out, holding.header);
     tell_parts(out, &holding);
     tell_distances(out, &holding);
+    tell_farthest_pixel(out, &holding);
     tell_missing(out, &holding);
     tell_tail(out, &holding);
 }

@@ -79,6 +79,12 @@ def reached_planes(levels, planes, there):
     return reached
 
 
+def farthest_pixels(reached):
+    """By the formula, for the picture and each of its halvings."""
+    *finer, coarsest = reached
+    return [min(255, 2**coarsest - 1 + sum(3 * 2**m for m in finer[halvings:] if m > 0)) for halvings in range(len(finer))]
+
+
 def is_right(told, record):
     if told["number"] != 0:
         return told["name"] in ("SIZE", "HEAD", "VERSION", "PART", "PAD", "FIT") and len(told["why"]) > 20 and told["tail"] is None
@@ -93,6 +99,7 @@ def is_right(told, record):
         and told["tail"] == tail
         and told["lacks"] == (bool(missing) or tail > 0)
         and told["reached"] == reached_planes(levels, planes, there)
+        and told["farthest_pixels"] == farthest_pixels(told["reached"])
     )
 
 

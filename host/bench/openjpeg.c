@@ -1,5 +1,5 @@
 /*
- * Lossless JPEG 2000 by OpenJPEG, from memory to memory, for the benchmark: one component of signed samples, the reversible 5/3 transform,
+ * Lossless JPEG 2000 by OpenJPEG, from memory to memory, for the benchmark: one component of samples, the reversible 5/3 transform,
  * one tile, one layer, a bare codestream, one thread, and otherwise what OpenJPEG takes by itself. Each answers 0 if anything fails.
  */
 #include <openjpeg.h>
@@ -57,8 +57,8 @@ static opj_stream_t *stream_over(Memory *memory, OPJ_BOOL input) {
     return stream;
 }
 
-static opj_image_t *image_of(const int32_t *samples, uint32_t side, uint32_t precision) {
-    opj_image_cmptparm_t component = {.dx = 1, .dy = 1, .w = side, .h = side, .prec = precision, .sgnd = 1};
+static opj_image_t *image_of(const int32_t *samples, uint32_t side, uint32_t precision, uint32_t is_signed) {
+    opj_image_cmptparm_t component = {.dx = 1, .dy = 1, .w = side, .h = side, .prec = precision, .sgnd = is_signed};
     opj_image_t *image = opj_image_create(1, &component, OPJ_CLRSPC_GRAY);
     if (image == NULL)
         return NULL;
@@ -69,7 +69,8 @@ static opj_image_t *image_of(const int32_t *samples, uint32_t side, uint32_t pre
 }
 
 /* The codestream's length. */
-size_t openjpeg_encode(const int32_t *samples, uint32_t side, uint32_t precision, uint32_t decompositions, uint8_t *out, size_t room) {
+size_t openjpeg_encode(const int32_t *samples, uint32_t side, uint32_t precision, uint32_t is_signed, uint32_t decompositions, uint8_t *out,
+                       size_t room) {
     Memory memory = {out, room, 0};
     opj_cparameters_t parameters;
     opj_set_default_encoder_parameters(&parameters);
@@ -77,7 +78,7 @@ size_t openjpeg_encode(const int32_t *samples, uint32_t side, uint32_t precision
     parameters.tcp_numlayers = 1;
     parameters.cp_disto_alloc = 1;
     parameters.irreversible = 0;
-    opj_image_t *image = image_of(samples, side, precision);
+    opj_image_t *image = image_of(samples, side, precision, is_signed);
     opj_stream_t *stream = stream_over(&memory, OPJ_FALSE);
     opj_codec_t *codec = opj_create_compress(OPJ_CODEC_J2K);
     int whole = image != NULL && stream != NULL && codec != NULL && opj_setup_encoder(codec, &parameters, image) &&
