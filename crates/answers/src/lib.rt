@@ -32,6 +32,7 @@ fn refusal_number(r: Refusal) -> u64
         Refusal::Pad(_) => 9,
         Refusal::Fit(_) => 10,
         Refusal::Ask => 11,
+        Refusal::LongForm(_) => 12,
         Refusal::Grey => 13,
     }
 }
@@ -45,6 +46,7 @@ fn refusal_place(r: Refusal) -> u64
         Refusal::Part(place) => place as u64,
         Refusal::Pad(place) => place as u64,
         Refusal::Fit(place) => place as u64,
+        Refusal::LongForm(place) => place as u64,
         Refusal::Size => 0,
         Refusal::Length => 0,
         Refusal::Work => 0,

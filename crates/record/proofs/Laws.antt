@@ -26,7 +26,7 @@ use Rattle.rules.specs.Document.Pyramid.{legalSize, mostPlanes, levels}
 use Rattle.rules.specs.Document.Passes.{PartName}
 use Rattle.rules.specs.Document.Layout.{readNumber, version, bytesFor, padClear, bodyOf, nameOf}
 use Rattle.rules.specs.Document.Numbers.{headNumber, judgedHeader, mostBits, partNumber, follows, legalHead, judgedPart}
-use Rattle.record.specs.Named.{unread, wholePart}
+use Rattle.record.specs.Named.{unreadHeader, unread, wholePart}
 use Rattle.rules.specs.Laws.Sizes.{Legal, legal}
 use Rattle.rules.specs.Laws.Tests.{both-right}
 use Rattle.rules.specs.Laws.Reading.{NumberStands, readNumber-stands}
@@ -40,14 +40,21 @@ value-absurd v end (inr (inl e)) = omega arith
 value-absurd v end (inr (inr e)) = omega arith
 
 -- A header's number: one that has no value decides, one that has leads on. x is what was read of y.
-pub head-stop : (at : ℕ) (x y : Number) (go : ℕ → ℕ → HeaderRead) → x ≡ y → NoValue x → header.Refused (refusal.Head at) ≡ headNumber at y go
-unfolding headNumber
-head-stop at (Value v end) y go e o = absurd (value-absurd v end o)
-head-stop at TooManyBytes y go e o = ap (λ (n : Number). headNumber at n go) e
-head-stop at LongForm y go e o = ap (λ (n : Number). headNumber at n go) e
-head-stop at CutOff y go e o = ap (λ (n : Number). headNumber at n go) e
+pub header-told : (at : ℕ) (x y : Number) → x ≡ y → unreadHeader at y ≡ unreadHeader at x
+header-told at x y e = ap (unreadHeader at) (sym e)
 
-pub head-step : (at : ℕ) (x y : Number) (go : ℕ → ℕ → HeaderRead) (v end : ℕ) (r : HeaderRead) → x ≡ y → x ≡ Value v end → r ≡ go v end → r ≡ headNumber at y go
+pub head-stop : (at : ℕ) (x y : Number) (go : ℕ → ℕ → HeaderRead) (r : HeaderRead) → x ≡ y → NoValue x → r ≡ unreadHeader at x → r ≡ headNumber at y go
+unfolding headNumber unreadHeader
+head-stop at x y go r e o u = u ∙ same x o ∙ ap (λ (n : Number). headNumber at n go) e
+  where
+    same : (n : Number) → NoValue n → unreadHeader at n ≡ headNumber at n go
+    same (Value v end) o = absurd (value-absurd v end o)
+    same TooManyBytes o = refl
+    same LongForm o = refl
+    same CutOff o = refl
+
+pub head-step : (at : ℕ) (x y : Number) (go : ℕ → ℕ → HeaderRead) (v end : ℕ) (r : HeaderRead) → x ≡ y → x ≡ Value v end → r ≡ go v end
+    → r ≡ headNumber at y go
 unfolding headNumber
 head-step at x y go v end r e f h = h ∙ ap (λ (n : Number). headNumber at n go) (sym f ∙ e)
 
@@ -132,8 +139,11 @@ module _ (z : Size) (l : legalSize z ≡ true) where
   half-small = omega (arith, legal z l .width .most)
 
 -- A part's number: one that has no value decides, one that has leads on. x is what was read of y.
+pub part-told : (place : ℕ) (x y : Number) → x ≡ y → unread place y ≡ unread place x
+part-told place x y e = ap (unread place) (sym e)
+
 pub part-stop : (place : ℕ) (x y : Number) (go : ℕ → ℕ → PartRead) (r : PartRead) → x ≡ y → NoValue x → r ≡ unread place x → r ≡ partNumber place y go
-unfolding partNumber
+unfolding partNumber unread
 part-stop place (Value v end) y go r e o u = absurd (value-absurd v end o)
 part-stop place TooManyBytes y go r e o u = u ∙ ap (λ (n : Number). partNumber place n go) e
 part-stop place LongForm y go r e o u = u ∙ ap (λ (n : Number). partNumber place n go) e

@@ -6,11 +6,13 @@ use lib.Dec.{leb}
 use lib.ListN.{length}
 use Rattle.rules.specs.declared.Refusal.the-variants as refusal
 use Rattle.rules.specs.declared.Number.{Number}
-use Rattle.rules.specs.declared.Number.the-variants.{Value, TooManyBytes, LongForm, CutOff}
+use Rattle.rules.specs.declared.HeaderRead.{HeaderRead}
+use Rattle.rules.specs.declared.HeaderRead.the-variants as header
 use Rattle.rules.specs.declared.Part.{Part}
 use Rattle.rules.specs.declared.PartRead.{PartRead}
 use Rattle.rules.specs.declared.PartRead.the-variants as part
 use Rattle.rules.specs.Document.Layout.{padClear, bodyOf}
+use Rattle.rules.specs.Document.Numbers.{headNumber, partNumber}
 use Rattle.rules.specs.declared.Plane.{Plane}
 use Rattle.rules.specs.declared.Level.{Level}
 use Rattle.record.specs.declared.Name.{Name}
@@ -22,12 +24,12 @@ nameBy n k = record { plane = n .0; level = k .0 }
 abbrev pub named : Name → PartName
 named x = nameBy (x .plane) (x .level)
 
--- What a number without a value makes of a part.
-abbrev pub unread : ℕ → Number → PartRead
-unread place (Value v end) = part.Tail
-unread place TooManyBytes = part.Refused (refusal.Part place)
-unread place LongForm = part.Refused (refusal.Part place)
-unread place CutOff = part.Tail
+-- What a number without a value makes of a header, and of a part.
+unfoldable pub unreadHeader : ℕ → Number → HeaderRead
+unreadHeader at x = headNumber at x (λ v end. header.Refused (refusal.Head at))
+
+unfoldable pub unread : ℕ → Number → PartRead
+unread place x = partNumber place x (λ v end. part.Tail)
 
 -- What is left to judge of a part whose head is legal.
 unfoldable pub wholePart : List ℕ → Part → PartRead

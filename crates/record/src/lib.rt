@@ -6,7 +6,7 @@ ghost use lib.ListN.{length};
 ghost use Rattle.rules.specs.Document.Layout.{bytesFor, bodyOf};
 ghost use Rattle.rules.specs.Document.Numbers.{judgedHeader, readSizes, readHeader, follows, legalHead, readPart};
 ghost use Rattle.rules.specs.Document.Pyramid.{legalSize};
-ghost use Rattle.record.specs.Named.{named, nameBy, unread, wholePart};
+ghost use Rattle.record.specs.Named.{named, nameBy, unreadHeader, unread, wholePart};
 use rules::Header;
 use rules::HeaderRead;
 use rules::Level;
@@ -42,21 +42,37 @@ fn judged_header(z: Size, planes: usize, end: usize) -> HeaderRead
     HeaderRead::Refused(Refusal::Size)
 }
 
+// What a number without a value makes of a header: a long form has a refusal of its own.
+fn no_header_value(x: Number, at: usize) -> HeaderRead
+    ensures { λ r. ⌜ r ≡ unreadHeader at x ⌝ }
+{
+    match x {
+        Number::TooManyBytes => HeaderRead::Refused(Refusal::Head(at)),
+        Number::LongForm => HeaderRead::Refused(Refusal::LongForm(at)),
+        Number::CutOff => HeaderRead::Refused(Refusal::Head(at)),
+        Number::Value(_, _) => HeaderRead::Refused(Refusal::Head(at)),
+    }
+}
+
 // Width, height, decomposition count and planes.
 fn read_sizes(s: &[u8], at: usize) -> HeaderRead
     ensures { λ r. ⌜ r ≡ readSizes (now (s .entry)) at ⌝ }
 {
-    let Number::Value(w, second) = numbers::read_number(s, at) else {
-        return HeaderRead::Refused(Refusal::Head(at));
+    let width = numbers::read_number(s, at);
+    let Number::Value(w, second) = width else {
+        return no_header_value(width, at);
     };
-    let Number::Value(h, third) = numbers::read_number(s, second) else {
-        return HeaderRead::Refused(Refusal::Head(second));
+    let height = numbers::read_number(s, second);
+    let Number::Value(h, third) = height else {
+        return no_header_value(height, second);
     };
-    let Number::Value(n, fourth) = numbers::read_number(s, third) else {
-        return HeaderRead::Refused(Refusal::Head(third));
+    let count = numbers::read_number(s, third);
+    let Number::Value(n, fourth) = count else {
+        return no_header_value(count, third);
     };
-    let Number::Value(planes, end) = numbers::read_number(s, fourth) else {
-        return HeaderRead::Refused(Refusal::Head(fourth));
+    let depth = numbers::read_number(s, fourth);
+    let Number::Value(planes, end) = depth else {
+        return no_header_value(depth, fourth);
     };
     judged_header(Size { w, h, n }, planes, end)
 }
@@ -64,8 +80,9 @@ fn read_sizes(s: &[u8], at: usize) -> HeaderRead
 pub fn read_header(s: &[u8]) -> HeaderRead
     ensures { λ r. ⌜ r ≡ readHeader (now (s .entry)) ⌝ }
 {
-    let Number::Value(version, at) = numbers::read_number(s, 0) else {
-        return HeaderRead::Refused(Refusal::Head(0));
+    let first = numbers::read_number(s, 0);
+    let Number::Value(version, at) = first else {
+        return no_header_value(first, 0);
     };
     if version == VERSION {
         read_sizes(s, at)
@@ -116,13 +133,13 @@ pub fn body(s: &[u8], p: Part) -> &[u8]
     &s[start..end]
 }
 
-// What a number without a value makes of a part: a malformed one refuses it, one cut off leaves a tail.
+// What a number without a value makes of a part: one with too many bytes or in long form refuses it, one cut off leaves a tail.
 fn no_value(x: Number, place: usize) -> PartRead
     ensures { λ r. ⌜ r ≡ unread place x ⌝ }
 {
     match x {
         Number::TooManyBytes => PartRead::Refused(Refusal::Part(place)),
-        Number::LongForm => PartRead::Refused(Refusal::Part(place)),
+        Number::LongForm => PartRead::Refused(Refusal::LongForm(place)),
         Number::CutOff => PartRead::Tail,
         Number::Value(_, _) => PartRead::Tail,
     }

@@ -1,5 +1,5 @@
--- The cases that document 01 names, P1 to P12, and its record in full, with some more that only one reading of it gives: one table, and one claim
--- about all its rows, by computation. What is stated is numbers and bytes; of a call the answer that its export writes and the output it leaves.
+-- The cases that document 01 names, P1 to P12, and its record in full, with some more that only one reading of it gives, and bytes of which W2 says
+-- why they are refused: one table, and one claim about all its rows, by computation. What is stated is numbers and bytes; of a call the answer that its export writes and the output it leaves.
 use mathlib.Core.Path.{_≡_, refl}
 use mathlib.Core.List.{List, [], _∷_, _++_, map}
 use Prim.Native.Nat.{ℕ, _+_, _*_}
@@ -274,6 +274,13 @@ serves s r p = servedAs (length s) (serving s r p (length s))
 abbrev pub decodes : List ℕ → Shown
 decodes s = decodedAs 16 (decoding s 16 64)
 
+-- the same of bytes behind the record's header, and of a refusal with its place
+abbrev pub behindHeader : List ℕ → Shown
+behindHeader s = decodes (0x01 ∷ 0x04 ∷ 0x04 ∷ 0x01 ∷ 0x03 ∷ s)
+
+abbrev pub refuses : ℕ → ℕ → Shown
+refuses number place = pyramid (number ∷ place ∷ 0 ∷ 0 ∷ 0 ∷ 0 ∷ 0 ∷ 0 ∷ 0 ∷ []) (replicate 16 (pos 0))
+
 unfoldable pub table : List Row
 table =
     -- P1 127 is 7F. P2 128 is 80 01. P3 512 is 80 04. P4 80 00 malformed. P5 80 80 80 80 malformed.
@@ -329,6 +336,20 @@ table =
     -- type B opened, sets handed on below the LL band, sets added and visited in one pass
     ∷ (codes early eight 33 is bytes (0 ∷ 0 ∷ 33 ∷ []) earlyBytes)
     ∷ (codes late eight 46 is bytes (0 ∷ 0 ∷ 46 ∷ []) lateBytes)
+    -- W2: "12 LONGFORM (several bytes, the last 0), in the places of 6 or 8 wherever that was the cause, same reported place; 6 and 8 keep the rest"
+    ∷ (decodes (0x81 ∷ 0x00 ∷ []) is refuses 12 0)
+    ∷ (decodes (0x81 ∷ 0x01 ∷ []) is refuses 7 0)
+    ∷ (decodes (0x01 ∷ 0x04 ∷ 0x80 ∷ 0x00 ∷ []) is refuses 12 2)
+    ∷ (decodes (0x01 ∷ 0x04 ∷ 0x80 ∷ 0x00 ∷ 0x04 ∷ []) is refuses 12 2)
+    ∷ (decodes (0x01 ∷ 0x04 ∷ 0x04 ∷ 0x01 ∷ 0x80 ∷ 0x80 ∷ 0x80 ∷ 0x00 ∷ []) is refuses 12 4)
+    ∷ (decodes (0x01 ∷ 0x04 ∷ 0x04 ∷ 0x01 ∷ 0x80 ∷ 0x80 ∷ 0x80 ∷ 0x80 ∷ []) is refuses 6 4)
+    ∷ (behindHeader (0x80 ∷ 0x00 ∷ 0x01 ∷ 0x05 ∷ []) is refuses 12 5)
+    ∷ (behindHeader (0x02 ∷ 0x02 ∷ 0x80 ∷ 0x00 ∷ 0x80 ∷ []) is refuses 12 5)
+    ∷ (behindHeader (0x02 ∷ 0x80 ∷ 0x80 ∷ 0x80 ∷ 0x80 ∷ []) is refuses 8 5)
+    ∷ (behindHeader (0x7F ∷ 0x80 ∷ 0x00 ∷ []) is refuses 12 5)
+    ∷ (behindHeader (0x7F ∷ 0x7F ∷ []) is pyramid (0 ∷ 0 ∷ 2 ∷ 3 ∷ 3 ∷ 0 ∷ 0 ∷ 0 ∷ 0 ∷ []) (replicate 16 (pos 0)))
+    ∷ (behindHeader (0x02 ∷ 0x02 ∷ 0x05 ∷ 0x80 ∷ 0x02 ∷ 0x80 ∷ [])
+    is pyramid (0 ∷ 0 ∷ 2 ∷ 3 ∷ 2 ∷ 0 ∷ 0 ∷ 0 ∷ 0 ∷ []) (rowsOf (pos 4) (pos 0) (pos 0) (pos 0) (pos 0) (pos 0)))
     ∷ []
 
 unfoldable pub opensDocument : Unit {0}

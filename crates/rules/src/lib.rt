@@ -25,6 +25,7 @@ pub enum Refusal {
     Pad(usize),
     Fit(usize),
     Ask,
+    LongForm(usize),
     Grey,
 }
 

@@ -1,5 +1,6 @@
-use mathlib.Core.Path.{ap, sym}
+use Rattle.rules.specs.Document.Numbers.{partNumber}
 use Rattle.record.specs.Named.{unread}
+use Rattle.record.proofs.Laws.{part-told}
 use borrow.Author.Needs.{needs}
 use Rattle.record.proofs.no_value.Statement.{statement}
 use Rattle.record.proofs.no_value.Tie as tie
@@ -17,16 +18,20 @@ enum-told-4 : tie.Need-enum-told-4
 enum-told-4 c = search needs
 
 returns : tie.Need-returns
-returns c = sym (ap (unread (c .before .before .args .place)) (c .enum-told .given .1))
+unfolding partNumber unread
+returns c = part-told _ _ _ (c .enum-told .given .1)
 
 returns-2 : tie.Need-returns-2
-returns-2 c = sym (ap (unread (c .before .before .args .place)) (c .enum-told2 .given .1))
+unfolding partNumber unread
+returns-2 c = part-told _ _ _ (c .enum-told2 .given .1)
 
 returns-3 : tie.Need-returns-3
-returns-3 c = sym (ap (unread (c .before .before .args .place)) (c .enum-told3 .given .1))
+unfolding partNumber unread
+returns-3 c = part-told _ _ _ (c .enum-told3 .given .1)
 
 returns-4 : tie.Need-returns-4
-returns-4 c = sym (ap (unread (c .before .before .args .place)) (c .enum-told4 .given .1))
+unfolding partNumber unread
+returns-4 c = part-told _ _ _ (c .enum-told4 .given .1)
 
 pub no-value-spec : {M : Type 1} → statement M
 no-value-spec =

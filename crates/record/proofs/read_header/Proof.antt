@@ -7,30 +7,34 @@ use Rattle.record.proofs.read_header.Tie as tie
 read-number-requires : tie.Need-read-number-requires
 read-number-requires c κs = search needs
 
-enum-known-version : tie.Need-enum-known-version
-enum-known-version c = search needs
+enum-known-first : tie.Need-enum-known-first
+enum-known-first c = search needs
+
+no-header-value-requires : tie.Need-no-header-value-requires
+no-header-value-requires c κs = search needs
 
 returns : tie.Need-returns
 unfolding readHeader
-returns c = head-stop _ _ _ _ (c .before .read-number .ensures) (c .match .keys2)
+returns c = search (needs, head-stop)
 
 read-sizes-requires : tie.Need-read-sizes-requires
 read-sizes-requires c κs = search needs
 
 returns-2 : tie.Need-returns-2
 unfolding readHeader
-returns-2 c = head-step _ _ _ _ _ _ _ (c .before .before .before .before .before .read-number .ensures) (c .before .before .before .version .given .1) (version-right _ _ _ _ (c .before .if1 .taken) (c .read-sizes .ensures))
+returns-2 c = search (needs, head-step, version-right)
 
 returns-3 : tie.Need-returns-3
 unfolding readHeader
-returns-3 c = head-step _ _ _ _ _ _ _ (c .before .before .before .before .read-number .ensures) (c .before .before .version .given .1) (version-wrong _ _ _ (c .if1 .left))
+returns-3 c = search (needs, head-step, version-wrong)
 
 pub read-header-spec : {M : Type 1} → statement M
 read-header-spec =
     tie.close
     (tie.spec
     read-number-requires
-    enum-known-version
+    enum-known-first
+    no-header-value-requires
     returns
     read-sizes-requires
     returns-2

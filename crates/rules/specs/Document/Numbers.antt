@@ -34,6 +34,7 @@ refusalNumber (refusal.Part i) = 8
 refusalNumber (refusal.Pad i) = 9
 refusalNumber (refusal.Fit i) = 10
 refusalNumber refusal.Ask = 11
+refusalNumber (refusal.LongForm i) = 12
 refusalNumber refusal.Grey = 13
 
 abbrev pub refusalPlace : Refusal → ℕ
@@ -48,6 +49,7 @@ refusalPlace (refusal.Part i) = i
 refusalPlace (refusal.Pad i) = i
 refusalPlace (refusal.Fit i) = i
 refusalPlace refusal.Ask = 0
+refusalPlace (refusal.LongForm i) = i
 refusalPlace refusal.Grey = 0
 
 abbrev pub verdictNumber : Verdict → ℕ
@@ -59,11 +61,12 @@ verdictPlace Accepted = 0
 verdictPlace (Refused r) = refusalPlace r
 
 -- "Any reading: version number (6, then 7), the four others (6), then 1." 6 HEAD is given where the header ends early or a number in it is
--- malformed, with the offset of that number.
+-- malformed, with the offset of that number. W2: "12 LONGFORM (several bytes, the last 0), in the places of 6 or 8 wherever that was the cause,
+-- same reported place; 6 and 8 keep the rest."
 unfoldable pub headNumber : ℕ → Number → (ℕ → ℕ → HeaderRead) → HeaderRead
 headNumber at (Value v end) go = go v end
 headNumber at TooManyBytes go = header.Refused (refusal.Head at)
-headNumber at LongForm go = header.Refused (refusal.Head at)
+headNumber at LongForm go = header.Refused (refusal.LongForm at)
 headNumber at CutOff go = header.Refused (refusal.Head at)
 
 unfoldable pub judgedHeader : Size → ℕ → ℕ → HeaderRead
@@ -86,11 +89,12 @@ readHeader s = headNumber 0 (readNumber s 0) (λ v a. cond (eqb v version) (read
 abbrev pub mostBits : Size → ℕ
 mostBits z = 4 * area z
 
--- "Within a part: its three numbers in turn, each being a value, malformed (8) or cut off (tail), the first that isn't a value deciding"
+-- "Within a part: its three numbers in turn, each being a value, malformed (8) or cut off (tail), the first that isn't a value deciding";
+-- 12, as W2 says, where its last byte is 0
 unfoldable pub partNumber : ℕ → Number → (ℕ → ℕ → PartRead) → PartRead
 partNumber place (Value v end) go = go v end
 partNumber place TooManyBytes go = part.Refused (refusal.Part place)
-partNumber place LongForm go = part.Refused (refusal.Part place)
+partNumber place LongForm go = part.Refused (refusal.LongForm place)
 partNumber place CutOff go = part.Tail
 
 -- "the other causes of 8": "plane not under planes; level not 1 to N+1; not after the part before it in the order; bit count over

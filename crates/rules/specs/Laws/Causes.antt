@@ -64,26 +64,26 @@ pub data NumberCase (s : List ℕ) (at : ℕ) : Number → Type 0 where
   VALUE : (i : ℕ) → i < 4 → GoesOn s at i → at + i < length s → getD s (at + i) 0 < 128 → (1 ≤ i → getD s (at + i) 0 ≢ 0)
       → NumberCase s at (Value (groupsWorth s at i + getD s (at + i) 0 * 128 ^ i) (at + i + 1))
 
--- A number that was read and is no value: malformed, or cut off.
-pub data Malformed : Number → Type 0 where
-  fourth-goes-on : Malformed TooManyBytes
-  last-is-0 : Malformed LongForm
-
+-- A number that was read and is no value, though it is not in long form: the bytes end early, or it has too many.
 pub data Unread : Number → Type 0 where
   ends-early : Unread CutOff
-  malformed : {x : Number} → Malformed x → Unread x
+  fourth-goes-on : Unread TooManyBytes
 
 -- From offset a on, numbers of these values stand one behind the other, up to offset e.
 pub data Numbers (s : List ℕ) : ℕ → List ℕ → ℕ → Type 0 where
   none : {a : ℕ} → Numbers s a [] a
   next : {a b e v : ℕ} {vs : List ℕ} → readNumber s a ≡ Value v b → Numbers s b vs e → Numbers s a (v ∷ vs) e
 
--- "Any reading: version number (6, then 7), the four others (6), then 1."
+-- "Any reading: version number (6, then 7), the four others (6), then 1." W2: "12 LONGFORM (several bytes, the last 0), in the places of 6 or 8
+-- wherever that was the cause, same reported place; 6 and 8 keep the rest."
 pub data HeaderCase (s : List ℕ) : HeaderRead → Type 0 where
   HEAD : Unread (readNumber s 0) → HeaderCase s (header.Refused (refusal.Head 0))
+  LONGFORM : readNumber s 0 ≡ LongForm → HeaderCase s (header.Refused (refusal.LongForm 0))
   VERSION : {v a : ℕ} → Numbers s 0 (v ∷ []) a → v ≢ version → HeaderCase s (header.Refused refusal.Version)
   HEAD-later : {vs : List ℕ} {at : ℕ} → Numbers s 0 (version ∷ vs) at → length vs < 4 → Unread (readNumber s at)
       → HeaderCase s (header.Refused (refusal.Head at))
+  LONGFORM-later : {vs : List ℕ} {at : ℕ} → Numbers s 0 (version ∷ vs) at → length vs < 4 → readNumber s at ≡ LongForm
+      → HeaderCase s (header.Refused (refusal.LongForm at))
   SIZE : {z : Size} {planes end : ℕ} → Numbers s 0 (version ∷ z .w ∷ z .h ∷ z .n ∷ planes ∷ []) end → ¬ LegalHeader z planes
       → HeaderCase s (header.Refused refusal.Size)
   LEGAL : {h : Header} → Numbers s 0 (version ∷ h .size .w ∷ h .size .h ∷ h .size .n ∷ h .planes ∷ []) (h .end)
@@ -106,8 +106,10 @@ pub record PadSet (s : List ℕ) (p : Part) : Type 0 where
 -- other causes of 8; body incomplete (tail); 9." `LegalHead` has the other causes of 8: "plane not under planes; level not 1 to N+1; not
 -- after the part before it in the order; bit count over 4 x W x H".
 pub data PartCase (h : Header) (s : List ℕ) (before : PartName) (place : ℕ) : PartRead → Type 0 where
-  PART-malformed : {vs : List ℕ} {at : ℕ} → Numbers s place vs at → length vs < 3 → Malformed (readNumber s at)
+  PART-malformed : {vs : List ℕ} {at : ℕ} → Numbers s place vs at → length vs < 3 → readNumber s at ≡ TooManyBytes
       → PartCase h s before place (part.Refused (refusal.Part place))
+  LONGFORM : {vs : List ℕ} {at : ℕ} → Numbers s place vs at → length vs < 3 → readNumber s at ≡ LongForm
+      → PartCase h s before place (part.Refused (refusal.LongForm place))
   TAIL-head : {vs : List ℕ} {at : ℕ} → Numbers s place vs at → length vs < 3 → readNumber s at ≡ CutOff → PartCase h s before place part.Tail
   PART : {p : Part} → HeadRead s place p → ¬ LegalHead h before (nameOf p) (p .bits)
       → PartCase h s before place (part.Refused (refusal.Part place))
@@ -140,8 +142,8 @@ pub data CodingCase (pyramid : List ℤ) (z : Size) (room work : ℕ) : Result (
   CODED : Legal z → length pyramid ≡ area z → workFor z ≤ work → InRange mostMagnitude pyramid (length pyramid) → length (recordOf z pyramid) ≤ room
       → CodingCase pyramid z room work (accepted (recordOf z pyramid))
 
--- "Serving: 11, the parts, at the very end 5." "Serving checks dropped parts too, never for 10." HEADER is 6, 7 or 1, as HeaderCase says,
--- and PARTS is 8 or 9, as PartCase says.
+-- "Serving: 11, the parts, at the very end 5." "Serving checks dropped parts too, never for 10." HEADER is 6, 12, 7 or 1, as HeaderCase
+-- says, and PARTS is 8, 12 or 9, as PartCase says.
 pub data ServingCase (s : List ℕ) (r p room : ℕ) : Result Portion → Type 0 where
   HEADER : {why : Refusal} → HeaderCase s (header.Refused why) → ServingCase s r p room (refused why)
   ASK : {h : Header} → HeaderCase s (header.Header h) → ¬ LegalAsk h r p → ServingCase s r p room (refused refusal.Ask)

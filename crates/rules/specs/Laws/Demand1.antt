@@ -26,7 +26,8 @@ use Rattle.rules.specs.Document.Passes.{PartName}
 use Rattle.rules.specs.Document.Numbers.{refusalNumber, refusalPlace, verdictNumber, verdictPlace, fault}
 use Rattle.rules.specs.Document.Calls.{Result, refused, accepted, coding, Portion, serving, levelPlaces, Picture, decoding, filled}
 use Rattle.rules.specs.Document.Calls.{codeOut, codeAnswer, serveOut, serveAnswer, decodeOut, decodeAnswer, Coding, Serving, Decoding}
-use Rattle.rules.specs.Laws.Causes.{HeaderCase, HEAD, VERSION, HEAD-later, SIZE, PartCase, PART-malformed, PART, PAD, Walk, MORE, FAULT}
+use Rattle.rules.specs.Laws.Causes.{HeaderCase, HEAD, LONGFORM, VERSION, HEAD-later, LONGFORM-later, SIZE, PartCase, PART-malformed, PART, PAD}
+use Rattle.rules.specs.Laws.Causes.{Walk, MORE, FAULT}
 use Rattle.rules.specs.Laws.Causes.{CodingCase, LENGTH, WORK, RANGE, ROOM, CODED, ServingCase, HEADER, ASK, PARTS, SERVED, DecodingCase, FIT, DECODED}
 use Rattle.rules.specs.Laws.Results.{refusal-some}
 use Rattle.rules.specs.Laws.CallCases.{coding-case, coding-is, serving-case, serving-is, decoding-case, decoding-is}
@@ -39,10 +40,10 @@ abbrev pub codingNumbers : List ℕ
 codingNumbers = 0 ∷ 1 ∷ 2 ∷ 3 ∷ 4 ∷ 5 ∷ []
 
 abbrev pub servingNumbers : List ℕ
-servingNumbers = 0 ∷ 1 ∷ 5 ∷ 6 ∷ 7 ∷ 8 ∷ 9 ∷ 11 ∷ []
+servingNumbers = 0 ∷ 1 ∷ 5 ∷ 6 ∷ 7 ∷ 8 ∷ 9 ∷ 11 ∷ 12 ∷ []
 
 abbrev pub decodingNumbers : List ℕ
-decodingNumbers = 0 ∷ 1 ∷ 2 ∷ 3 ∷ 6 ∷ 7 ∷ 8 ∷ 9 ∷ 10 ∷ []
+decodingNumbers = 0 ∷ 1 ∷ 2 ∷ 3 ∷ 6 ∷ 7 ∷ 8 ∷ 9 ∷ 10 ∷ 12 ∷ []
 
 -- What is promised of a verdict, where each result has its case: the numbers the call may give are `own`; a refusal leaves Refusing, and
 -- acceptance of x leaves Accepting x.
@@ -63,7 +64,7 @@ refusalOf : ℕ → ℕ → Refusal
 refusalOf n at =
     withNumber n (
     refusal.Size ∷ refusal.Length ∷ refusal.Work ∷ refusal.Range at ∷ refusal.Room ∷ refusal.Head at ∷ refusal.Version ∷ refusal.Part at ∷ refusal.Pad at
-    ∷ refusal.Fit at ∷ refusal.Ask ∷ refusal.Grey ∷ []
+    ∷ refusal.Fit at ∷ refusal.Ask ∷ refusal.LongForm at ∷ refusal.Grey ∷ []
     )
 
 refusal-told : (r : Refusal) → refusalOf (refusalNumber r) (refusalPlace r) ≡ r
@@ -79,6 +80,7 @@ refusal-told (refusal.Part i) = refl
 refusal-told (refusal.Pad i) = refl
 refusal-told (refusal.Fit i) = refl
 refusal-told refusal.Ask = refl
+refusal-told (refusal.LongForm i) = refl
 refusal-told refusal.Grey = refl
 
 unfoldable pub verdictOf : {X : Type 0} → Result X → Verdict
@@ -117,22 +119,25 @@ module _ {X : Type 0} where
       })
 
 -- Each routine gives its own numbers only.
-header-gives : {s : List ℕ} {why : Refusal} (P : ℕ → Type 0) → P 1 → P 6 → P 7 → HeaderCase s (header.Refused why) → P (refusalNumber why)
-header-gives P one six seven (HEAD u) = six
-header-gives P one six seven (VERSION ns n) = seven
-header-gives P one six seven (HEAD-later ns l u) = six
-header-gives P one six seven (SIZE ns n) = one
+header-gives : {s : List ℕ} {why : Refusal} (P : ℕ → Type 0) → P 1 → P 6 → P 7 → P 12 → HeaderCase s (header.Refused why) → P (refusalNumber why)
+header-gives P one six seven twelve (HEAD u) = six
+header-gives P one six seven twelve (LONGFORM e) = twelve
+header-gives P one six seven twelve (VERSION ns n) = seven
+header-gives P one six seven twelve (HEAD-later ns l u) = six
+header-gives P one six seven twelve (LONGFORM-later ns l e) = twelve
+header-gives P one six seven twelve (SIZE ns n) = one
 
-part-gives : {h : Header} {s : List ℕ} {before : PartName} {place : ℕ} {why : Refusal} (P : ℕ → Type 0) → P 8 → P 9
+part-gives : {h : Header} {s : List ℕ} {before : PartName} {place : ℕ} {why : Refusal} (P : ℕ → Type 0) → P 8 → P 9 → P 12
     → PartCase h s before place (part.Refused why) → P (refusalNumber why)
-part-gives P eight nine (PART-malformed ns l m) = eight
-part-gives P eight nine (PART r n) = eight
-part-gives P eight nine (PAD r l w q) = nine
+part-gives P eight nine twelve (PART-malformed ns l e) = eight
+part-gives P eight nine twelve (LONGFORM ns l e) = twelve
+part-gives P eight nine twelve (PART r n) = eight
+part-gives P eight nine twelve (PAD r l w q) = nine
 
-parts-gives : {h : Header} {s : List ℕ} {before : PartName} {place : ℕ} {ps : List Part} {why : Refusal} (P : ℕ → Type 0) → P 8 → P 9
+parts-gives : {h : Header} {s : List ℕ} {before : PartName} {place : ℕ} {ps : List Part} {why : Refusal} (P : ℕ → Type 0) → P 8 → P 9 → P 12
     → Walk h s before place ps (fault why) → P (refusalNumber why)
-parts-gives P eight nine (MORE c w) = parts-gives P eight nine w
-parts-gives P eight nine (FAULT c) = part-gives P eight nine c
+parts-gives P eight nine twelve (MORE c w) = parts-gives P eight nine twelve w
+parts-gives P eight nine twelve (FAULT c) = part-gives P eight nine twelve c
 
 coding-gives : {pyramid : List ℤ} {z : Size} {room work : ℕ} {y : Result (List ℕ)} → CodingCase pyramid z room work y
     → among codingNumbers (verdictNumber (verdictOf y))
@@ -146,19 +151,19 @@ coding-gives (CODED Z L K R l) = refl
 
 serving-gives : {s : List ℕ} {r p room : ℕ} {y : Result Portion} → ServingCase s r p room y → among servingNumbers (verdictNumber (verdictOf y))
 unfolding verdictOf any
-serving-gives (HEADER c) = header-gives (among servingNumbers) refl refl refl c
+serving-gives (HEADER c) = header-gives (among servingNumbers) refl refl refl refl c
 serving-gives (ASK c n) = refl
-serving-gives (PARTS c a w) = parts-gives (among servingNumbers) refl refl w
+serving-gives (PARTS c a w) = parts-gives (among servingNumbers) refl refl refl w
 serving-gives (ROOM c a w l) = refl
 serving-gives (SERVED c a w l) = refl
 
 decoding-gives : {s : List ℕ} {room work : ℕ} {y : Result Picture} → DecodingCase s room work y
     → among decodingNumbers (verdictNumber (verdictOf y))
 unfolding verdictOf any
-decoding-gives (HEADER c) = header-gives (among decodingNumbers) refl refl refl c
+decoding-gives (HEADER c) = header-gives (among decodingNumbers) refl refl refl refl c
 decoding-gives (LENGTH c n) = refl
 decoding-gives (WORK c L k) = refl
-decoding-gives (PARTS c L K w f) = parts-gives (among decodingNumbers) refl refl w
+decoding-gives (PARTS c L K w f) = parts-gives (among decodingNumbers) refl refl refl w
 decoding-gives (FIT c L K w f) = refl
 decoding-gives (DECODED c L K w f) = refl
 

@@ -25,8 +25,9 @@ use Rattle.rules.specs.Laws.Tests.{both, both-left, both-right, not-test
 use Rattle.rules.specs.Laws.Sizes.{legal, size-legal}
 use Rattle.rules.specs.Laws.Parts.{legal-head, head-legal}
 use Rattle.rules.specs.Laws.ReadBackBody.{pad-clear}
-use Rattle.rules.specs.Laws.Causes.{LegalHeader, Malformed, fourth-goes-on, last-is-0, Unread, ends-early, malformed, Numbers, none, next}
-use Rattle.rules.specs.Laws.Causes.{HeaderCase, HEAD, VERSION, HEAD-later, SIZE, LEGAL, HeadRead, PadSet, PartCase, PART-malformed, TAIL-head, PART, TAIL-body, PAD, WHOLE}
+use Rattle.rules.specs.Laws.Causes.{LegalHeader, Unread, ends-early, fourth-goes-on, Numbers, none, next}
+use Rattle.rules.specs.Laws.Causes.{HeaderCase, HEAD, LONGFORM, VERSION, HEAD-later, LONGFORM-later, SIZE, LEGAL, HeadRead, PadSet, PartCase}
+use Rattle.rules.specs.Laws.Causes.{PART-malformed, TAIL-head, PART, TAIL-body, PAD, WHOLE}
 
 -- A test that fails where a statement does not hold, and passes where it does.
 pub failed : {P : Type 0} (b : Bool) → (P → b ≡ true) → b ≡ false → ¬ P
@@ -45,22 +46,29 @@ pub legal-judged : (z : Size) (planes : ℕ) → LegalHeader z planes → legalS
 legal-judged z planes l = both _ _ (size-legal z (l .size)) (le-leb planes mostPlanes (l .few))
 
 headNumber-case : (P : HeaderRead → Type 0) (s : List ℕ) (at : ℕ) (go : ℕ → ℕ → HeaderRead)
-    → (Unread (readNumber s at) → P (header.Refused (refusal.Head at)))
+    → (Unread (readNumber s at) → P (header.Refused (refusal.Head at))) → (readNumber s at ≡ LongForm → P (header.Refused (refusal.LongForm at)))
     → ((v end : ℕ) → readNumber s at ≡ Value v end → P (go v end)) → P (headNumber at (readNumber s at) go)
 unfolding headNumber
-headNumber-case P s at go bad on = cases (readNumber s at) refl
+headNumber-case P s at go bad long on = cases (readNumber s at) refl
   where
     cases : (x : Number) → readNumber s at ≡ x → P (headNumber at x go)
     cases (Value v end) e = on v end e
-    cases TooManyBytes e = bad (subst Unread (sym e) (malformed fourth-goes-on))
-    cases LongForm e = bad (subst Unread (sym e) (malformed last-is-0))
+    cases TooManyBytes e = bad (subst Unread (sym e) fourth-goes-on)
+    cases LongForm e = long e
     cases CutOff e = bad (subst Unread (sym e) ends-early)
 
-headNumber-unread : (at : ℕ) (x : Number) (go : ℕ → ℕ → HeaderRead) → Unread x → headNumber at x go ≡ header.Refused (refusal.Head at)
+-- What a number that is no value makes of a header, whatever would come behind it.
+abbrev Stops : ℕ → Number → HeaderRead → Type 0
+Stops at x y = (go : ℕ → ℕ → HeaderRead) → headNumber at x go ≡ y
+
+unread-stops : (at : ℕ) {x : Number} → Unread x → Stops at x (header.Refused (refusal.Head at))
 unfolding headNumber
-headNumber-unread at x go ends-early = refl
-headNumber-unread at x go (malformed fourth-goes-on) = refl
-headNumber-unread at x go (malformed last-is-0) = refl
+unread-stops at ends-early go = refl
+unread-stops at fourth-goes-on go = refl
+
+long-stops : (at : ℕ) {x : Number} → x ≡ LongForm → Stops at x (header.Refused (refusal.LongForm at))
+unfolding headNumber
+long-stops at e go = rw e
 
 judged-case : (s : List ℕ) (z : Size) (planes end : ℕ) → Numbers s 0 (version ∷ z .w ∷ z .h ∷ z .n ∷ planes ∷ []) end
     → HeaderCase s (judgedHeader z planes end)
@@ -75,35 +83,41 @@ judged-case s z planes end ns = cases (legalSize z && leb planes mostPlanes) ref
 sizes-case : (s : List ℕ) (a : ℕ) → readNumber s 0 ≡ Value version a → HeaderCase s (readSizes s a)
 unfolding readSizes
 sizes-case s a r0 =
-    headNumber-case (HeaderCase s) s a _ (HEAD-later (next r0 none) (omega arith)) (λ w b r1.
-    headNumber-case (HeaderCase s) s b _ (HEAD-later (next r0 (next r1 none)) (omega arith)) (λ g c r2.
-    headNumber-case (HeaderCase s) s c _ (HEAD-later (next r0 (next r1 (next r2 none))) (omega arith)) (λ n d r3.
-    headNumber-case (HeaderCase s) s d _ (HEAD-later (next r0 (next r1 (next r2 (next r3 none)))) (omega arith)) (λ planes end r4.
+    number (next r0 none) (omega arith) (λ w b r1.
+    number (next r0 (next r1 none)) (omega arith) (λ g c r2.
+    number (next r0 (next r1 (next r2 none))) (omega arith) (λ n d r3.
+    number (next r0 (next r1 (next r2 (next r3 none)))) (omega arith) (λ planes end r4.
     judged-case s (record { w = w; h = g; n = n }) planes end (next r0 (next r1 (next r2 (next r3 (next r4 none)))))))))
+  where
+    number : {vs : List ℕ} {at : ℕ} → Numbers s 0 (version ∷ vs) at → length vs < 4 → {go : ℕ → ℕ → HeaderRead}
+        → ((v end : ℕ) → readNumber s at ≡ Value v end → HeaderCase s (go v end)) → HeaderCase s (headNumber at (readNumber s at) go)
+    number {at = at} ns l {go} on = headNumber-case (HeaderCase s) s at go (HEAD-later ns l) (LONGFORM-later ns l) on
 
 pub header-case : (s : List ℕ) → HeaderCase s (readHeader s)
 unfolding readHeader
-header-case s = headNumber-case (HeaderCase s) s 0 _ HEAD (λ v a r. cases v a r (eqb v version) refl)
+header-case s = headNumber-case (HeaderCase s) s 0 _ HEAD LONGFORM (λ v a r. cases v a r (eqb v version) refl)
   where
     cases : (v a : ℕ) → readNumber s 0 ≡ Value v a → (b : Bool) → eqb v version ≡ b
         → HeaderCase s (cond b (readSizes s a) (header.Refused refusal.Version))
     cases v a r true e = sizes-case s a (r ∙ ap (λ x. Value x a) (eqb-true v version e))
     cases v a r false e = VERSION (next r none) (eqb-false v version e)
 
-sizes-unread : (s : List ℕ) (a : ℕ) (vs : List ℕ) (at : ℕ) → Numbers s a vs at → length vs < 4 → Unread (readNumber s at)
-    → readSizes s a ≡ header.Refused (refusal.Head at)
+sizes-stop : (s : List ℕ) (a : ℕ) (vs : List ℕ) (at : ℕ) (y : HeaderRead) → Numbers s a vs at → length vs < 4 → Stops at (readNumber s at) y
+    → readSizes s a ≡ y
 unfolding readSizes headNumber
-sizes-unread s a vs at none l u = headNumber-unread a (readNumber s a) _ u
-sizes-unread s a vs at (next {b = b} r1 none) l u = rw r1 (headNumber-unread b (readNumber s b) _ u)
-sizes-unread s a vs at (next r1 (next {b = b} r2 none)) l u = rw (r1, r2) (headNumber-unread b (readNumber s b) _ u)
-sizes-unread s a vs at (next r1 (next r2 (next {b = b} r3 none))) l u = rw (r1, r2, r3) (headNumber-unread b (readNumber s b) _ u)
-sizes-unread s a vs at (next r1 (next r2 (next r3 (next r4 ns)))) l u = absurd (omega arith)
+sizes-stop s a vs at y none l stop = stop _
+sizes-stop s a vs at y (next r1 none) l stop = rw r1 (stop _)
+sizes-stop s a vs at y (next r1 (next r2 none)) l stop = rw (r1, r2) (stop _)
+sizes-stop s a vs at y (next r1 (next r2 (next r3 none))) l stop = rw (r1, r2, r3) (stop _)
+sizes-stop s a vs at y (next r1 (next r2 (next r3 (next r4 ns)))) l stop = absurd (omega arith)
 
 pub header-is : (s : List ℕ) (x : HeaderRead) → HeaderCase s x → readHeader s ≡ x
 unfolding readHeader readSizes headNumber judgedHeader
-header-is s x (HEAD u) = headNumber-unread 0 (readNumber s 0) _ u
+header-is s x (HEAD u) = unread-stops 0 u _
+header-is s x (LONGFORM e) = long-stops 0 e _
 header-is s x (VERSION {v = v} (next r none) n) = rw (r, ne-eqb v version n)
-header-is s x (HEAD-later {vs = vs} {at = at} (next {b = b} r ns) l u) = rw r (sizes-unread s b vs at ns l u)
+header-is s x (HEAD-later {vs = vs} {at = at} (next {b = b} r ns) l u) = rw r (sizes-stop s b vs at x ns l (unread-stops at u))
+header-is s x (LONGFORM-later {vs = vs} {at = at} (next {b = b} r ns) l e) = rw r (sizes-stop s b vs at x ns l (long-stops at e))
 header-is s x (SIZE {z = z} {planes = planes} (next r0 (next r1 (next r2 (next r3 (next r4 none))))) n) =
     rw (r0, r1, r2, r3, r4, not-test (legalSize z && leb planes mostPlanes) (λ e. n (judged-legal z planes e)))
 header-is s x (LEGAL {h = h} (next r0 (next r1 (next r2 (next r3 (next r4 none))))) l) =
@@ -133,21 +147,17 @@ module _ (s : List ℕ) (p : Part) where
   pad-none e q = true≢false (sym (q .is-set) ∙ pad-clear (bodyOf s p) (p .bits) _ (q .which) e (q .behind) (omega (arith, q .inside)))
 
 partNumber-case : (P : PartRead → Type 0) (place : ℕ) (s : List ℕ) (at : ℕ) (go : ℕ → ℕ → PartRead)
-    → (Malformed (readNumber s at) → P (part.Refused (refusal.Part place))) → (readNumber s at ≡ CutOff → P part.Tail)
+    → (readNumber s at ≡ TooManyBytes → P (part.Refused (refusal.Part place)))
+    → (readNumber s at ≡ LongForm → P (part.Refused (refusal.LongForm place))) → (readNumber s at ≡ CutOff → P part.Tail)
     → ((v end : ℕ) → readNumber s at ≡ Value v end → P (go v end)) → P (partNumber place (readNumber s at) go)
 unfolding partNumber
-partNumber-case P place s at go bad cut on = cases (readNumber s at) refl
+partNumber-case P place s at go many long cut on = cases (readNumber s at) refl
   where
     cases : (x : Number) → readNumber s at ≡ x → P (partNumber place x go)
     cases (Value v end) e = on v end e
-    cases TooManyBytes e = bad (subst Malformed (sym e) fourth-goes-on)
-    cases LongForm e = bad (subst Malformed (sym e) last-is-0)
+    cases TooManyBytes e = many e
+    cases LongForm e = long e
     cases CutOff e = cut e
-
-partNumber-malformed : (place : ℕ) (x : Number) (go : ℕ → ℕ → PartRead) → Malformed x → partNumber place x go ≡ part.Refused (refusal.Part place)
-unfolding partNumber
-partNumber-malformed place x go fourth-goes-on = refl
-partNumber-malformed place x go last-is-0 = refl
 
 module _ (h : Header) (s : List ℕ) (before : PartName) (place : ℕ) where
   abbrev reads : PartRead → Type 0
@@ -170,13 +180,14 @@ module _ (h : Header) (s : List ℕ) (before : PartName) (place : ℕ) where
   pub part-case : PartCase h s before place (readPart h s before place)
   unfolding readPart headed
   part-case =
-      partNumber-case reads place s place _ (PART-malformed none (omega arith)) (TAIL-head none (omega arith)) (λ n a r0.
-      let one = next r0 none in
-      partNumber-case reads place s a _ (PART-malformed one (omega arith)) (TAIL-head one (omega arith)) (λ k b r1.
-      let two = next r0 (next r1 none) in
-      partNumber-case reads place s b _ (PART-malformed two (omega arith)) (TAIL-head two (omega arith)) (λ bits body r2.
-      let three = next r0 (next r1 (next r2 none)) in
-      judgedPart-case (headed place n k bits body) (record { numbers = three; placed = refl; ends = refl }))))
+      number none (omega arith) (λ n a r0.
+      number (next r0 none) (omega arith) (λ k b r1.
+      number (next r0 (next r1 none)) (omega arith) (λ bits body r2.
+      judgedPart-case (headed place n k bits body) (record { numbers = next r0 (next r1 (next r2 none)); placed = refl; ends = refl }))))
+    where
+      number : {vs : List ℕ} {at : ℕ} → Numbers s place vs at → length vs < 3 → {go : ℕ → ℕ → PartRead}
+          → ((v end : ℕ) → readNumber s at ≡ Value v end → reads (go v end)) → reads (partNumber place (readNumber s at) go)
+      number {at = at} ns l {go} on = partNumber-case reads place s at go (PART-malformed ns l) (LONGFORM ns l) (TAIL-head ns l) on
 
   part-stops : (x : PartRead) (vs : List ℕ) (at : ℕ) → Numbers s place vs at → length vs < 3
       → ((go : ℕ → ℕ → PartRead) → partNumber place (readNumber s at) go ≡ x) → readPart h s before place ≡ x
@@ -198,7 +209,8 @@ module _ (h : Header) (s : List ℕ) (before : PartName) (place : ℕ) where
 
   pub part-is : (x : PartRead) → PartCase h s before place x → readPart h s before place ≡ x
   unfolding judgedPart
-  part-is x (PART-malformed {vs = vs} {at = at} ns l m) = part-stops x vs at ns l (λ go. partNumber-malformed place (readNumber s at) go m)
+  part-is x (PART-malformed {vs = vs} {at = at} ns l e) = part-stops x vs at ns l (λ go. unfold partNumber in rw e)
+  part-is x (LONGFORM {vs = vs} {at = at} ns l e) = part-stops x vs at ns l (λ go. unfold partNumber in rw e)
   part-is x (TAIL-head {vs = vs} {at = at} ns l e) = part-stops x vs at ns l (λ go. unfold partNumber in rw e)
   part-is x (PART {p = p} r n) =
       part-judged p r ∙ rw (not-test (legalHead h before (nameOf p) (p .bits)) (λ e. n (legal-head h before (nameOf p) (p .bits) e)), r .placed)

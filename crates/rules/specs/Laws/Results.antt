@@ -63,6 +63,7 @@ refusal-some (refusal.Part i) = omega arith
 refusal-some (refusal.Pad i) = omega arith
 refusal-some (refusal.Fit i) = omega arith
 refusal-some refusal.Ask = omega arith
+refusal-some (refusal.LongForm i) = omega arith
 refusal-some refusal.Grey = omega arith
 
 pub number-accepts : (v : Verdict) → verdictNumber v ≡ 0 → v ≡ Accepted
