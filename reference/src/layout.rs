@@ -14,8 +14,10 @@ pub const LONGEST_NUMBER: usize = 4;
 pub enum Number {
     /// A number in its shortest form, and where the bytes after it begin.
     Value { value: u32, next: usize },
-    /// A fourth byte with the top bit set, or several bytes and the last 0.
-    Malformed,
+    /// A fourth byte with the top bit set.
+    TooManyBytes,
+    /// Several bytes and the last 0.
+    LongForm,
     /// The bytes end before the number does.
     CutOff,
 }
@@ -36,11 +38,11 @@ pub fn read_number(bytes: &[u8], at: usize) -> Number {
             return if shortest {
                 Number::Value { value, next }
             } else {
-                Number::Malformed
+                Number::LongForm
             };
         }
     }
-    Number::Malformed
+    Number::TooManyBytes
 }
 
 /// Appends a number in its shortest form. It is below 2^28.

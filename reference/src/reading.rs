@@ -30,7 +30,7 @@ struct Head {
 /// What came of reading a head's three numbers.
 enum HeadRead {
     Whole(Head),
-    Malformed,
+    Refused(Cause),
     CutOff,
 }
 
@@ -93,7 +93,7 @@ impl<'r> Walk<'r> {
         }
         let head = match self.read_head() {
             HeadRead::Whole(head) => head,
-            HeadRead::Malformed => return Err(Refusal::at(Cause::Part, offset)),
+            HeadRead::Refused(cause) => return Err(Refusal::at(cause, offset)),
             HeadRead::CutOff => return Ok(self.end_in_tail()),
         };
         if !self.is_legal(&head) {
@@ -132,7 +132,8 @@ impl<'r> Walk<'r> {
                     *number = value;
                     next = after;
                 }
-                Number::Malformed => return HeadRead::Malformed,
+                Number::TooManyBytes => return HeadRead::Refused(Cause::Part),
+                Number::LongForm => return HeadRead::Refused(Cause::LongForm),
                 Number::CutOff => return HeadRead::CutOff,
             }
         }
@@ -171,7 +172,7 @@ impl<'r> Walk<'r> {
     }
 }
 
-/// A number of the header; cut off or malformed it is HEAD at its offset,
+/// A number of the header; one that has no value is refused at its offset,
 /// which is the record's length where the bytes end between two numbers.
 fn header_number(record: &[u8], at: &mut usize) -> Result<u32, Refusal> {
     match read_number(record, *at) {
@@ -179,6 +180,7 @@ fn header_number(record: &[u8], at: &mut usize) -> Result<u32, Refusal> {
             *at = next;
             Ok(value)
         }
-        Number::Malformed | Number::CutOff => Err(Refusal::at(Cause::Head, *at)),
+        Number::TooManyBytes | Number::CutOff => Err(Refusal::at(Cause::Head, *at)),
+        Number::LongForm => Err(Refusal::at(Cause::LongForm, *at)),
     }
 }

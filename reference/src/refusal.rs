@@ -14,12 +14,13 @@ pub enum Cause {
     Pad = 9,
     Fit = 10,
     Ask = 11,
+    LongForm = 12,
     Grey = 13,
 }
 
 /// A cause and the place reported with it: an index into the pyramid for
-/// [`Cause::Range`], an offset into the record for the causes 6, 8, 9 and 10,
-/// 0 for all others.
+/// [`Cause::Range`], an offset into the record for the causes 6, 8, 9, 10 and
+/// 12, 0 for all others.
 #[derive(Clone, Copy, Debug, PartialEq, Eq)]
 pub struct Refusal {
     pub cause: Cause,

@@ -1,7 +1,7 @@
 //! Cases of decoding.
 
 use super::lent::*;
-use super::{header_of, Case, Compared, Subject};
+use super::{header_of, malformed, Case, Compared, Subject};
 use crate::generate::{records, Chance};
 use crate::layout::Header;
 use crate::portal::DECODE_ANSWER;
@@ -33,7 +33,8 @@ pub fn compare_decode(chance: &mut Chance, base: &[u8], subject: &dyn Subject) -
     out.check("out", &mut want_out)?;
     work.check("work", &mut want_work)?;
     check_input("the record", &record, &before)?;
-    Ok(Case::new(want, header.map(|header| header.shape)))
+    let sorts = malformed::sorts_of(&record, want, said.place);
+    Ok(Case::new(want, header.map(|header| header.shape)).sorted(sorts))
 }
 
 /// Lengths of output and workspace: right, or at times one of them wrong.

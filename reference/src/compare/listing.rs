@@ -1,6 +1,6 @@
 //! Cases of the part list program.
 
-use super::{header_of, Case, Compared};
+use super::{header_of, malformed, Case, Compared};
 use crate::generate::{records, Chance};
 use crate::partlist::LONGEST_INPUT;
 use std::io::Write;
@@ -20,7 +20,9 @@ pub fn compare_partlist(chance: &mut Chance, base: &[u8], program: &Path) -> Com
         return Err(format!("printed\n{got}expected\n{want}"));
     }
     let shape = header_of(&record).map(|header| header.shape);
-    Ok(Case::new(listed_number(&want), shape))
+    let (number, place) = listed_refusal(&want);
+    let sorts = malformed::sorts_of(&record, number, place);
+    Ok(Case::new(number, shape).sorted(sorts))
 }
 
 /// What a program prints for this input.
@@ -38,9 +40,12 @@ fn printed(program: &Path, input: &[u8]) -> std::io::Result<Vec<u8>> {
     Ok(child.wait_with_output()?.stdout)
 }
 
-/// The number in `refused NUMBER PLACE`, 0 for a list.
-fn listed_number(list: &str) -> u64 {
+/// Number and place in `refused NUMBER PLACE`, 0 and 0 for a list.
+fn listed_refusal(list: &str) -> (u64, u64) {
     list.strip_prefix("refused ")
-        .and_then(|rest| rest.split(' ').next())
-        .map_or(0, |number| number.parse().expect("a number"))
+        .and_then(|rest| rest.trim_end().split_once(' '))
+        .map_or((0, 0), |(number, place)| {
+            let parsed = |text: &str| text.parse().expect("a number");
+            (parsed(number), parsed(place))
+        })
 }

@@ -3,7 +3,8 @@
 //!
 //! Every buffer is lent dirty, with guards on both sides that must stay as
 //! they are. A comparison counts its cases by answer, by N and by size, and
-//! is only good if none of the counts is 0.
+//! those of reading by the number that was refused for its form, and is only
+//! good if none of the counts is 0.
 
 mod coding;
 mod decoding;
@@ -11,6 +12,7 @@ mod grey_in;
 mod grey_out;
 mod lent;
 mod listing;
+mod malformed;
 mod serving;
 mod surveying;
 mod tally;
@@ -207,12 +209,12 @@ impl Routine {
     pub fn can_answer(self, number: u64) -> bool {
         let numbers: &[u64] = match self {
             Routine::Code => &[0, 1, 2, 3, 4, 5],
-            Routine::Serve => &[0, 1, 5, 6, 7, 8, 9, 11],
-            Routine::Decode => &[0, 1, 2, 3, 5, 6, 7, 8, 9, 10],
+            Routine::Serve => &[0, 1, 5, 6, 7, 8, 9, 11, 12],
+            Routine::Decode => &[0, 1, 2, 3, 5, 6, 7, 8, 9, 10, 12],
             Routine::GreySize => &[0, 5, 13],
             Routine::GreyIn => &[0, 1, 2, 3, 5, 13],
             Routine::GreyOut => &[0, 1, 2, 3, 4, 5],
-            Routine::Survey | Routine::Partlist => &[0, 1, 5, 6, 7, 8, 9],
+            Routine::Survey | Routine::Partlist => &[0, 1, 5, 6, 7, 8, 9, 12],
         };
         numbers.contains(&number)
     }
@@ -228,7 +230,10 @@ impl Routine {
             Routine::GreySize => grey_in::sorts_of_headers(),
             Routine::GreyIn => grey_in::sorts_of_files(),
             Routine::GreyOut => grey_out::SORTS.to_vec(),
-            _ => Vec::new(),
+            Routine::Serve | Routine::Decode | Routine::Survey | Routine::Partlist => {
+                malformed::sorts()
+            }
+            Routine::Code => Vec::new(),
         }
     }
 }

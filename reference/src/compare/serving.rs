@@ -1,7 +1,7 @@
 //! Cases of serving.
 
 use super::lent::*;
-use super::{header_of, Case, Compared, Subject};
+use super::{header_of, malformed, Case, Compared, Subject};
 use crate::generate::{records, Chance};
 use crate::layout::Header;
 use crate::portal::SERVE_ANSWER;
@@ -45,7 +45,8 @@ pub fn compare_serve(chance: &mut Chance, base: &[u8], subject: &dyn Subject) ->
     answer.check("answer", &mut want_answer)?;
     out.check("out", &mut want_out)?;
     check_input("the record", &record, &before)?;
-    Ok(Case::new(want, header.map(|header| header.shape)))
+    let sorts = malformed::sorts_of(&record, want, said.place);
+    Ok(Case::new(want, header.map(|header| header.shape)).sorted(sorts))
 }
 
 /// An output as long as the record, or just long enough, or too short.

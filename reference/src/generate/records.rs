@@ -3,7 +3,7 @@
 
 use super::{pyramids, shapes, Chance};
 use crate::family::Node;
-use crate::layout::{body_length, head_bytes, push_number, Header, Packer};
+use crate::layout::{body_length, head_bytes, push_number, Header, Packer, LONGEST_NUMBER};
 use crate::lists::AllLists;
 use crate::passes::{run_part, Side};
 use crate::reading::Walk;
@@ -182,6 +182,10 @@ pub enum Harm {
     HeaderNumber,
     /// One number of a part's head is another, or none.
     HeadNumber,
+    /// One of these eight numbers is not in its shortest form.
+    LongForm,
+    /// One of these eight numbers has too many bytes.
+    TooManyBytes,
     /// Padding bits set.
     Padding,
     /// Bits of a body turned over.
@@ -199,12 +203,14 @@ pub enum Harm {
 }
 
 impl Harm {
-    pub const ALL: [Harm; 12] = [
+    pub const ALL: [Harm; 14] = [
         Harm::None,
         Harm::Struck,
         Harm::Cut,
         Harm::HeaderNumber,
         Harm::HeadNumber,
+        Harm::LongForm,
+        Harm::TooManyBytes,
         Harm::Padding,
         Harm::Body,
         Harm::BitCount,
@@ -252,6 +258,11 @@ pub fn harm_pieces(chance: &mut Chance, pieces: &mut Pieces, harm: Harm) {
             let at = chance.below(pieces.header.len());
             replace_number(chance, &mut pieces.header[at]);
         }
+        Harm::LongForm => {
+            let number = any_number(chance, pieces);
+            *number = long_form(chance, number);
+        }
+        Harm::TooManyBytes => *any_number(chance, pieces) = too_many_bytes(chance),
         _ if pieces.parts.is_empty() => {}
         Harm::HeadNumber => {
             let part = any_part(chance, pieces);
@@ -300,6 +311,17 @@ fn any_part<'p>(chance: &mut Chance, pieces: &'p mut Pieces) -> &'p mut PartPiec
     &mut pieces.parts[at]
 }
 
+/// One of the header's five numbers, or of the three of any part's head.
+fn any_number<'p>(chance: &mut Chance, pieces: &'p mut Pieces) -> &'p mut Vec<u8> {
+    let in_header = pieces.header.len();
+    let which = chance.below(in_header + 3);
+    if which < in_header || pieces.parts.is_empty() {
+        &mut pieces.header[which % in_header]
+    } else {
+        &mut any_part(chance, pieces).head[which - in_header]
+    }
+}
+
 /// Each part with some likelihood, or one alone, or one level or plane.
 pub fn strike_some(chance: &mut Chance, pieces: &mut Pieces) {
     if pieces.parts.is_empty() {
@@ -320,7 +342,7 @@ pub fn strike_some(chance: &mut Chance, pieces: &mut Pieces) {
     }
 }
 
-/// Another value, a malformed number, or no number.
+/// Another value, a number that has none, or no number.
 fn replace_number(chance: &mut Chance, number: &mut Vec<u8>) {
     *number = match chance.below(8) {
         0 => Vec::new(),
@@ -329,11 +351,7 @@ fn replace_number(chance: &mut Chance, number: &mut Vec<u8>) {
         3 => number_bytes((chance.word() >> 36) as u32),
         4 => neighbour(chance, number),
         5 => long_form(chance, number),
-        6 => {
-            let mut bytes = chance.bytes(4);
-            bytes.iter_mut().for_each(|byte| *byte |= 0x80);
-            bytes
-        }
+        6 => too_many_bytes(chance),
         _ => number_bytes(*chance.pick(&[0, 1, 2, 3, 4, 5, 6, 7, 17, 18, 64, 127, 128, 512, 516])),
     };
 }
@@ -352,15 +370,23 @@ fn neighbour(chance: &mut Chance, number: &[u8]) -> Vec<u8> {
     number_bytes(near & ((1 << 28) - 1))
 }
 
-/// The same value with groups of 0 after it.
+/// The same value with groups of 0 after it, of as many bytes as a number may
+/// have at most.
 fn long_form(chance: &mut Chance, number: &[u8]) -> Vec<u8> {
     let mut bytes = number.to_vec();
-    for _ in 0..1 + chance.below(2) {
-        if let Some(last) = bytes.last_mut() {
-            *last |= 0x80;
-        }
-        bytes.push(0);
-    }
+    bytes.truncate(LONGEST_NUMBER - 1);
+    let least = bytes.len().max(1);
+    let groups = least + chance.below(LONGEST_NUMBER - least);
+    bytes.resize(groups, 0);
+    bytes.iter_mut().for_each(|byte| *byte |= 0x80);
+    bytes.push(0);
+    bytes
+}
+
+/// As many bytes as a number may have, and each says that another follows.
+fn too_many_bytes(chance: &mut Chance) -> Vec<u8> {
+    let mut bytes = chance.bytes(LONGEST_NUMBER);
+    bytes.iter_mut().for_each(|byte| *byte |= 0x80);
     bytes
 }
 

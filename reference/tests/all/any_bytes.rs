@@ -12,7 +12,7 @@ use reference::partlist;
 /// Decodes, serves and lists; returns decoding's number.
 fn take(record: &[u8]) -> u64 {
     let (decoding, pyramid) = decoded(record);
-    assert!([0, 1, 6, 7, 8, 9, 10].contains(&decoding.number));
+    assert!([0, 1, 6, 7, 8, 9, 10, 12].contains(&decoding.number));
     if pyramid.len() <= 256 {
         let outcome = literal::Outcome {
             number: decoding.number,
@@ -27,7 +27,7 @@ fn take(record: &[u8]) -> u64 {
     assert!(decoding.tail <= record.len() as u64);
 
     let (serving, out) = serve_into(record, 1, 0, record.len());
-    assert!([0, 1, 6, 7, 8, 9].contains(&serving.number));
+    assert!([0, 1, 6, 7, 8, 9, 12].contains(&serving.number));
     agree(
         record,
         (decoding.number, decoding.place),
@@ -63,7 +63,7 @@ fn agree(record: &[u8], decoding: (u64, u64), serving: (u64, u64)) {
 #[test]
 fn damaged_records() {
     let mut chance = Chance::new(51);
-    let mut counts = [0; 12];
+    let mut counts = [0; 13];
     for _ in 0..600 {
         let shape = any_shape(&mut chance);
         let whole = any_whole(&mut chance, shape);
@@ -71,7 +71,7 @@ fn damaged_records() {
             counts[take(&any_record(&mut chance, &whole)) as usize] += 1;
         }
     }
-    for number in [0, 1, 6, 7, 8, 9, 10] {
+    for number in [0, 1, 6, 7, 8, 9, 10, 12] {
         assert!(counts[number] > 20, "{number}: {counts:?}");
     }
 }

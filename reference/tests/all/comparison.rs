@@ -73,8 +73,10 @@ fn the_comparing_program() {
 
 #[test]
 fn what_did_not_occur_is_named() {
-    let tally = compare(Routine::Serve, 1, &Own).unwrap();
-    assert!(tally.missing().len() > 10);
+    let missing = compare(Routine::Serve, 1, &Own).unwrap().missing();
+    assert!(missing.len() > 25, "{missing:?}");
+    let long = |name: &&String| name.starts_with("long ");
+    assert!(missing.iter().filter(long).count() >= 7, "{missing:?}");
     let missing = compare(Routine::GreySize, 1, &Own).unwrap().missing();
     assert!(missing.len() > 15, "{missing:?}");
     let third = |name: &&String| name.starts_with("a third being ");
@@ -244,6 +246,34 @@ fn a_wrong_number_or_place_is_caught() {
             }
         });
     }
+}
+
+/// A long form told as the header's or the part's other faults are, and the
+/// other way round; number, place and memory as they were.
+#[test]
+fn a_wrong_cause_of_a_malformed_number_is_caught() {
+    for routine in [Routine::Serve, Routine::Decode, Routine::Survey] {
+        fails(routine, |lent| {
+            if lent.returned == 12 && lent.answer[1] < 5 {
+                tell(lent, 6);
+            }
+        });
+        fails(routine, |lent| {
+            if lent.returned == 12 && lent.answer[1] >= 7 {
+                tell(lent, 8);
+            }
+        });
+        fails(routine, |lent| {
+            if lent.returned == 6 {
+                tell(lent, 12);
+            }
+        });
+    }
+}
+
+fn tell(lent: &mut Lent, number: u64) {
+    lent.returned = number;
+    lent.answer[0] = number;
 }
 
 #[test]

@@ -258,7 +258,8 @@ pub struct Outcome {
 }
 
 enum Fault {
-    Malformed,
+    TooManyBytes,
+    LongForm,
     CutOff,
 }
 
@@ -266,9 +267,9 @@ enum Fault {
 fn number_at(bytes: &[u8], at: usize) -> Result<(usize, usize), Fault> {
     let four: Vec<usize> = bytes[at..].iter().take(4).map(|&b| b.into()).collect();
     match four.iter().position(|&byte| byte < 128) {
-        None if four.len() == 4 => Err(Fault::Malformed),
+        None if four.len() == 4 => Err(Fault::TooManyBytes),
         None => Err(Fault::CutOff),
-        Some(last) if last > 0 && four[last] == 0 => Err(Fault::Malformed),
+        Some(last) if last > 0 && four[last] == 0 => Err(Fault::LongForm),
         Some(last) => {
             let groups = four[..=last].iter().rev();
             let value = groups.fold(0, |value, byte| value * 128 + byte % 128);
@@ -305,6 +306,7 @@ pub fn decode(record: &[u8]) -> Outcome {
                 header[which] = value;
                 at = next;
             }
+            Err(Fault::LongForm) => return refused(12, at),
             Err(_) => return refused(6, at),
         }
         if header[0] != 1 {
@@ -326,7 +328,8 @@ pub fn decode(record: &[u8]) -> Outcome {
         let offset = at;
         let ([plane, level, count], next) = match head_at(record, at) {
             Ok(head) => head,
-            Err(Fault::Malformed) => return refused(8, offset),
+            Err(Fault::TooManyBytes) => return refused(8, offset),
+            Err(Fault::LongForm) => return refused(12, offset),
             Err(Fault::CutOff) => {
                 tail = record.len() - offset;
                 break;

@@ -1,6 +1,6 @@
 //! Numbers in seven-bit groups, and packed bits: P1 to P5 and their like.
 
-use reference::layout::Number::{self, CutOff, Malformed, Value};
+use reference::layout::Number::{self, CutOff, LongForm, TooManyBytes, Value};
 use reference::layout::{padding_is_clear, push_number, read_number, Bits, Packer, RanOut};
 
 fn written(value: u32) -> Vec<u8> {
@@ -30,16 +30,28 @@ fn p1_to_p3_numbers_in_shortest_form() {
 }
 
 #[test]
-fn p4_and_p5_malformed_numbers() {
+fn p4_long_forms() {
     for bytes in [
         &[0x80, 0x00][..],
-        &[0x80, 0x80, 0x80, 0x80],
-        &[0xFF, 0xFF, 0xFF, 0xFF],
-        &[0x80, 0x80, 0x80, 0x80, 0x01],
+        &[0xFF, 0x00],
+        &[0x80, 0x00, 0x80],
         &[0x81, 0x80, 0x00],
+        &[0x80, 0x80, 0x80, 0x00],
         &[0x81, 0x80, 0x80, 0x00],
     ] {
-        assert_eq!(read_number(bytes, 0), Malformed, "{bytes:02X?}");
+        assert_eq!(read_number(bytes, 0), LongForm, "{bytes:02X?}");
+    }
+}
+
+#[test]
+fn p5_too_many_bytes() {
+    for bytes in [
+        &[0x80, 0x80, 0x80, 0x80][..],
+        &[0xFF, 0xFF, 0xFF, 0xFF],
+        &[0x80, 0x80, 0x80, 0x80, 0x00],
+        &[0x80, 0x80, 0x80, 0x80, 0x01],
+    ] {
+        assert_eq!(read_number(bytes, 0), TooManyBytes, "{bytes:02X?}");
     }
 }
 

@@ -114,13 +114,32 @@ fn header_that_ends_early() {
 }
 
 #[test]
-fn malformed_numbers_in_the_header() {
-    both(&[0x81, 0x00, 4, 4, 1, 3], 6, 0);
-    both(&[0x80, 0x80, 0x80, 0x80, 4, 4, 1, 3], 6, 0);
-    both(&[1, 0x84, 0x00, 4, 1, 3], 6, 1);
-    both(&[1, 4, 0x84, 0x80, 0x80, 0x00, 1, 3], 6, 2);
+fn too_many_bytes_in_the_header() {
+    let endless = [0x80, 0x80, 0x80, 0x80];
+    for at in 0..5 {
+        let (before, behind) = (&EXAMPLE[..at], &EXAMPLE[at + 1..5]);
+        both(&[before, &endless].concat(), 6, at as u64);
+        both(&[before, &endless, behind].concat(), 6, at as u64);
+        both(&[before, &endless, &[0], behind].concat(), 6, at as u64);
+    }
     both(&[1, 4, 4, 0xFF, 0xFF, 0xFF, 0xFF, 3], 6, 3);
-    both(&[1, 4, 4, 1, 0x80, 0x00], 6, 4);
+}
+
+#[test]
+fn long_forms_in_the_header() {
+    for at in 0..5 {
+        let (before, behind) = (&EXAMPLE[..at], &EXAMPLE[at + 1..5]);
+        for groups in 1..4 {
+            let mut long = vec![0x80; groups];
+            long[0] |= EXAMPLE[at];
+            long.push(0);
+            both(&[before, &long].concat(), 12, at as u64);
+            both(&[before, &long, behind].concat(), 12, at as u64);
+        }
+    }
+    both(&[0x81, 0x00], 12, 0);
+    both(&[1, 4, 0x80, 0x00, 4], 12, 2);
+    both(&[1, 4, 4, 1, 0xFF, 0x00], 12, 4);
 }
 
 #[test]
@@ -139,7 +158,10 @@ fn order_in_the_header() {
     both(&[2, 0, 0, 0, 99], 7, 0);
     // All four numbers before their values.
     both(&[1, 0, 4, 1], 6, 4);
-    both(&[1, 0, 0, 99, 0x80, 0x00], 6, 4);
+    both(&[1, 0, 0, 99, 0x80, 0x00], 12, 4);
+    // The first number that isn't a value decides.
+    both(&[1, 4, 0x80, 0x00, 0x80, 0x80, 0x80, 0x80], 12, 2);
+    both(&[1, 4, 0x80, 0x80, 0x80, 0x80, 0x80, 0x00], 6, 2);
     // SIZE before the parts, and before what is lent or asked for.
     both(&[1, 0, 4, 1, 3, 0x80, 0x00], 1, 0);
     let (answer, _) = decode_into::<Faithful>(&[1, 0, 4, 1, 3], 3, 3);
@@ -149,17 +171,50 @@ fn order_in_the_header() {
 }
 
 #[test]
-fn malformed_part_heads() {
-    both(&after_header(&[0x80, 0x00]), 8, 5);
-    both(&after_header(&[0x80, 0x80, 0x80, 0x80]), 8, 5);
-    both(&after_header(&[2, 0x82, 0x00]), 8, 5);
-    both(&after_header(&[2, 2, 0x85, 0x00]), 8, 5);
+fn too_many_bytes_in_a_head() {
+    let endless = [0x80, 0x80, 0x80, 0x80];
+    for which in 0..3 {
+        for offset in [5, 21] {
+            let before = &EXAMPLE[..offset + which];
+            both(&[before, &endless].concat(), 8, offset as u64);
+            both(&[before, &endless, &[0, 1]].concat(), 8, offset as u64);
+        }
+    }
     both(&after_header(&[2, 2, 0xFF, 0xFF, 0xFF, 0xFF]), 8, 5);
+}
+
+#[test]
+fn long_forms_in_a_head() {
+    for which in 0..3 {
+        for offset in [5, 21] {
+            let before = &EXAMPLE[..offset + which];
+            for long in [&[0x80, 0][..], &[0xFF, 0], &[0x85, 0x80, 0x80, 0]] {
+                both(&[before, long].concat(), 12, offset as u64);
+                both(&[before, long, &[2, 5, 0x80]].concat(), 12, offset as u64);
+            }
+        }
+    }
+    both(&after_header(&[0x80, 0x00, 1, 5]), 12, 5);
+    both(&after_header(&[2, 2, 0x80, 0x00, 0x80]), 12, 5);
+}
+
+#[test]
+fn order_in_a_head() {
     // The first that isn't a value decides, before any value is judged.
-    both(&after_header(&[99, 0x80, 0x00]), 8, 5);
-    let mut late = EXAMPLE[..21].to_vec();
-    late.extend([0x80, 0x00]);
-    both(&late, 8, 21);
+    both(&after_header(&[2, 0x80, 0x00, 5]), 12, 5);
+    both(&after_header(&[0x7F, 0x80, 0x00]), 12, 5);
+    both(&after_header(&[2, 0x80, 0x80, 0x80, 0x80]), 8, 5);
+    both(
+        &after_header(&[2, 0x80, 0x00, 0xFF, 0xFF, 0xFF, 0xFF]),
+        12,
+        5,
+    );
+    both(
+        &after_header(&[2, 0xFF, 0xFF, 0xFF, 0xFF, 0x80, 0x00]),
+        8,
+        5,
+    );
+    tail(&after_header(&[2, 2, 5, 0x80, 2, 0x80]), 2);
 }
 
 #[test]
@@ -319,6 +374,12 @@ fn the_first_part_at_fault_decides() {
     record[17] = 2;
     assert_eq!(decoding(&record), (10, 13));
     assert_eq!(serving(&record), (8, 17));
+    // FIT before a long form.
+    let mut record = EXAMPLE.to_vec();
+    record[7] = 4;
+    record.splice(9..10, [0x82, 0x00]);
+    assert_eq!(decoding(&record), (10, 5));
+    assert_eq!(serving(&record), (12, 9));
     // Within a part PAD comes before FIT.
     let mut record = EXAMPLE.to_vec();
     record[7] = 4;
@@ -356,6 +417,11 @@ fn order_in_serving() {
     assert_eq!((answer.number, answer.place), (9, 5));
     let (answer, _) = serve_into(&EXAMPLE[..4], 3, 0, 0);
     assert_eq!((answer.number, answer.place), (6, 4));
+    let long_level = after_header(&[2, 0x82, 0x00, 5]);
+    let (answer, _) = serve_into(&long_level, 3, 0, 0);
+    assert_eq!((answer.number, answer.place), (11, 0));
+    let (answer, _) = serve_into(&long_level, 1, 0, 0);
+    assert_eq!((answer.number, answer.place), (12, 5));
     let last_bad = example_with(29, 0x21);
     let (answer, _) = serve_into(&last_bad, 2, 3, 0);
     assert_eq!((answer.number, answer.place), (9, 25));
@@ -372,6 +438,11 @@ fn order_in_decoding() {
     assert_eq!((answer.number, answer.place), (9, 5));
     let (answer, _) = decode_into::<Faithful>(&[1, 4, 4, 1], 15, 0);
     assert_eq!((answer.number, answer.place), (6, 4));
+    let (answer, _) = decode_into::<Faithful>(&[1, 4, 4, 0x81, 0x00], 15, 0);
+    assert_eq!((answer.number, answer.place), (12, 3));
+    let long_level = after_header(&[2, 0x82, 0x00, 5]);
+    let (answer, _) = decode_into::<Faithful>(&long_level, 16, 63);
+    assert_eq!((answer.number, answer.place), (3, 0));
 }
 
 /// 17 planes of bits that no coder wrote: every coefficient is found at the
