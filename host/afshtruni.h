@@ -49,22 +49,28 @@ extern "C" {
  * several refusals would be due, the description of the call tells which is
  * given.
  *
- * The numbers are fixed: none will change its meaning.
+ * The numbers are fixed: none will change its meaning. Since 0.2.0 there is 12,
+ * which has taken one cause from 6 and from 8.
+ *
+ * A number in a record is malformed in one of two ways. It goes on after four
+ * bytes: that is 6 in the header and 8 in a part. Or it is in long form, of
+ * several bytes and the last of them 0: that is 12 in both.
  */
 enum {
     AFS_ACCEPTED = 0,
-    AFS_SIZE = 1,    /* width, height, decompositions or planes not legal; place 0 */
-    AFS_LENGTH = 2,  /* pyramid not exactly width x height; place 0; never from serving */
-    AFS_WORK = 3,    /* workspace under 4 x width x height; place 0; never from serving */
-    AFS_RANGE = 4,   /* a magnitude over 65535, from coding, or over 131071, from afs_grey_out(); first such index */
-    AFS_ROOM = 5,    /* the output, or the answer, is too short; place 0 */
-    AFS_HEAD = 6,    /* header ends early, or a number in it is malformed; offset of that number */
-    AFS_VERSION = 7, /* version not 1; place 0 */
-    AFS_PART = 8,    /* head of a part not legal; offset of the part */
-    AFS_PAD = 9,     /* a padding bit set; offset of the part */
-    AFS_FIT = 10,    /* bits of a part run out or are left over; offset of the part; only from decoding */
-    AFS_ASK = 11,    /* level or plane asked for not legal; place 0; only from serving */
-    AFS_GREY = 13    /* no grey file, or cut short; place 0; only from afs_grey_size() and afs_grey_in() */
+    AFS_SIZE = 1,      /* width, height, decompositions or planes not legal; place 0 */
+    AFS_LENGTH = 2,    /* pyramid not exactly width x height; place 0; never from serving */
+    AFS_WORK = 3,      /* workspace under 4 x width x height; place 0; never from serving */
+    AFS_RANGE = 4,     /* a magnitude over 65535, from coding, or over 131071, from afs_grey_out(); first such index */
+    AFS_ROOM = 5,      /* the output, or the answer, is too short; place 0 */
+    AFS_HEAD = 6,      /* header ends early, or a number in it goes on after four bytes; offset of that number */
+    AFS_VERSION = 7,   /* version not 1; place 0 */
+    AFS_PART = 8,      /* head of a part not legal, or a number in it goes on after four bytes; offset of the part */
+    AFS_PAD = 9,       /* a padding bit set; offset of the part */
+    AFS_FIT = 10,      /* bits of a part run out or are left over; offset of the part; only from decoding */
+    AFS_ASK = 11,      /* level or plane asked for not legal; place 0; only from serving */
+    AFS_LONGFORM = 12, /* a number in long form; its offset if it is in the header, else that of its part */
+    AFS_GREY = 13      /* no grey file, or cut short; place 0; only from afs_grey_size() and afs_grey_in() */
 };
 
 /*
@@ -240,31 +246,32 @@ enum {
  *
  *   5 ROOM     answer_len is under 4. This alone is judged before the record,
  *              and only returned: the answer itself is all 0.
- *   6 HEAD     the version's number ends early or is malformed. Place 0.
+ *   6 HEAD     the version's number ends early or goes on after four bytes.
+ *              Place 0. If it is in long form, 12 LONGFORM instead.
  *   7 VERSION  the version is not 1. Place 0.
  *   6 HEAD     one of the four others in the header (width, height,
- *              decompositions, planes) ends early or is malformed. Place: the
- *              offset where it begins, or would begin: the length of the
- *              record if that ends between two of them.
+ *              decompositions, planes) ends early or goes on after four
+ *              bytes. Place: the offset where it begins, or would begin: the
+ *              length of the record if that ends between two of them. If it is
+ *              in long form, 12 LONGFORM instead, with the same place.
  *   1 SIZE     decompositions not 1 to 5, or width or height not 4 to 512 or
  *              not a multiple of 2^(N+1), or planes over 17. Place 0.
  *   11 ASK     `level` or `plane` is not legal for this record. Place 0.
- *   8 PART     in the first part at fault: a number of its head is malformed;
- *              or the head is there, and its plane is not under the number of
- *              planes, its level not 1 to N + 1, its place in the order not
- *              after the part before it, or its bit count over
+ *   8 PART     in the first part at fault: a number of its head goes on after
+ *              four bytes; or the head is there, and its plane is not under the
+ *              number of planes, its level not 1 to N + 1, its place in the
+ *              order not after the part before it, or its bit count over
  *              4 x width x height (even if the body is cut off). Place: the
- *              offset of the part.
- *   9 PAD      in the first part at fault, if it isn't 8: the body is there,
- *              and a bit after its last one is set. Place: the offset of the
- *              part.
+ *              offset of the part. If the first of its three numbers that has
+ *              no value is in long form, 12 LONGFORM instead, with the same
+ *              place.
+ *   9 PAD      in the first part at fault, if it isn't 8 or 12: the body is
+ *              there, and a bit after its last one is set. Place: the offset of
+ *              the part.
  *   5 ROOM     the whole result is longer than out_len. Place 0.
  *
  * Parts that are dropped are judged as those that are kept. Bodies are not
  * decoded, so whether the bits of a part fit (10 FIT) is not judged here.
- *
- * A malformed number is one that goes on after four bytes, or has several and
- * ends in a 0.
  *
  * Memory after the call.
  *
@@ -331,11 +338,14 @@ enum {
  *
  *   5 ROOM     answer_len is under 8. This alone is judged before the record,
  *              and only returned: the answer itself is all 0.
- *   6, 7, 6, 1 as afs_serve() judges the header, with the same places.
- *   8 PART     in the first part at fault, as in afs_serve(). Place: the
+ *   6, 12, 7, 1
+ *              as afs_serve() judges the header, in its order and with its
+ *              places.
+ *   8 PART, 12 LONGFORM
+ *              in the first part at fault, as in afs_serve(). Place: the
  *              offset of the part.
- *   9 PAD      in the first part at fault, if it isn't 8: as in afs_serve().
- *              Place: the offset of the part.
+ *   9 PAD      in the first part at fault, if it isn't 8 or 12: as in
+ *              afs_serve(). Place: the offset of the part.
  *
  * Bodies are not decoded: a record that is accepted here may still be refused
  * by decoding with 10 FIT.
@@ -431,19 +441,22 @@ enum {
  *
  *   5 ROOM     answer_len is under 9. This alone is judged before the record,
  *              and only returned: the answer itself is all 0.
- *   6, 7, 6, 1 as afs_serve() judges the header, with the same places.
+ *   6, 12, 7, 1
+ *              as afs_serve() judges the header, in its order and with its
+ *              places.
  *   2 LENGTH   out_len is not exactly width x height. Place 0.
  *   3 WORK     work_len is under 4 x width x height. Place 0.
- *   8 PART     in the first part at fault, as in afs_serve(). Place: the
+ *   8 PART, 12 LONGFORM
+ *              in the first part at fault, as in afs_serve(). Place: the
  *              offset of the part.
- *   9 PAD      in the first part at fault, if it isn't 8: as in afs_serve().
- *              Place: the offset of the part.
- *   10 FIT     in the first part at fault, if it isn't 8 or 9: the part is
+ *   9 PAD      in the first part at fault, if it isn't 8 or 12: as in
+ *              afs_serve(). Place: the offset of the part.
+ *   10 FIT     in the first part at fault, if it isn't 8, 9 or 12: the part is
  *              usable, and its bits run out or are left over. Place: the
  *              offset of the part.
  *
- * The first part at fault decides, whichever of the three its fault is. Parts
- * that are not usable are judged for 8 and 9, never for 10.
+ * The first part at fault decides, whichever of the four its fault is. Parts
+ * that are not usable are judged for 8, 9 and 12, never for 10.
  *
  * Memory after the call.
  *

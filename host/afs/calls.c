@@ -117,7 +117,7 @@ const char *name_of(uint64_t number) {
     static const char *const names[] = {
         [AFS_ACCEPTED] = "ACCEPTED", [AFS_SIZE] = "SIZE", [AFS_LENGTH] = "LENGTH",   [AFS_WORK] = "WORK", [AFS_RANGE] = "RANGE", [AFS_ROOM] = "ROOM",
         [AFS_HEAD] = "HEAD",         [AFS_VERSION] = "VERSION", [AFS_PART] = "PART", [AFS_PAD] = "PAD",   [AFS_FIT] = "FIT",     [AFS_ASK] = "ASK",
-        [AFS_GREY] = "GREY",
+        [AFS_LONGFORM] = "LONGFORM", [AFS_GREY] = "GREY",
     };
     return number < sizeof names / sizeof *names && names[number] != NULL ? names[number] : "UNKNOWN";
 }

@@ -99,6 +99,16 @@ static Sentence why_head(Bytes record) {
     return say("the header is malformed");
 }
 
+/* Whether the header's numbers are there and well formed: a refusal of a number's form is then of a part. */
+static bool has_header(Bytes record) {
+    size_t offset = 0;
+    uint32_t number;
+    for (size_t i = 0; i < sizeof header_names / sizeof *header_names; i++)
+        if (try_number(record, &offset, &number) != WELL_FORMED)
+            return false;
+    return true;
+}
+
 static Sentence why_version(Bytes record) {
     size_t offset = 0;
     uint32_t version;
@@ -180,7 +190,7 @@ static Sentence why_not_this_size(const Request *request, Header header) {
 }
 
 static Sentence why_not_read(const Request *request, Bytes record, const Outcome *outcome) {
-    if (outcome->number == AFS_HEAD)
+    if (outcome->number == AFS_HEAD || (outcome->number == AFS_LONGFORM && !has_header(record)))
         return why_head(record);
     if (outcome->number == AFS_VERSION)
         return why_version(record);
@@ -190,6 +200,7 @@ static Sentence why_not_read(const Request *request, Bytes record, const Outcome
     case AFS_SIZE:
         return why_not_this_size(request, header);
     case AFS_PART:
+    case AFS_LONGFORM:
         return why_part(record, outcome->place, header);
     case AFS_PAD:
     case AFS_FIT:

@@ -87,7 +87,7 @@ def farthest_pixels(reached):
 
 def is_right(told, record):
     if told["number"] != 0:
-        return told["name"] in ("SIZE", "HEAD", "VERSION", "PART", "PAD", "FIT") and len(told["why"]) > 20 and told["tail"] is None
+        return told["name"] in ("SIZE", "HEAD", "VERSION", "PART", "PAD", "FIT", "LONGFORM") and len(told["why"]) > 20 and told["tail"] is None
     (_, width, height, decompositions, planes), parts, tail = parts_of(record)
     there = {(plane, level) for plane, level, *_ in parts}
     levels = decompositions + 1
