@@ -10,12 +10,14 @@ use native.Mathlib.Omega.{arith}
 use lib.Dec.{leb, ltb}
 use lib.ListN.{length, drop, drop-of-length-le}
 use lib.Seq.{drop-cons}
+use lib.Count.{leadingZeros, leading-length}
 use lib.IntN.{ℤ, pos, natAbs}
 use borrow.Author.Tests.{lt-ltb, le-ltb, le-leb, lt-leb, eq-eqb, ne-eqb}
 use Rattle.rules.specs.Document.Notation.{greatest}
-use Rattle.rules.specs.Document.Pyramid.{magnitude, mostMagnitude, mostPlanes, log2Up, planesOf}
+use Rattle.rules.specs.Document.Pyramid.{magnitude, planesOf}
 use Rattle.rules.specs.Document.Calls.{firstOver}
 use Rattle.rules.specs.Laws.Tests.{lowest-found}
+use Rattle.rules.specs.Laws.Planes.{counts-once, planesOf-counts}
 
 max-assoc : (a b c : ℕ) → max (max a b) c ≡ max a (max b c)
 max-assoc a b c = omega arith
@@ -61,31 +63,12 @@ module _ (pyramid : List ℤ) where
   unfolding greatest
   seen-all m q h e = sym (max-zero m) ∙ rw (drop-of-length-le pyramid h) at e
 
-module _ (m : ℕ) where
-  pub planes-none : m ≡ 0 → planesOf m ≡ 0
-  unfolding planesOf
-  planes-none e = rw (eq-eqb m 0 e)
+pub leading-few : (m : ℕ) → m < 2 ^ 32 → leadingZeros 32 m ≤ 32
+leading-few m h = omega (arith, leading-length 32 m h .1)
 
-  planes-some : (m ≡ 0 → ⊥) → planesOf m ≡ suc (log2Up mostPlanes m)
-  unfolding planesOf
-  planes-some d = rw (ne-eqb m 0 d)
-
-  abbrev pub Reaching : ℕ → Type 0
-  Reaching e = log2Up e m ≡ log2Up mostPlanes m
-
-  log2-step : (e t : ℕ) → 0 < e → t ≡ 2 ^ (e - 1) → log2Up e m ≡ cond (leb m t) (log2Up (e - 1) m) e
-  unfolding log2Up
-  log2-step zero t h e = absurd (omega arith)
-  log2-step (suc e) t h i = let j : suc e - 1 ≡ e = omega arith in rw (i, j)
-
-  module _ (e t : ℕ) (h : 0 < e) (i : t ≡ 2 ^ (e - 1)) (going : Reaching e) where
-    pub planes-found : (m ≡ 0 → ⊥) → t < m → e + 1 ≡ planesOf m
-    planes-found d l = add-one e ∙ ap suc (sym (log2-step e t h i ∙ rw (lt-leb m t l)) ∙ going) ∙ sym (planes-some d)
-
-    pub planes-onward : m ≤ t → Reaching (e - 1)
-    planes-onward l = sym (log2-step e t h i ∙ rw (le-leb m t l)) ∙ going
-
-  pub planes-one : (m ≡ 0 → ⊥) → (e : ℕ) → e ≤ 0 → Reaching e → 1 ≡ planesOf m
-  unfolding log2Up
-  planes-one d zero h r = ap suc r ∙ sym (planes-some d)
-  planes-one d (suc e) h r = absurd (omega arith)
+-- The planes of m are as many as it has bits: what is left of 32 without the zeros in front.
+pub planes-left : (m : ℕ) → m < 2 ^ 32 → 32 - leadingZeros 32 m ≡ planesOf m
+planes-left m h =
+    let l = leading-length 32 m h in
+    let same : l .0 ≡ planesOf m = counts-once m (record { enough = l .2; least = l .3 }) (planesOf-counts m h) in
+    omega (arith, l .1, same)

@@ -10,8 +10,6 @@ ghost use Rattle.rules.specs.Document.Pyramid.{magnitude, negative, below0, pla
 ghost use Rattle.rules.specs.Document.Passes.{signed, grown};
 ghost use Rattle.rules.specs.Document.Calls.{firstOver};
 
-const MOST_PLANES: usize = 17;
-
 pub fn is_negative(v: i32) -> bool
     ensures { λ r. ⌜ r ≡ below0 v ⌝ }
 {
@@ -148,15 +146,5 @@ pub fn largest_magnitude(pyramid: &[i32]) -> u32
 pub fn planes_of(m: u32) -> usize
     ensures { λ r. ⌜ r ≡ planesOf m ⌝ }
 {
-    if m == 0 {
-        return 0;
-    }
-    let mut e = MOST_PLANES;
-    while 0 < e {
-        if threshold_of(Plane(e - 1)) < m {
-            return e + 1;
-        }
-        e -= 1;
-    }
-    1
+    (32 - u32::leading_zeros(m)) as usize
 }

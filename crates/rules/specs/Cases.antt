@@ -9,9 +9,9 @@ use Rattle.rules.specs.declared.Size.{Size}
 use Rattle.rules.specs.declared.Number.{Number}
 use Rattle.rules.specs.declared.Number.the-variants.{Value, TooManyBytes, LongForm}
 use Rattle.rules.specs.Document.Notation.{any, every, flat, greatest, lowest, ifAny, zeros}
-use Rattle.rules.specs.Document.Pyramid.{legalSide, legalSize, magnitude, negative, within, levelUpTo, levelOf, block, offspringLL, offspringAt, offspringOf, generations, descendantsOf, log2Up, planesOf}
+use Rattle.rules.specs.Document.Pyramid.{legalSide, legalSize, magnitude, negative, within, levelUpTo, levelOf, block, offspringLL, offspringAt, offspringOf, generations, descendantsOf, log2Up, earlierPlanesOf, log2Down, planesOf}
 use Rattle.rules.specs.Document.Passes.{members, inLevel, tested, tests, opened, added, weighed, visited, visits, turns, sets, refines, pass, walk, listed, passed, after, from, rows, bandLL, rootOf, start, partsOfPlane, partNames, truth, coded, signed, grown, written, decoded}
-use Rattle.rules.specs.Document.Layout.{groups, numberBytes, numberFrom, readNumber, eightBits, packFrom, packed, bitAt, clearFrom, padClear, headerBytes, partBytes, codedParts, planesIn, partsOf, recordOf, wholeOf, bodyOf, nameOf, sameName, needs, usable, reached}
+use Rattle.rules.specs.Document.Layout.{groups, numberBytes, numberFrom, readNumber, eightBits, packFrom, packed, bitAt, clearFrom, padClear, headerBytes, partBytes, codedParts, recordWith, planesIn, earlierPlanesIn, partsOf, recordOf, wholeOf, bodyOf, nameOf, sameName, needs, usable, reached}
 use Rattle.rules.specs.Document.Numbers.{headNumber, judgedHeader, readSizes, readHeader, partNumber, follows, legalHead, judgedPart, headed, readPart, goOn, readFrom, readParts}
 use Rattle.rules.specs.Document.Calls.{Result, unless, workFor, firstOver, fitted, coding, onHeader, onEnding, legalAsk, keptOf, servedBytes, Portion, portioned, serving}
 use Rattle.rules.specs.Document.Calls.{used, onward, decodeParts, Picture, reachedPlane, reachedPlanes, pictured, decodedParts, decoding}
@@ -19,7 +19,7 @@ use Rattle.rules.specs.Document.Calls.{filled, codeOut, codeAnswer, serv
 
 -- Opening one of these opens a section's definitions.
 unfoldable pub opensPyramid : Unit {0}
-unfolding legalSide legalSize magnitude negative within levelUpTo levelOf log2Up planesOf
+unfolding legalSide legalSize magnitude negative within levelUpTo levelOf log2Up earlierPlanesOf log2Down planesOf
 opensPyramid = tt
 
 unfoldable pub opensNotation : Unit {0}
@@ -51,7 +51,7 @@ unfolding nameOf sameName needs usable reached
 opensUsable = tt
 
 unfoldable pub opensRecord : Unit {0}
-unfolding opensUsable partBytes codedParts planesIn partsOf recordOf wholeOf bodyOf
+unfolding opensUsable partBytes codedParts planesIn earlierPlanesIn partsOf recordOf wholeOf bodyOf
 opensRecord = tt
 
 unfoldable pub opensHeader : Unit {0}
@@ -231,6 +231,32 @@ lateBytes =
     ∷ 0x00 ∷ 0x02 ∷ 0x09 ∷ 0x00 ∷ 0x80
     ∷ 0x00 ∷ 0x01 ∷ 0x16 ∷ 0x18 ∷ 0x14 ∷ 0x40 ∷ []
 
+-- A pyramid of 4 x 4 with N = 1 that has 5 at (0,0), else 0; its record, and the one that was written before W5.
+unfoldable pub five : List ℤ
+five = pos 5 ∷ replicate 15 (pos 0)
+
+unfoldable pub fiveBytes : List ℕ
+fiveBytes =
+    0x01 ∷ 0x04 ∷ 0x04 ∷ 0x01 ∷ 0x03
+    ∷ 0x02 ∷ 0x02 ∷ 0x05 ∷ 0x80
+    ∷ 0x02 ∷ 0x01 ∷ 0x03 ∷ 0x00
+    ∷ 0x01 ∷ 0x02 ∷ 0x04 ∷ 0x00
+    ∷ 0x01 ∷ 0x01 ∷ 0x03 ∷ 0x00
+    ∷ 0x00 ∷ 0x02 ∷ 0x04 ∷ 0x10
+    ∷ 0x00 ∷ 0x01 ∷ 0x03 ∷ 0x00 ∷ []
+
+unfoldable pub fiveBefore : List ℕ
+fiveBefore =
+    0x01 ∷ 0x04 ∷ 0x04 ∷ 0x01 ∷ 0x04
+    ∷ 0x03 ∷ 0x02 ∷ 0x04 ∷ 0x00
+    ∷ 0x03 ∷ 0x01 ∷ 0x03 ∷ 0x00
+    ∷ 0x02 ∷ 0x02 ∷ 0x05 ∷ 0x80
+    ∷ 0x02 ∷ 0x01 ∷ 0x03 ∷ 0x00
+    ∷ 0x01 ∷ 0x02 ∷ 0x04 ∷ 0x00
+    ∷ 0x01 ∷ 0x01 ∷ 0x03 ∷ 0x00
+    ∷ 0x00 ∷ 0x02 ∷ 0x04 ∷ 0x10
+    ∷ 0x00 ∷ 0x01 ∷ 0x03 ∷ 0x00 ∷ []
+
 unfoldable pub opensExample : Unit {0}
 unfolding four eight rowsOf example thirty servedAtTwo servedToPlaneOne without12 without11
 opensExample = tt
@@ -238,6 +264,10 @@ opensExample = tt
 unfoldable pub opensOthers : Unit {0}
 unfolding servedTwice padSet bitsRunOut bitsLeftOver cutInHead single singleBytes early earlyBytes late lateBytes
 opensOthers = tt
+
+unfoldable pub opensFive : Unit {0}
+unfolding five fiveBytes fiveBefore
+opensFive = tt
 
 -- What a row may speak of.
 pub data Shown : Type 0 where
@@ -311,8 +341,14 @@ table =
     -- P12 in 8 x 8, N = 2: (0,1) has the block at (0,2), (1,2) the block at (2,4).
     ∷ (numbers (offspringOf eight (0 * 8 + 1)) is numbers (2 ∷ 3 ∷ 10 ∷ 11 ∷ []))
     ∷ (numbers (offspringOf eight (1 * 8 + 2)) is numbers (20 ∷ 21 ∷ 28 ∷ 29 ∷ []))
-    -- "log2 M rounded up, .. and there are n_max + 1 planes"
-    ∷ (numbers (map planesOf (1 ∷ 4 ∷ 5 ∷ 65535 ∷ [])) is numbers (1 ∷ 3 ∷ 4 ∷ 17 ∷ []))
+    -- "log2 M rounded up, .. and there are n_max + 1 planes", as records had until W5; since then "the coder rounds down"
+    ∷ (numbers (map earlierPlanesOf (1 ∷ 4 ∷ 5 ∷ 65535 ∷ [])) is numbers (1 ∷ 3 ∷ 4 ∷ 17 ∷ []))
+    ∷ (numbers (map planesOf (1 ∷ 4 ∷ 5 ∷ 65535 ∷ [])) is numbers (1 ∷ 3 ∷ 3 ∷ 16 ∷ []))
+    -- W5: 5 alone in 4 x 4, by either count: 29 bytes and 37, and both decode to it
+    ∷ (codes five four 29 is bytes (0 ∷ 0 ∷ 29 ∷ []) fiveBytes)
+    ∷ (numbers (recordWith four (earlierPlanesIn five) five) is numbers fiveBefore)
+    ∷ (decodes fiveBytes is pyramid (zeros 9) five)
+    ∷ (decodes fiveBefore is pyramid (zeros 9) five)
     -- "its first 29 bytes decode with a tail of 4"
     ∷ (decodes (take 29 thirty)
     is pyramid (0 ∷ 0 ∷ 4 ∷ 1 ∷ 0 ∷ 0 ∷ 0 ∷ 0 ∷ 0 ∷ []) (rowsOf (pos 4) (negsuc 0) (pos 2) (pos 0) (negsuc 1) (pos 0)))
@@ -357,5 +393,5 @@ unfolding opensPyramid opensFamily opensPass opensRun opensSides opensBytes open
 opensDocument = tt
 
 pub cases-hold : map (λ r. r .given) table ≡ map (λ r. r .stated) table
-unfolding table opensExample opensOthers opensDocument opensAnswers codedAs servedAs decodedAs
+unfolding table opensExample opensOthers opensFive opensDocument opensAnswers codedAs servedAs decodedAs
 cases-hold = refl

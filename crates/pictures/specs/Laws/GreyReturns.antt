@@ -17,7 +17,7 @@ use Rattle.rules.specs.Document.Calls.{accepted, unless, workFor, firstOver, co
 use Rattle.rules.specs.Laws.Results.{unless-accepted, accepted-same}
 use Rattle.rules.specs.Laws.Sizes.{Legal, legal}
 use Rattle.rules.specs.Laws.Causes.{InRange}
-use Rattle.rules.specs.Laws.Demand3.{codable-coded}
+use Rattle.rules.specs.Laws.Demand3.{this-count, codable-coded}
 use Rattle.rules.specs.Laws.Demand2.{demand2-whole}
 use Rattle.rules.specs.Laws.Planes.{none-over, under-first}
 use Rattle.rules.specs.Laws.Demands.{Codable}
@@ -125,7 +125,8 @@ module _ {file : List ℕ} {n : ℕ} {x : GreyPyramid} {pixels : List ℕ} (t : 
   pub grey-whole : (work room : ℕ) → workFor (x .size) ≤ work → length (greyFile (x .size) pixels) ≤ room
       → (y : Picture) → decoding (recordOf (x .size) (x .pyramid)) (area (x .size)) work ≡ accepted y
       → greyOut (y .pyramid) (x .size) room work ≡ accepted (record { file = greyFile (x .size) pixels; clipped = 0 })
+  unfolding recordOf
   grey-whole work room space enough y e =
-      let decoded = demand2-whole taken-codable (area (x .size)) work (record { whole = refl; enough = space }) in
+      let decoded = demand2-whole taken-codable (this-count taken-codable) (area (x .size)) work (record { whole = refl; enough = space }) in
       let same : x .pyramid ≡ y .pyramid = ap (λ v. v .pyramid) (accepted-same (sym decoded ∙ e)) in
       ap (λ v. greyOut v (x .size) room work) (sym same) ∙ grey-returns room work enough space

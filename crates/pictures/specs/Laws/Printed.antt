@@ -14,7 +14,7 @@ use Rattle.rules.specs.Document.Layout.{planesIn, partsOf}
 use Rattle.rules.specs.Document.Calls.{Result, accepted, Picture, planeIn, decoding}
 use Rattle.rules.specs.Laws.Sizes.{Legal, legal}
 use Rattle.rules.specs.Laws.Demands.{Codable, Stated, Rounded, kept, arrived}
-use Rattle.rules.specs.Laws.Demand3.{demand3, printed-near}
+use Rattle.rules.specs.Laws.Demand3.{this-count, demand3, printed-near}
 use Rattle.pictures.specs.Document.Lifting.{pyramidOf, pictureOf}
 use Rattle.pictures.specs.Laws.Grids.{picture-length, pixels-return}
 use Rattle.pictures.specs.Laws.Turns.{Pixels}
@@ -114,4 +114,5 @@ module _ (z : Size) (pixels : List ℕ) (p : Pixels z pixels) (e : legalSize z �
   -- Any selection of the record's parts, cut anywhere behind the header.
   pub picture-printed : (room work : ℕ) → Stated z room work → (keep : PartName → Bool) (n : ℕ)
       → Printed z pixels (decoding (arrived z (planesIn (pyramidOf z pixels)) (kept keep (partsOf z (pyramidOf z pixels))) n) room work)
-  picture-printed room work sizes keep n = rounded-printed (demand3 c room work sizes keep n)
+  unfolding partsOf
+  picture-printed room work sizes keep n = rounded-printed (demand3 c (this-count c) room work sizes keep n)

@@ -10,7 +10,7 @@ use Rattle.rules.specs.declared.Number.{Number}
 use Rattle.rules.specs.declared.Number.the-variants.{Value, TooManyBytes, LongForm, CutOff}
 use Rattle.rules.specs.declared.Part.{Part}
 use Rattle.rules.specs.Document.Notation.{any, every, flat, greatest, lowest}
-use Rattle.rules.specs.Document.Pyramid.{Family, family, levels, magnitude, negative, planesOf}
+use Rattle.rules.specs.Document.Pyramid.{Family, family, levels, magnitude, negative, earlierPlanesOf, planesOf}
 use Rattle.rules.specs.Document.Passes.{Course, State, start, after, PartName, partNames, coded}
 
 -- "Numbers are groups of seven bits, lowest group first; a set top bit says that another byte follows. At most four bytes; shortest form
@@ -87,15 +87,24 @@ module _ (F : Family) (mag : ℕ → ℕ) (neg : ℕ → Bool) where
       let c = coded F mag neg p s in
       record { name = p; bits = c .side } ∷ codedParts ps (after (p .level) c s)
 
+-- for so many planes, and for those that the coder counts: the earlier count gave records too
+abbrev pub partsWith : Size → ℕ → List ℤ → List CodedPart
+partsWith z planes pyramid = codedParts (family z) (magnitude pyramid) (negative pyramid) (partNames (levels z) planes) (start z)
+
+abbrev pub recordWith : Size → ℕ → List ℤ → List ℕ
+recordWith z planes pyramid = headerBytes z planes ++ flat partBytes (partsWith z planes pyramid)
+
 unfoldable pub planesIn : List ℤ → ℕ
 planesIn pyramid = planesOf (greatest natAbs pyramid)
 
+unfoldable pub earlierPlanesIn : List ℤ → ℕ
+earlierPlanesIn pyramid = earlierPlanesOf (greatest natAbs pyramid)
+
 unfoldable pub partsOf : Size → List ℤ → List CodedPart
-partsOf z pyramid =
-    codedParts (family z) (magnitude pyramid) (negative pyramid) (partNames (levels z) (planesIn pyramid)) (start z)
+partsOf z pyramid = partsWith z (planesIn pyramid) pyramid
 
 unfoldable pub recordOf : Size → List ℤ → List ℕ
-recordOf z pyramid = headerBytes z (planesIn pyramid) ++ flat partBytes (partsOf z pyramid)
+recordOf z pyramid = recordWith z (planesIn pyramid) pyramid
 
 -- The bytes of a part that was read, and its body: "the portion of the caller's record that holds it".
 unfoldable pub wholeOf : List ℕ → Part → List ℕ

@@ -119,7 +119,7 @@ module _ (z : Size) where
   maxL m g q = greatest (maxD m g) (offspringOf q)
 
 -- "Planes: for a largest magnitude M above 0, n_max is log2 M rounded up, as both documents print, and there are n_max + 1 planes,
--- numbered n_max down to 0. For M = 0 there are none."
+-- numbered n_max down to 0. For M = 0 there are none." So the coder counted until document 02's W5; such records are read for good.
 abbrev pub mostPlanes : ℕ
 mostPlanes = 17
 
@@ -128,5 +128,14 @@ unfoldable pub log2Up : ℕ → ℕ → ℕ
 log2Up zero m = 0
 log2Up (suc e) m = cond (leb m (2 ^ e)) (log2Up e m) (suc e)
 
+unfoldable pub earlierPlanesOf : ℕ → ℕ
+earlierPlanesOf m = cond (eqb m 0) 0 (suc (log2Up mostPlanes m))
+
+-- W5: "From now on the coder rounds down: M = 5 gives 3 planes and 65,535 gives 16." M is a magnitude of 32 bits.
+-- the greatest exponent, of those up to the first, whose power of two is not over M; 0 if there is none
+unfoldable pub log2Down : ℕ → ℕ → ℕ
+log2Down zero m = 0
+log2Down (suc e) m = cond (leb (2 ^ suc e) m) (suc e) (log2Down e m)
+
 unfoldable pub planesOf : ℕ → ℕ
-planesOf m = cond (eqb m 0) 0 (suc (log2Up mostPlanes m))
+planesOf m = cond (eqb m 0) 0 (suc (log2Down 31 m))

@@ -5,6 +5,7 @@ use mathlib.Core.Path.{_≡_, ap, sym, _∙_, subst}
 use mathlib.Core.List.{List}
 use mathlib.Core.Bool.{Bool, _&&_}
 use Prim.Native.Nat.{ℕ, _-_, _^_, _≤_, _<_}
+use native.Mathlib.Omega.{arith}
 use lib.Dec.{leb, eqb}
 use lib.ListN.{length, getD}
 use lib.IntN.{ℤ, pos, natAbs}
@@ -14,18 +15,18 @@ use Rattle.rules.specs.declared.Refusal.the-variants as refusal
 use Rattle.rules.specs.Document.Notation.{greatest}
 use Rattle.rules.specs.Document.Pyramid.{legalSize, area, levelOf, mostMagnitude, magnitude, negative, mostPlanes}
 use Rattle.rules.specs.Document.Passes.{PartName}
-use Rattle.rules.specs.Document.Layout.{CodedPart, planesIn, partsOf, recordOf}
+use Rattle.rules.specs.Document.Layout.{CodedPart, partsWith, planesIn, earlierPlanesIn, partsOf, recordOf}
 use Rattle.rules.specs.Document.Calls.{Result, accepted, workFor, firstOver, fitted, coding, Portion, serving, Picture, planeIn, decoding}
 use Rattle.rules.specs.Laws.Tests.{selection-both}
 use Rattle.rules.specs.Laws.Sizes.{legal}
 use Rattle.rules.specs.Laws.Offspring.Level.{level-most, level-least}
 use Rattle.rules.specs.Laws.Causes.{InRange, CODED}
 use Rattle.rules.specs.Laws.CallCases.{coding-is}
-use Rattle.rules.specs.Laws.Planes.{planesOf-most, magnitude-under, under-first, range-greatest}
+use Rattle.rules.specs.Laws.Planes.{planesOf-above, planesOf-most, earlierPlanesOf-above, earlierPlanesOf-most, magnitude-most, under-first, range-greatest}
 use Rattle.rules.specs.Laws.Results.{unless-accepted, accepted-same}
 use Rattle.rules.specs.Laws.ReadBackPart.{headerOf}
 use Rattle.rules.specs.Laws.ReadBack.{recordBytes, beforeAll}
-use Rattle.rules.specs.Laws.Demands.{Codable, Stated, names, kept, asked, wholeIn, tailIn, arrived, Rounded, Near}
+use Rattle.rules.specs.Laws.Demands.{Codable, Stated, PlaneCount, names, kept, asked, wholeIn, tailIn, arrived, Rounded, Near}
 use Rattle.rules.specs.Laws.Rounding.{rounded-near}
 use Rattle.rules.specs.Laws.Arrival.{ReadsAs, record-reads, arrived-reads, arrived-selection, legal-order}
 use Rattle.rules.specs.Laws.RoundedRun.{rounded-read, coder-legal, kept-legal, rounded-arrived}
@@ -53,49 +54,57 @@ codable-coded {z} {pyramid} c room work enough space =
     (subst (InRange mostMagnitude pyramid) (c .in-range) (under-first mostMagnitude pyramid)) enough)
 
 module _ {z : Size} {pyramid : List ℤ} (c : Codable z pyramid) where
-  -- There are planes enough, and no more than a record may have: this is all that the theorem asks of their number.
-  pub planes-enough : (q : ℕ) → magnitude pyramid q < 2 ^ planesIn pyramid
-  planes-enough = magnitude-under pyramid (range-greatest mostMagnitude pyramid (c .in-range))
-
-  pub planes-few : planesIn pyramid ≤ mostPlanes
+  -- The coder's count, and the earlier one.
+  pub this-count : PlaneCount pyramid (planesIn pyramid)
   unfolding planesIn
-  planes-few = planesOf-most (greatest natAbs pyramid) (range-greatest mostMagnitude pyramid (c .in-range))
+  this-count =
+      let most : greatest natAbs pyramid ≤ mostMagnitude = range-greatest mostMagnitude pyramid (c .in-range) in
+      record {
+        enough = λ q. omega (arith, magnitude-most pyramid q, planesOf-above (greatest natAbs pyramid) most);
+        few = omega (arith, planesOf-most (greatest natAbs pyramid) most);
+      }
 
-  module _ (room work : ℕ) (sizes : Stated z room work) where
+  pub earlier-count : PlaneCount pyramid (earlierPlanesIn pyramid)
+  unfolding earlierPlanesIn
+  earlier-count =
+      let most : greatest natAbs pyramid ≤ mostMagnitude = range-greatest mostMagnitude pyramid (c .in-range) in
+      record {
+        enough = λ q. omega (arith, magnitude-most pyramid q, earlierPlanesOf-above (greatest natAbs pyramid) most);
+        few = earlierPlanesOf-most (greatest natAbs pyramid) most;
+      }
+
+  -- Of the record of any such number of planes.
+  module _ {planes : ℕ} (count : PlaneCount pyramid planes) (room work : ℕ) (sizes : Stated z room work) where
     -- Any selection of the record's parts, cut anywhere behind the header.
     pub demand3 : (keep : PartName → Bool) (n : ℕ)
-        → Rounded z (planesIn pyramid) pyramid (names (wholeIn n (kept keep (partsOf z pyramid)))) (tailIn n (kept keep (partsOf z pyramid)))
-        (decoding (arrived z (planesIn pyramid) (kept keep (partsOf z pyramid)) n) room work)
-    unfolding partsOf
-    demand3 keep n = rounded-arrived z (c .legal-size) (planesIn pyramid) planes-few pyramid planes-enough keep n room work sizes
+        → Rounded z planes pyramid (names (wholeIn n (kept keep (partsWith z planes pyramid)))) (tailIn n (kept keep (partsWith z planes pyramid)))
+        (decoding (arrived z planes (kept keep (partsWith z planes pyramid)) n) room work)
+    demand3 keep n = rounded-arrived z (c .legal-size) planes (count .few) pyramid (count .enough) keep n room work sizes
 
     -- Not cut.
     pub demand3-selection : (keep : PartName → Bool)
-        → Rounded z (planesIn pyramid) pyramid (names (kept keep (partsOf z pyramid))) 0
-        (decoding (recordBytes z (planesIn pyramid) (kept keep (partsOf z pyramid))) room work)
-    unfolding partsOf
+        → Rounded z planes pyramid (names (kept keep (partsWith z planes pyramid))) 0
+        (decoding (recordBytes z planes (kept keep (partsWith z planes pyramid))) room work)
     demand3-selection keep =
-        rounded-read z (c .legal-size) (planesIn pyramid) planes-few pyramid planes-enough keep
-        (record-reads z (planesIn pyramid) _ (c .legal-size) planes-few
-        (kept-legal z (c .legal-size) (planesIn pyramid) pyramid keep))
+        rounded-read z (c .legal-size) planes (count .few) pyramid (count .enough) keep
+        (record-reads z planes _ (c .legal-size) (count .few)
+        (kept-legal z (c .legal-size) planes pyramid keep))
         room work sizes
 
     -- Served for level r and plane p, from what arrived.
     pub demand3-served-on : (keep : PartName → Bool) (n r p out : ℕ) (x : Portion)
-        → serving (arrived z (planesIn pyramid) (kept keep (partsOf z pyramid)) n) r p out ≡ accepted x
-        → Rounded z (planesIn pyramid) pyramid (names (kept (asked r p) (wholeIn n (kept keep (partsOf z pyramid))))) 0
+        → serving (arrived z planes (kept keep (partsWith z planes pyramid)) n) r p out ≡ accepted x
+        → Rounded z planes pyramid (names (kept (asked r p) (wholeIn n (kept keep (partsWith z planes pyramid))))) 0
         (decoding (x .bytes) room work)
-    unfolding partsOf
     demand3-served-on keep n r p out x e =
-        let planes : ℕ = planesIn pyramid in
-        let ps : List CodedPart = kept keep (partsOf z pyramid) in
+        let ps : List CodedPart = kept keep (partsWith z planes pyramid) in
         let ok = kept-legal z (c .legal-size) planes pyramid keep in
-        let some : (left : PartName → Bool) × (kept left (partsOf z pyramid) ≡ wholeIn n ps)
-        = arrived-selection keep n (beforeAll planes) (partsOf z pyramid) (legal-order (headerOf z planes) (beforeAll planes) ps ok) in
-        let both : kept (λ q. some .0 q && asked r p q) (partsOf z pyramid) ≡ kept (asked r p) (wholeIn n ps)
-        = selection-both (λ q. some .0 (q .name)) (λ q. asked r p (q .name)) (partsOf z pyramid) ∙ ap (kept (asked r p)) (some .1) in
+        let some : (left : PartName → Bool) × (kept left (partsWith z planes pyramid) ≡ wholeIn n ps)
+        = arrived-selection keep n (beforeAll planes) (partsWith z planes pyramid) (legal-order (headerOf z planes) (beforeAll planes) ps ok) in
+        let both : kept (λ q. some .0 q && asked r p q) (partsWith z planes pyramid) ≡ kept (asked r p) (wholeIn n ps)
+        = selection-both (λ q. some .0 (q .name)) (λ q. asked r p (q .name)) (partsWith z planes pyramid) ∙ ap (kept (asked r p)) (some .1) in
         let bytes : recordBytes z planes (kept (asked r p) (wholeIn n ps)) ≡ x .bytes
-        = ap (λ y. y .bytes) (served-read (arrived-reads z planes ps (c .legal-size) planes-few ok n) (c .legal-size) planes-few r p out x e) in
+        = ap (λ y. y .bytes) (served-read (arrived-reads z planes ps (c .legal-size) (count .few) ok n) (c .legal-size) (count .few) r p out x e) in
         subst (λ y. Rounded z planes pyramid (names (kept (asked r p) (wholeIn n ps))) 0 (decoding y room work)) bytes
         (subst (λ y. Rounded z planes pyramid (names y) 0 (decoding (recordBytes z planes y) room work)) both
         (demand3-selection (λ q. some .0 q && asked r p q)))
@@ -119,9 +128,9 @@ demand3-served pyramid z out code-work r p served room work bytes x coded e size
     let w = coding-codable pyramid z out code-work bytes coded in
     let c : Codable z pyramid = w .0 in
     let read : ReadsAs z (planesIn pyramid) (partsOf z pyramid) 0 (recordOf z pyramid)
-    = record-reads z (planesIn pyramid) (partsOf z pyramid) (c .legal-size) (planes-few c)
+    = record-reads z (planesIn pyramid) (partsOf z pyramid) (c .legal-size) (this-count c .few)
     (coder-legal z (c .legal-size) (planesIn pyramid) pyramid) in
     let same : recordBytes z (planesIn pyramid) (kept (asked r p) (partsOf z pyramid)) ≡ x .bytes
-    = ap (λ y. y .bytes) (served-read read (c .legal-size) (planes-few c) r p served x (ap (λ y. serving y r p served) (sym (w .1)) ∙ e)) in
+    = ap (λ y. y .bytes) (served-read read (c .legal-size) (this-count c .few) r p served x (ap (λ y. serving y r p served) (sym (w .1)) ∙ e)) in
     subst (λ y. Rounded z (planesIn pyramid) pyramid (names (kept (asked r p) (partsOf z pyramid))) 0 (decoding y room work)) same
-    (demand3-selection c room work sizes (asked r p))
+    (demand3-selection c (this-count c) room work sizes (asked r p))

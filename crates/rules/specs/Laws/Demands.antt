@@ -8,9 +8,9 @@ use lib.Dec.{leb}
 use lib.ListN.{length, getD, take}
 use lib.IntN.{ℤ, pos, natAbs, _-ℤ_}
 use Rattle.rules.specs.declared.Size.{Size}
-use Rattle.rules.specs.Document.Pyramid.{legalSize, area, levels, levelOf, family, below0, mostMagnitude, magnitude, negative}
-use Rattle.rules.specs.Document.Passes.{start, PartName, partNames, signed}
-use Rattle.rules.specs.Document.Layout.{headerBytes, CodedPart, partBytes, codedParts, reached}
+use Rattle.rules.specs.Document.Pyramid.{legalSize, area, levels, levelOf, below0, mostMagnitude, magnitude, negative, mostPlanes}
+use Rattle.rules.specs.Document.Passes.{PartName, signed}
+use Rattle.rules.specs.Document.Layout.{headerBytes, CodedPart, partBytes, reached}
 use Rattle.rules.specs.Document.Calls.{Result, accepted, firstOver, workFor, Picture, levelPlaces, planeIn}
 use Rattle.rules.specs.Laws.ReadBack.{recordBytes, selection}
 
@@ -29,9 +29,13 @@ pub record Stated (z : Size) (room work : ℕ) : Type 0 where
 abbrev pub enoughRoom : Size → ℕ
 enoughRoom z = 6 * area z + 640
 
--- The coder's parts, for so many planes; the names of parts; and of parts those that a test keeps: the others are lost, or were not served.
-abbrev pub coderParts : Size → ℕ → List ℤ → List CodedPart
-coderParts z planes pyramid = codedParts (family z) (magnitude pyramid) (negative pyramid) (partNames (levels z) planes) (start z)
+-- All that demand 3 asks of a record's number of planes: every magnitude is below 2^planes, and a record may have as many. The coder's count is
+-- one, and so is the earlier one.
+pub record PlaneCount (pyramid : List ℤ) (planes : ℕ) : Type 0 where
+  pub enough : (q : ℕ) → magnitude pyramid q < 2 ^ planes
+  pub few : planes ≤ mostPlanes
+
+-- The names of parts; and of parts those that a test keeps: the others are lost, or were not served.
 
 abbrev pub names : List CodedPart → List PartName
 names ps = map (λ p. p .name) ps

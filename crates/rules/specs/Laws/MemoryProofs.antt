@@ -22,7 +22,7 @@ use Rattle.rules.specs.declared.HeaderRead.the-variants as header
 use Rattle.rules.specs.Document.Notation.{flat, zeros}
 use Rattle.rules.specs.Document.Pyramid.{area, levels, levelOf, magnitude, negative, mostPlanes, legalSize}
 use Rattle.rules.specs.Document.Passes.{PartName, signed, from}
-use Rattle.rules.specs.Document.Layout.{CodedPart, planesIn, partsOf, recordOf, headerBytes, partBytes, packed, bodyOf, nameOf, reached}
+use Rattle.rules.specs.Document.Layout.{CodedPart, partsWith, recordWith, planesIn, recordOf, headerBytes, partBytes, packed, bodyOf, nameOf, reached}
 use Rattle.rules.specs.Document.Numbers.{verdictNumber, verdictPlace, readHeader, readParts, headed}
 use Rattle.rules.specs.Document.Calls.{workFor, unless, legalAsk, portioned}
 use Rattle.rules.specs.Document.Calls.{Result, refused, accepted, Portion, Picture, coding, serving, decoding, filled, codeOut, codeAnswer}
@@ -42,12 +42,12 @@ use Rattle.rules.specs.Laws.Parts.{at}
 use Rattle.rules.specs.Laws.ReadBackBody.{bitsFrom, packed-length, packed-clear, packed-bit, first-length, body-bit}
 use Rattle.rules.specs.Laws.ReadBackPart.{headerOf, partAt, part-body}
 use Rattle.rules.specs.Laws.ReadBack.{selection, recordBytes, beforeAll, parts-map}
-use Rattle.rules.specs.Laws.Demands.{Codable, Stated, enoughRoom, names, kept, asked, wholeIn, tailIn, arrived, towardZero, Rounded}
+use Rattle.rules.specs.Laws.Demands.{Codable, PlaneCount, Stated, enoughRoom, names, kept, asked, wholeIn, tailIn, arrived, towardZero, Rounded}
 use Rattle.rules.specs.Laws.Arrival.{ReadsAs, header-read, parts-stand, AllThere, CutIn, all-or-cut, arrived-reads, arrived-selection}
 use Rattle.rules.specs.Laws.Arrival.{legal-order}
 use Rattle.rules.specs.Laws.RoundedRun.{blank-same, kept-legal}
 use Rattle.rules.specs.Laws.ServedParts.{kept-wholes, serves-read, served-read}
-use Rattle.rules.specs.Laws.Demand3.{coding-codable, planes-few, demand3, printed-near}
+use Rattle.rules.specs.Laws.Demand3.{coding-codable, this-count, earlier-count, demand3, printed-near}
 use Rattle.rules.specs.Laws.Demand2.{demand2-names, demand2-record, demand2-whole}
 use Rattle.rules.specs.Laws.Memory.{partsIn, keptIn, Selected, wholeParts, cutBytes, Recorded, Serves, Decodes, planesTold, planesAnswered}
 use Rattle.rules.specs.Laws.Memory.{FromMemoryToMemory, FromRoutineToRoutine}
@@ -105,10 +105,6 @@ module _ {z : Size} {planes : ℕ} {ps : List CodedPart} {cut : ℕ} {bytes : Li
       selected-parts : partsIn (x .head) bytes ≡ ps
       selected-parts = ap (λ h. partsIn h bytes) (head-is (x .head) (x .read)) ∙ parts-in
 
-record-read : {z : Size} {pyramid : List ℤ} {bytes : List ℕ} → Codable z pyramid → bytes ≡ recordOf z pyramid
-    → ReadsAs z (planesIn pyramid) (partsOf z pyramid) 0 bytes
-record-read {z} {pyramid} c e = subst (ReadsAs z (planesIn pyramid) (partsOf z pyramid) 0) (sym e) (demand2-record c)
-
 -- What coding and serving accepted stands at the front of their output.
 record-stands : (bytes : List ℕ) (room : ℕ) → (take (length bytes) (filled room bytes) ≡ bytes) × (length bytes ≤ length (filled room bytes))
 unfolding filled
@@ -130,6 +126,21 @@ served-stands room (refused r) e = absurd (let z : _≡_ {A = ℕ} 0 1 = cc in o
 served-stands room (accepted x) e =
     let s = record-stands (x .bytes) room in (ap (λ bytes. accepted (record { bytes = bytes; tail = x .tail })) (sym (s .0)), s .1)
 
+-- A record of any number of planes that is enough.
+recorded : {z : Size} {planes : ℕ} {pyramid : List ℤ} {bytes : List ℕ} → Codable z pyramid → PlaneCount pyramid planes
+    → bytes ≡ recordWith z planes pyramid → Recorded z planes pyramid bytes
+recorded {z} {planes} {pyramid} {bytes} c count e =
+    let r : ReadsAs z planes (partsWith z planes pyramid) 0 bytes
+    = subst (ReadsAs z planes (partsWith z planes pyramid) 0) (sym e) (demand2-record c count) in
+    record {
+      codable = c;
+      count = count;
+      its-bytes = e;
+      its-header = header-read r (c .legal-size) (count .few);
+      its-parts = parts-in r;
+      every-part = ap names (parts-in r) ∙ demand2-names z planes pyramid;
+    }
+
 module _ {pyramid : List ℤ} {z : Size} {out work : List ℕ} {answer : Coded} {out′ work′ : List ℕ} (x : Coding pyramid z out work answer out′ work′)
     (e : answer .verdict ≡ Accepted) where
   coding-wrote : (coding pyramid z (length out) (length work) ≡ accepted (take (answer .length) out′)) × (answer .length ≤ length out′)
@@ -138,71 +149,59 @@ module _ {pyramid : List ℤ} {z : Size} {out work : List ℕ} {answer : Coded} 
       subst₂ (λ (a : Coded) o. (y ≡ accepted (take (a .length) o)) × (a .length ≤ length o)) (sym (x .answers)) (sym (x .writes))
       (coded-stands (length out) y (ap (λ a. a .verdict) (sym (x .answers)) ∙ e))
 
-  coding-recorded : Recorded z pyramid (take (answer .length) out′)
+  coding-recorded : Recorded z (planesIn pyramid) pyramid (take (answer .length) out′)
+  unfolding recordOf
   coding-recorded =
       let w : Codable z pyramid × (take (answer .length) out′ ≡ recordOf z pyramid)
       = coding-codable pyramid z (length out) (length work) (take (answer .length) out′) (coding-wrote .0) in
-      let c : Codable z pyramid = w .0 in
-      let r : ReadsAs z (planesIn pyramid) (partsOf z pyramid) 0 (take (answer .length) out′) = record-read c (w .1) in
-      record {
-        codable = c;
-        its-bytes = w .1;
-        its-header = header-read r (c .legal-size) (planes-few c);
-        its-parts = parts-in r;
-        every-part = ap names (parts-in r) ∙ demand2-names z pyramid;
-      }
+      recorded (w .0) (this-count (w .0)) (w .1)
 
 -- A record, and what arrived of it, reads as the parts that are whole.
-module _ {z : Size} {pyramid : List ℤ} {bytes : List ℕ} (w : Recorded z pyramid bytes) where
-  abbrev planes : ℕ
-  planes = planesIn pyramid
-
+module _ {z : Size} {planes : ℕ} {pyramid : List ℤ} {bytes : List ℕ} (w : Recorded z planes pyramid bytes) where
   abbrev c : Codable z pyramid
   c = w .codable
 
-  recorded-reads : ReadsAs z planes (partsOf z pyramid) 0 bytes
-  recorded-reads = record-read c (w .its-bytes)
+  recorded-reads : ReadsAs z planes (partsWith z planes pyramid) 0 bytes
+  recorded-reads = subst (ReadsAs z planes (partsWith z planes pyramid) 0) (sym (w .its-bytes)) (demand2-record c (w .count))
 
   module _ {s : List ℕ} (x : Selected bytes s) where
     abbrev some : List CodedPart
-    some = kept (x .keep) (partsOf z pyramid)
+    some = kept (x .keep) (partsWith z planes pyramid)
 
     s-is : s ≡ arrived z planes some (x .more)
-    s-is = selected-arrived recorded-reads (c .legal-size) (planes-few c) x
+    s-is = selected-arrived recorded-reads (c .legal-size) (w .count .few) x
 
     whole-is : wholeParts x ≡ wholeIn (x .more) some
-    whole-is = ap (λ ps. wholeIn (x .more) (kept (x .keep) ps)) (selected-parts recorded-reads (c .legal-size) (planes-few c) x)
+    whole-is = ap (λ ps. wholeIn (x .more) (kept (x .keep) ps)) (selected-parts recorded-reads (c .legal-size) (w .count .few) x)
 
     cut-is : cutBytes x ≡ tailIn (x .more) some
-    cut-is = ap (λ ps. tailIn (x .more) (kept (x .keep) ps)) (selected-parts recorded-reads (c .legal-size) (planes-few c) x)
+    cut-is = ap (λ ps. tailIn (x .more) (kept (x .keep) ps)) (selected-parts recorded-reads (c .legal-size) (w .count .few) x)
 
     selected-reads : ReadsAs z planes (wholeParts x) (cutBytes x) s
-    unfolding partsOf
     selected-reads =
         subst (ReadsAs z planes (wholeParts x) (cutBytes x)) (sym s-is)
         (rw (whole-is, cut-is)
-        (arrived-reads z planes some (c .legal-size) (planes-few c) (kept-legal z (c .legal-size) planes pyramid (x .keep)) (x .more)))
+        (arrived-reads z planes some (c .legal-size) (w .count .few) (kept-legal z (c .legal-size) planes pyramid (x .keep)) (x .more)))
 
     -- A selection of it is one of the record.
     selected-again : {t : List ℕ} (y : Selected s t)
         → (again : Selected bytes t) × (wholeParts again ≡ wholeParts y) × (cutBytes again ≡ cutBytes y)
-    unfolding partsOf
     selected-again {t} y =
-        let left : (left : PartName → Bool) × (kept left (partsOf z pyramid) ≡ wholeIn (x .more) some)
-        = arrived-selection (x .keep) (x .more) (beforeAll planes) (partsOf z pyramid)
+        let left : (left : PartName → Bool) × (kept left (partsWith z planes pyramid) ≡ wholeIn (x .more) some)
+        = arrived-selection (x .keep) (x .more) (beforeAll planes) (partsWith z planes pyramid)
         (legal-order (headerOf z planes) (beforeAll planes) some (kept-legal z (c .legal-size) planes pyramid (x .keep))) in
         let both : PartName → Bool = λ q. left .0 q && y .keep q in
-        let same : kept both (partsOf z pyramid) ≡ kept (y .keep) (wholeParts x)
-        = selection-both (λ q. left .0 (q .name)) (λ q. y .keep (q .name)) (partsOf z pyramid) ∙ ap (kept (y .keep)) (left .1 ∙ sym whole-is) in
-        let ys : partsIn (y .head) s ≡ wholeParts x = selected-parts selected-reads (c .legal-size) (planes-few c) y in
+        let same : kept both (partsWith z planes pyramid) ≡ kept (y .keep) (wholeParts x)
+        = selection-both (λ q. left .0 (q .name)) (λ q. y .keep (q .name)) (partsWith z planes pyramid) ∙ ap (kept (y .keep)) (left .1 ∙ sym whole-is) in
+        let ys : partsIn (y .head) s ≡ wholeParts x = selected-parts selected-reads (c .legal-size) (w .count .few) y in
         let again : Selected bytes t
         = record {
           head = headerOf z planes;
-          read = header-read recorded-reads (c .legal-size) (planes-few c);
+          read = header-read recorded-reads (c .legal-size) (w .count .few);
           keep = both;
           more = y .more;
           made =
-              selected-arrived selected-reads (c .legal-size) (planes-few c) y ∙ ap (λ ps. arrived z planes ps (y .more)) (sym same)
+              selected-arrived selected-reads (c .legal-size) (w .count .few) y ∙ ap (λ ps. arrived z planes ps (y .more)) (sym same)
               ∙ sym (made-arrived recorded-reads both (y .more));
         } in
         let parts : kept both (partsIn (headerOf z planes) bytes) ≡ kept (y .keep) (partsIn (y .head) s)
@@ -238,23 +237,23 @@ module _ {s : List ℕ} {r p : ℕ} {out : List ℕ} {answer : Served} {out′ :
       subst₂ (λ (a : Served) o. (y ≡ accepted (record { bytes = take (a .length) o; tail = a .tail })) × (a .length ≤ length o))
       (sym (v .answers)) (sym (v .writes)) (served-stands (length out) y (ap (λ a. a .verdict) (sym (v .answers)) ∙ e))
 
-  module _ {z : Size} {pyramid : List ℤ} {bytes : List ℕ} (w : Recorded z pyramid bytes) (x : Selected bytes s) where
+  module _ {z : Size} {planes : ℕ} {pyramid : List ℤ} {bytes : List ℕ} (w : Recorded z planes pyramid bytes) (x : Selected bytes s) where
     abbrev ask : List CodedPart
     ask = kept (asked r p) (wholeParts x)
 
-    serving-is : record { bytes = recordBytes z (planesIn pyramid) ask; tail = cutBytes x } ≡ portion
-    serving-is = served-read (selected-reads w x) (w .codable .legal-size) (planes-few (w .codable)) r p (length out) portion (serving-wrote .0)
+    serving-is : record { bytes = recordBytes z planes ask; tail = cutBytes x } ≡ portion
+    serving-is = served-read (selected-reads w x) (w .codable .legal-size) (w .count .few) r p (length out) portion (serving-wrote .0)
 
     served-selected : Selected s (take (answer .length) out′)
     unfolding arrived
     served-selected =
-        let front : ℕ = length (headerBytes z (planesIn pyramid)) in
-        let all : take (front + length (flat partBytes ask)) (recordBytes z (planesIn pyramid) ask) ≡ recordBytes z (planesIn pyramid) ask
-        = take-all (front + length (flat partBytes ask)) (recordBytes z (planesIn pyramid) ask)
-        (omega (arith, length-append (headerBytes z (planesIn pyramid)) (flat partBytes ask))) in
+        let front : ℕ = length (headerBytes z planes) in
+        let all : take (front + length (flat partBytes ask)) (recordBytes z planes ask) ≡ recordBytes z planes ask
+        = take-all (front + length (flat partBytes ask)) (recordBytes z planes ask)
+        (omega (arith, length-append (headerBytes z planes) (flat partBytes ask))) in
         record {
-          head = headerOf z (planesIn pyramid);
-          read = header-read (selected-reads w x) (w .codable .legal-size) (planes-few (w .codable));
+          head = headerOf z planes;
+          read = header-read (selected-reads w x) (w .codable .legal-size) (w .count .few);
           keep = asked r p;
           more = length (flat partBytes ask);
           made =
@@ -265,7 +264,7 @@ module _ {s : List ℕ} {r p : ℕ} {out : List ℕ} {answer : Served} {out′ :
     unfolding served-selected
     serving-serves =
         let again = selected-again w x served-selected in
-        let parts : partsIn (headerOf z (planesIn pyramid)) s ≡ wholeParts x = parts-in (selected-reads w x) in
+        let parts : partsIn (headerOf z planes) s ≡ wholeParts x = parts-in (selected-reads w x) in
         let n : ℕ = length (flat partBytes ask) in
         record {
           again = again .0;
@@ -285,12 +284,11 @@ kept-fewer keep (p ∷ ps) = by (keep (p .name)) (kept-fewer keep ps)
     by true l = omega (arith, length-append (partBytes p) (flat partBytes (kept keep ps)), length-append (partBytes p) (flat partBytes ps))
     by false l = omega (arith, length-append (partBytes p) (flat partBytes ps))
 
-module _ {s : List ℕ} {r p : ℕ} {out : List ℕ} {answer : Served} {out′ : List ℕ} (v : Serving s r p out answer out′) {z : Size} {pyramid : List ℤ}
-    {bytes : List ℕ} (w : Recorded z pyramid bytes) (x : Selected bytes s) where
-  serving-accepts : 1 ≤ r → r ≤ levels z → p ≤ planesIn pyramid → length s ≤ length out → answer .verdict ≡ Accepted
+module _ {s : List ℕ} {r p : ℕ} {out : List ℕ} {answer : Served} {out′ : List ℕ} (v : Serving s r p out answer out′) {z : Size} {planes : ℕ} {pyramid : List ℤ}
+    {bytes : List ℕ} (w : Recorded z planes pyramid bytes) (x : Selected bytes s) where
+  serving-accepts : 1 ≤ r → r ≤ levels z → p ≤ planes → length s ≤ length out → answer .verdict ≡ Accepted
   unfolding serveAnswer legalAsk unless portioned
   serving-accepts a b few room =
-      let planes : ℕ = planesIn pyramid in
       let ask : List CodedPart = kept (asked r p) (wholeParts x) in
       let reads : ReadsAs z planes (wholeParts x) (cutBytes x) s = selected-reads w x in
       let fits : length (recordBytes z planes ask) ≤ length out
@@ -303,21 +301,21 @@ module _ {s : List ℕ} {r p : ℕ} {out : List ℕ} {answer : Served} {out′ :
         length-append (headerBytes z planes) (flat partBytes ask),
       ) in
       let served : serving s r p (length out) ≡ accepted (record { bytes = recordBytes z planes ask; tail = cutBytes x })
-      = serves-read reads (w .codable .legal-size) (planes-few (w .codable)) r p (length out)
+      = serves-read reads (w .codable .legal-size) (w .count .few) r p (length out)
       ∙ rw (le-leb 1 r a, le-leb r (levels z) b, le-leb p planes few, le-leb (length (recordBytes z planes ask)) (length out) fits) in
       ap (λ a. a .verdict) (v .answers) ∙ ap (λ y. serveAnswer y .verdict) served
 
 -- Decoding.
-module _ {z : Size} {pyramid : List ℤ} {bytes : List ℕ} (w : Recorded z pyramid bytes) {s : List ℕ} (x : Selected bytes s) where
+module _ {z : Size} {planes : ℕ} {pyramid : List ℤ} {bytes : List ℕ} (w : Recorded z planes pyramid bytes) {s : List ℕ} (x : Selected bytes s) where
   selected-rounded : (room work : ℕ) → Stated z room work
-      → Rounded z (planesIn pyramid) pyramid (names (wholeParts x)) (cutBytes x) (decoding s room work)
+      → Rounded z planes pyramid (names (wholeParts x)) (cutBytes x) (decoding s room work)
   selected-rounded room work sizes =
-      subst (λ t. Rounded z (planesIn pyramid) pyramid (names (wholeParts x)) (cutBytes x) (decoding t room work)) (sym (s-is w x))
-      (rw (whole-is w x, cut-is w x) (demand3 (w .codable) room work sizes (x .keep) (x .more)))
+      subst (λ t. Rounded z planes pyramid (names (wholeParts x)) (cutBytes x) (decoding t room work)) (sym (s-is w x))
+      (rw (whole-is w x, cut-is w x) (demand3 (w .codable) (w .count) room work sizes (x .keep) (x .more)))
 
   module _ {out : List ℤ} {work : List ℕ} {answer : Decoded} {out′ : List ℤ} {work′ : List ℕ} (d : Decoding s out work answer out′ work′)
       (sizes : Stated z (length out) (length work)) where
-    abbrev rounded : Rounded z (planesIn pyramid) pyramid (names (wholeParts x)) (cutBytes x) (decoding s (length out) (length work))
+    abbrev rounded : Rounded z planes pyramid (names (wholeParts x)) (cutBytes x) (decoding s (length out) (length work))
     rounded = selected-rounded (length out) (length work) sizes
 
     abbrev its-picture : Picture
@@ -331,10 +329,10 @@ module _ {z : Size} {pyramid : List ℤ} {bytes : List ℕ} (w : Recorded z pyra
     unfolding decodeOut
     decoding-printed = d .writes ∙ ap (decodeOut (length out)) (rounded .accepts)
 
-    decoding-decodes : Decodes z pyramid (names (wholeParts x)) (cutBytes x) (verdictNumber (answer .verdict)) (verdictPlace (answer .verdict))
+    decoding-decodes : Decodes z planes pyramid (names (wholeParts x)) (cutBytes x) (verdictNumber (answer .verdict)) (verdictPlace (answer .verdict))
         (answer .tail) (planesAnswered answer) out′ work work′
     decoding-decodes =
-        subst₂ (λ (a : Decoded) o. Decodes z pyramid (names (wholeParts x)) (cutBytes x) (verdictNumber (a .verdict)) (verdictPlace (a .verdict))
+        subst₂ (λ (a : Decoded) o. Decodes z planes pyramid (names (wholeParts x)) (cutBytes x) (verdictNumber (a .verdict)) (verdictPlace (a .verdict))
         (a .tail) (planesAnswered a) o work work′) (sym decoding-answered) (sym decoding-printed)
         (record {
           accepts = refl;
@@ -346,31 +344,31 @@ module _ {z : Size} {pyramid : List ℤ} {bytes : List ℕ} (w : Recorded z pyra
           beyond = rounded .beyond;
           shows = λ n k named lost j a b.
               subst (λ m. n < m) (sym (rounded .reports j a (omega (arith, named .upTo))))
-              (loss-shows (levels z) (planesIn pyramid) (names (wholeParts x)) n k named lost j b);
+              (loss-shows (levels z) planes (names (wholeParts x)) n k named lost j b);
           tails = rounded .tail;
           clears = d .clears;
         })
       where
         level-told : (q : ℕ) → q < area z
-            → planeIn (its-picture .reached) (levelOf z q - 1) ≡ reached (levels z) (planesIn pyramid) (names (wholeParts x)) (levelOf z q)
+            → planeIn (its-picture .reached) (levelOf z q - 1) ≡ reached (levels z) planes (names (wholeParts x)) (levelOf z q)
         level-told q l = rounded .reports (levelOf z q) (level-least z (legal z (w .codable .legal-size)) q l) (level-most z q)
 
 -- The exports: each does what its routine does, and its answer stands in the slice lent for it.
 module _ {pyramid : List ℤ} {z : Size} {out work answer out′ work′ answer′ : List ℕ} (x : AfsCode pyramid z out work answer 0 out′ work′ answer′) where
-  afsCode-recorded : Recorded z pyramid (take (getD answer′ 2 0) out′) × (getD answer′ 2 0 ≤ length out′)
+  afsCode-recorded : Recorded z (planesIn pyramid) pyramid (take (getD answer′ 2 0) out′) × (getD answer′ 2 0 ≤ length out′)
   unfolding codeNumbers
   afsCode-recorded = by (decLe codePlaces (length answer))
     where
-      by : Dec (codePlaces ≤ length answer) → Recorded z pyramid (take (getD answer′ 2 0) out′) × (getD answer′ 2 0 ≤ length out′)
+      by : Dec (codePlaces ≤ length answer) → Recorded z (planesIn pyramid) pyramid (take (getD answer′ 2 0) out′) × (getD answer′ 2 0 ≤ length out′)
       by (no l) = absurd (omega (arith, afsCode-short x (omega arith) .0))
       by (yes l) =
           let c = afsCode-codes x l in
           let e = number-accepts (c .0 .verdict) (sym (c .2)) in
-          subst (λ a. Recorded z pyramid (take (getD a 2 0) out′) × (getD a 2 0 ≤ length out′)) (sym (c .3))
+          subst (λ a. Recorded z (planesIn pyramid) pyramid (take (getD a 2 0) out′) × (getD a 2 0 ≤ length out′)) (sym (c .3))
           (coding-recorded (c .1) e, coding-wrote (c .1) e .1)
 
-module _ {s : List ℕ} {r p : ℕ} {out answer out′ answer′ : List ℕ} (v : AfsServe s r p out answer 0 out′ answer′) {z : Size} {pyramid : List ℤ}
-    {bytes : List ℕ} (w : Recorded z pyramid bytes) (x : Selected bytes s) where
+module _ {s : List ℕ} {r p : ℕ} {out answer out′ answer′ : List ℕ} (v : AfsServe s r p out answer 0 out′ answer′) {z : Size} {planes : ℕ} {pyramid : List ℤ}
+    {bytes : List ℕ} (w : Recorded z planes pyramid bytes) (x : Selected bytes s) where
   afsServe-selects : Serves x r p (take (getD answer′ 2 0) out′) (getD answer′ 3 0) × (getD answer′ 2 0 ≤ length out′)
   unfolding serveNumbers
   afsServe-selects = by (decLe servePlaces (length answer))
@@ -406,10 +404,10 @@ told-plane a more i past = by (decLt i levelPlaces)
         ap (λ (j : ℕ). getD (decodeNumbers a ++ zeros more) j 0) e ∙ getD-append-add (decodeNumbers a) (zeros more) (i - levelPlaces) 0
         ∙ blank-same 0 more (i - levelPlaces) ∙ sym (past (omega arith))
 
-module _ {z : Size} {pyramid : List ℤ} {bytes : List ℕ} (w : Recorded z pyramid bytes) {s : List ℕ} (x : Selected bytes s) {out : List ℤ}
+module _ {z : Size} {planes : ℕ} {pyramid : List ℤ} {bytes : List ℕ} (w : Recorded z planes pyramid bytes) {s : List ℕ} (x : Selected bytes s) {out : List ℤ}
     {work answer : List ℕ} {number : ℕ} {out′ : List ℤ} {work′ answer′ : List ℕ} (d : AfsDecode s out work answer number out′ work′ answer′)
     (sizes : Stated z (length out) (length work)) (places : decodePlaces ≤ length answer) where
-  afsDecode-prints : Decodes z pyramid (names (wholeParts x)) (cutBytes x) number (getD answer′ 1 0) (getD answer′ 2 0) (planesTold answer′)
+  afsDecode-prints : Decodes z planes pyramid (names (wholeParts x)) (cutBytes x) number (getD answer′ 1 0) (getD answer′ 2 0) (planesTold answer′)
       out′ work work′
   unfolding decodeNumbers
   afsDecode-prints =
@@ -418,33 +416,34 @@ module _ {z : Size} {pyramid : List ℤ} {bytes : List ℕ} (w : Recorded z pyra
       let few : levels z ≤ levelPlaces = omega (arith, legal z (w .codable .legal-size) .few) in
       let past : (i : ℕ) → levelPlaces ≤ i → planeIn (a .0 .reached) i ≡ 0
       = λ i l. let e : i ≡ suc i - 1 = omega arith in ap (planeIn (a .0 .reached)) e ∙ y .beyond (suc i) (omega arith) in
-      let planes : (k : ℕ) → planesTold (decodeNumbers (a .0) ++ zeros (length answer - decodePlaces)) k ≡ planesAnswered (a .0) k
+      let same-planes : (k : ℕ) → planesTold (decodeNumbers (a .0) ++ zeros (length answer - decodePlaces)) k ≡ planesAnswered (a .0) k
       = λ k. told-plane (a .0) (length answer - decodePlaces) (k - 1) (past (k - 1)) in
-      subst₂ (λ (n : ℕ) (t : List ℕ). Decodes z pyramid (names (wholeParts x)) (cutBytes x) n (getD t 1 0) (getD t 2 0) (planesTold t) out′ work work′)
+      subst₂ (λ (n : ℕ) (t : List ℕ). Decodes z planes pyramid (names (wholeParts x)) (cutBytes x) n (getD t 1 0) (getD t 2 0) (planesTold t) out′ work work′)
       (sym (a .2)) (sym (a .3))
       (subst (λ (f : ℕ → ℕ).
-      Decodes z pyramid (names (wholeParts x)) (cutBytes x) (verdictNumber (a .0 .verdict)) (verdictPlace (a .0 .verdict)) (a .0 .tail) f out′ work work′)
-      (λ i k. sym (planes k) i) y)
+      Decodes z planes pyramid (names (wholeParts x)) (cutBytes x) (verdictNumber (a .0 .verdict)) (verdictPlace (a .0 .verdict)) (a .0 .tail) f out′
+      work work′)
+      (λ i k. sym (same-planes k) i) y)
 
 -- What holds of every selection of the record holds of a selection of one.
-module _ {z : Size} {pyramid : List ℤ} {bytes s t : List ℕ} (w : Recorded z pyramid bytes) (x : Selected bytes s) (y : Selected s t) where
+module _ {z : Size} {planes : ℕ} {pyramid : List ℤ} {bytes s t : List ℕ} (w : Recorded z planes pyramid bytes) (x : Selected bytes s) (y : Selected s t) where
   holds-again : (P : List PartName → ℕ → Type 0) → ((u : Selected bytes t) → P (names (wholeParts u)) (cutBytes u)) → P (names (wholeParts y)) (cutBytes y)
   holds-again P each = let again = selected-again w x y in subst₂ (λ ps n. P (names ps) n) (again .1) (again .2) (each (again .0))
 
   decoding-again : {out : List ℤ} {work : List ℕ} {answer : Decoded} {out′ : List ℤ} {work′ : List ℕ} → Decoding t out work answer out′ work′
       → Stated z (length out) (length work)
-      → Decodes z pyramid (names (wholeParts y)) (cutBytes y) (verdictNumber (answer .verdict)) (verdictPlace (answer .verdict)) (answer .tail)
+      → Decodes z planes pyramid (names (wholeParts y)) (cutBytes y) (verdictNumber (answer .verdict)) (verdictPlace (answer .verdict)) (answer .tail)
       (planesAnswered answer) out′ work work′
   decoding-again {work = work} {answer = a} {out′ = out′} {work′ = work′} d sizes =
       holds-again (λ ps n.
-      Decodes z pyramid ps n (verdictNumber (a .verdict)) (verdictPlace (a .verdict)) (a .tail) (planesAnswered a) out′ work work′) (λ u.
+      Decodes z planes pyramid ps n (verdictNumber (a .verdict)) (verdictPlace (a .verdict)) (a .tail) (planesAnswered a) out′ work work′) (λ u.
       decoding-decodes w u d sizes)
 
   afsDecode-again : {out : List ℤ} {work answer : List ℕ} {number : ℕ} {out′ : List ℤ} {work′ answer′ : List ℕ}
       → AfsDecode t out work answer number out′ work′ answer′ → Stated z (length out) (length work) → decodePlaces ≤ length answer
-      → Decodes z pyramid (names (wholeParts y)) (cutBytes y) number (getD answer′ 1 0) (getD answer′ 2 0) (planesTold answer′) out′ work work′
+      → Decodes z planes pyramid (names (wholeParts y)) (cutBytes y) number (getD answer′ 1 0) (getD answer′ 2 0) (planesTold answer′) out′ work work′
   afsDecode-again {work = work} {number = number} {out′ = out′} {work′ = work′} {answer′ = answer′} d sizes places =
-      holds-again (λ ps n. Decodes z pyramid ps n number (getD answer′ 1 0) (getD answer′ 2 0) (planesTold answer′) out′ work work′) (λ u.
+      holds-again (λ ps n. Decodes z planes pyramid ps n number (getD answer′ 1 0) (getD answer′ 2 0) (planesTold answer′) out′ work work′) (λ u.
       afsDecode-prints w u d sizes places)
 
 -- With nothing left out and nothing cut.
@@ -454,11 +453,11 @@ no-planes = replicate levelPlaces (record { 0 = 0 })
 blank-answer : Decoded
 blank-answer = record { verdict = Accepted; tail = 0; reached = no-planes }
 
-module _ {z : Size} {pyramid : List ℤ} {bytes : List ℕ} (w : Recorded z pyramid bytes) {out : List ℤ} {work : List ℕ} {answer : Decoded}
+module _ {z : Size} {planes : ℕ} {pyramid : List ℤ} {bytes : List ℕ} (w : Recorded z planes pyramid bytes) {out : List ℤ} {work : List ℕ} {answer : Decoded}
     {out′ : List ℤ} {work′ : List ℕ} (d : Decoding bytes out work answer out′ work′) (sizes : Stated z (length out) (length work)) where
   whole-decoded : decoding bytes (length out) (length work) ≡ accepted (record { pyramid = pyramid; tail = 0; reached = no-planes })
   unfolding no-planes
-  whole-decoded = ap (λ b. decoding b (length out) (length work)) (w .its-bytes) ∙ demand2-whole (w .codable) (length out) (length work) sizes
+  whole-decoded = ap (λ b. decoding b (length out) (length work)) (w .its-bytes) ∙ demand2-whole (w .codable) (w .count) (length out) (length work) sizes
 
   whole-answered : answer ≡ blank-answer
   unfolding decodeAnswer blank-answer
@@ -472,7 +471,7 @@ module _ {z : Size} {pyramid : List ℤ} {bytes : List ℕ} (w : Recorded z pyra
   unfolding planeIn blank-answer no-planes
   whole-planes k = ap (λ a. planesAnswered a k) whole-answered ∙ ap (λ (p : Plane). p .0) (blank-same (record { 0 = 0 }) levelPlaces (k - 1))
 
-module _ {z : Size} {pyramid : List ℤ} {bytes : List ℕ} (w : Recorded z pyramid bytes) {out : List ℤ} {work answer : List ℕ} {number : ℕ}
+module _ {z : Size} {planes : ℕ} {pyramid : List ℤ} {bytes : List ℕ} (w : Recorded z planes pyramid bytes) {out : List ℤ} {work answer : List ℕ} {number : ℕ}
     {out′ : List ℤ} {work′ answer′ : List ℕ} (d : AfsDecode bytes out work answer number out′ work′ answer′)
     (sizes : Stated z (length out) (length work)) (places : decodePlaces ≤ length answer) where
   blank-numbers : decodeNumbers blank-answer ≡ zeros decodePlaces
@@ -499,7 +498,7 @@ afsCode-accepts x c room enough places =
     let a = afsCode-codes x places in a .2 ∙ ap verdictNumber (coding-accepts (a .1) c room enough)
 
 afsServe-accepts : {s : List ℕ} {r p : ℕ} {out answer : List ℕ} {number : ℕ} {out′ answer′ : List ℕ} → AfsServe s r p out answer number out′ answer′
-    → {z : Size} {pyramid : List ℤ} {bytes : List ℕ} → Recorded z pyramid bytes → Selected bytes s → 1 ≤ r → r ≤ levels z → p ≤ planesIn pyramid
+    → {z : Size} {planes : ℕ} {pyramid : List ℤ} {bytes : List ℕ} → Recorded z planes pyramid bytes → Selected bytes s → 1 ≤ r → r ≤ levels z → p ≤ planes
     → length s ≤ length out → servePlaces ≤ length answer → number ≡ 0
 afsServe-accepts v w x a b few room places =
     let c = afsServe-serves v places in c .2 ∙ ap verdictNumber (serving-accepts (c .1) w x a b few room)
@@ -510,11 +509,14 @@ from-memory-to-memory =
       coded = λ c. afsCode-recorded c;
       codes = λ c k room enough places. afsCode-accepts c k room enough places;
       decoded = λ c x d sizes places. afsDecode-prints (afsCode-recorded c .0) x d sizes places;
+      earlier = λ c. recorded c (earlier-count c) refl;
+      stored = λ w x d sizes places. afsDecode-prints w x d sizes places;
       served = λ c x v. afsServe-selects v (afsCode-recorded c .0) x;
       serves = λ c x v a b few room places. afsServe-accepts v (afsCode-recorded c .0) x a b few room places;
       selected = λ c x y. selected-again (afsCode-recorded c .0) x y;
       served-decoded = λ c x v y d sizes places.
           let w = afsCode-recorded c .0 in afsDecode-again w (afsServe-selects v w x .0 .again) y d sizes places;
+      stored-whole = λ w d sizes places. afsDecode-whole w d sizes places;
       whole = λ c d sizes places. afsDecode-whole (afsCode-recorded c .0) d sizes places;
     }
 

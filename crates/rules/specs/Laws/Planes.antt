@@ -3,16 +3,17 @@ use mathlib.Core.Path.{_≡_, refl, ap, sym, subst}
 use mathlib.Core.List.{List}
 use mathlib.Core.Bool.{Bool, true, false, cond}
 use mathlib.Core.Logic.{_≢_}
-use Prim.Native.Nat.{ℕ, zero, suc, _≤_, _<_, _^_}
+use Prim.Native.Nat.{ℕ, zero, suc, _+_, _*_, _≤_, _<_, _^_}
 use native.Mathlib.Omega.{arith}
 use native.Mathlib.Decide.{decLe, decLt}
 use lib.Dec.{leb, ltb, eqb}
 use lib.ListN.{length, getD, List·getD-eq-default}
 use lib.IntN.{ℤ, pos, natAbs}
 use lib.Pow.{pow-mono, pow-lt}
-use borrow.Author.Tests.{leb-true, leb-false, eqb-true, ltb-true, ltb-false, lt-ltb, le-ltb}
+use native.Mathlib.Nat.{pow-suc}
+use borrow.Author.Tests.{leb-true, leb-false, eqb-true, eqb-false, ltb-true, ltb-false, lt-ltb, le-ltb}
 use Rattle.rules.specs.Document.Notation.{greatest}
-use Rattle.rules.specs.Document.Pyramid.{mostMagnitude, magnitude, mostPlanes, log2Up, planesOf}
+use Rattle.rules.specs.Document.Pyramid.{mostMagnitude, magnitude, mostPlanes, log2Up, earlierPlanesOf, log2Down, planesOf}
 use Rattle.rules.specs.Document.Layout.{planesIn}
 use Rattle.rules.specs.Document.Calls.{firstOver}
 use Rattle.rules.specs.Laws.Tests.{lowest-within, lowest-passes, lowest-least, lowest-found}
@@ -42,18 +43,77 @@ log2Up-least (suc e) m x h = cases (leb m (2 ^ e)) refl (log2Up-least e m x h)
     cases true t r = r
     cases false t r = below t (decLe x e)
 
-pub planesOf-above : (m : ℕ) → m ≤ mostMagnitude → m < 2 ^ planesOf m
+-- The greatest exponent, of those up to e, whose power of two is not over m.
+pub log2Down-not-over : (e m : ℕ) → 1 ≤ m → 2 ^ log2Down e m ≤ m
+unfolding log2Down
+log2Down-not-over zero m h = h
+log2Down-not-over (suc e) m h = cases (leb (2 ^ suc e) m) refl (log2Down-not-over e m h)
+  where
+    cases : (b : Bool) → leb (2 ^ suc e) m ≡ b → 2 ^ log2Down e m ≤ m → 2 ^ cond b (suc e) (log2Down e m) ≤ m
+    cases true t r = leb-true (2 ^ suc e) m t
+    cases false t r = r
+
+pub log2Down-most : (e m : ℕ) → m < 2 ^ suc e → m < 2 ^ suc (log2Down e m)
+unfolding log2Down
+log2Down-most zero m h = h
+log2Down-most (suc e) m h = cases (leb (2 ^ suc e) m) refl (log2Down-most e m)
+  where
+    cases : (b : Bool) → leb (2 ^ suc e) m ≡ b → (m < 2 ^ suc e → m < 2 ^ suc (log2Down e m)) → m < 2 ^ suc (cond b (suc e) (log2Down e m))
+    cases true t r = h
+    cases false t r = r (leb-false (2 ^ suc e) m t)
+
+-- What is asked of a number of planes, and that there is one such number only.
+pub record Counts (m planes : ℕ) : Type 0 where
+  pub enough : m < 2 ^ planes
+  pub least : 2 ^ planes ≤ 2 * m + 1
+
+pub counts-once : (m : ℕ) {a b : ℕ} → Counts m a → Counts m b → a ≡ b
+counts-once m {a} {b} x y = by (decLt a b) (decLt b a)
+  where
+    no-less : {a b : ℕ} → Counts m a → Counts m b → a < b → ⊥
+    no-less {a} {b} x y l = omega (arith, x .enough, y .least, pow-mono {i = suc a} {j = b} l, pow-suc 2 a)
+
+    by : Dec (a < b) → Dec (b < a) → a ≡ b
+    by (yes l) d = absurd (no-less x y l)
+    by (no l) (yes k) = absurd (no-less y x k)
+    by (no l) (no k) = omega arith
+
+-- The coder's count, of any magnitude of 32 bits.
+pub planesOf-counts : (m : ℕ) → m < 2 ^ 32 → Counts m (planesOf m)
 unfolding planesOf
-planesOf-above m h = cases (eqb m 0) refl
+planesOf-counts m h = cases (eqb m 0) refl
+  where
+    cases : (b : Bool) → eqb m 0 ≡ b → Counts m (cond b 0 (suc (log2Down 31 m)))
+    cases true t = record { enough = omega (arith, eqb-true m 0 t); least = omega arith }
+    cases false t =
+        record {
+          enough = log2Down-most 31 m h;
+          least = omega (arith, log2Down-not-over 31 m (omega (arith, eqb-false m 0 t)), pow-suc 2 (log2Down 31 m));
+        }
+
+pub planesOf-above : (m : ℕ) → m ≤ mostMagnitude → m < 2 ^ planesOf m
+planesOf-above m h = planesOf-counts m (omega arith) .enough
+
+pub planesOf-most : (m : ℕ) → m ≤ mostMagnitude → planesOf m ≤ 16
+planesOf-most m h = by (decLe (planesOf m) 16)
+  where
+    by : Dec (planesOf m ≤ 16) → planesOf m ≤ 16
+    by (yes l) = l
+    by (no l) = absurd (omega (arith, planesOf-counts m (omega arith) .least, pow-mono {i = 17} {j = planesOf m} (omega arith)))
+
+-- The earlier count.
+pub earlierPlanesOf-above : (m : ℕ) → m ≤ mostMagnitude → m < 2 ^ earlierPlanesOf m
+unfolding earlierPlanesOf
+earlierPlanesOf-above m h = cases (eqb m 0) refl
   where
     cases : (b : Bool) → eqb m 0 ≡ b → m < 2 ^ cond b 0 (suc (log2Up mostPlanes m))
     cases true t = omega (arith, eqb-true m 0 t)
     cases false t =
         omega (arith, log2Up-not-under mostPlanes m (omega arith), pow-lt {i = log2Up mostPlanes m} {j = suc (log2Up mostPlanes m)} (omega arith))
 
-pub planesOf-most : (m : ℕ) → m ≤ mostMagnitude → planesOf m ≤ mostPlanes
-unfolding planesOf
-planesOf-most m h = cases (eqb m 0)
+pub earlierPlanesOf-most : (m : ℕ) → m ≤ mostMagnitude → earlierPlanesOf m ≤ mostPlanes
+unfolding earlierPlanesOf
+earlierPlanesOf-most m h = cases (eqb m 0)
   where
     cases : (b : Bool) → cond b 0 (suc (log2Up mostPlanes m)) ≤ mostPlanes
     cases true = omega arith
@@ -67,10 +127,6 @@ magnitude-most v q = cases (decLt q (length v))
     cases : Dec (q < length v) → natAbs (getD v q (pos 0)) ≤ greatest natAbs v
     cases (yes l) = greatest-at natAbs v q (pos 0) l
     cases (no l) = omega (arith, ap natAbs (List·getD-eq-default v (pos 0) {n = q} (omega arith)))
-
-pub magnitude-under : (v : List ℤ) → greatest natAbs v ≤ mostMagnitude → (q : ℕ) → magnitude v q < 2 ^ planesIn v
-unfolding planesIn
-magnitude-under v h q = omega (arith, magnitude-most v q, planesOf-above (greatest natAbs v) h)
 
 -- The first magnitude over the most there may be.
 abbrev over : ℕ → List ℤ → ℕ → Bool

@@ -34,7 +34,7 @@ use Rattle.rules.specs.Laws.StateParts.{partNames-levels, codedParts-tak
 use Rattle.rules.specs.Laws.StateRecord.{start-sound, partsOf-bits}
 use Rattle.rules.specs.Laws.ReadBackPart.{part-length}
 use Rattle.rules.specs.Laws.Demands.{Codable, enoughRoom}
-use Rattle.rules.specs.Laws.Demand3.{planes-few, codable-coded}
+use Rattle.rules.specs.Laws.Demand3.{this-count, codable-coded}
 use Rattle.rules.specs.Laws.Demand2.{demand2-names}
 
 flat-length : {X Y : Type 0} (f : X → List Y) (xs : List X) → length (flat f xs) ≡ sum (λ x. length (f x)) xs
@@ -109,9 +109,10 @@ module _ {z : Size} {pyramid : List ℤ} (c : Codable z pyramid) where
   planes = planesIn pyramid
 
   parts-named : All (λ p. Named (levels z) planes (p .name)) (partsOf z pyramid)
+  unfolding partsOf
   parts-named =
       map-all (Named (levels z) planes) (λ p. p .name) (partsOf z pyramid)
-      (subst (All (Named (levels z) planes)) (sym (demand2-names z pyramid)) (names-named (levels z) planes))
+      (subst (All (Named (levels z) planes)) (sym (demand2-names z planes pyramid)) (names-named (levels z) planes))
 
   parts-taken : All (λ p. 4 * length (p .bits) ≤ 11 * levelSize z (p .name .level)) (partsOf z pyramid)
   unfolding partsOf
@@ -128,11 +129,12 @@ module _ {z : Size} {pyramid : List ℤ} (c : Codable z pyramid) where
   each-room =
       all-then _ _ (partsOf z pyramid)
       (λ p t. let b : length (p .bits) < 128 * 128 * 128 = omega (arith, t .1 .1, area-bound z (c .legal-size)) in
-      omega (arith, t .0, part-room z Z planes (planes-few c) p (t .1 .0) b))
+      omega (arith, t .0, part-room z Z planes (this-count c .few) p (t .1 .0) b))
       (all-both _ _ (partsOf z pyramid) parts-taken (all-both _ _ (partsOf z pyramid) parts-named (partsOf-bits z Z pyramid)))
 
   -- all parts: 11/32 of a byte for each coefficient of each plane, and 188/32 of a byte for each part
   parts-room : 32 * length (flat partBytes (partsOf z pyramid)) ≤ 11 * (planes * area z) + 188 * (planes * levels z)
+  unfolding partsOf
   parts-room =
       let ps : List CodedPart = partsOf z pyramid in
       let n : PartName → ℕ = λ q. levelSize z (q .level) in
@@ -146,24 +148,24 @@ module _ {z : Size} {pyramid : List ℤ} (c : Codable z pyramid) where
         sum-times 188 (λ p. 1) ps,
         sum-one (λ p. 1) ps (all-of _ ps (λ p. refl)),
         sum-map n (λ p. p .name) ps,
-        ap (sum n) (demand2-names z pyramid),
+        ap (sum n) (demand2-names z planes pyramid),
         planes-hold z Z planes,
         length-map ps (λ p. p .name),
-        ap length (demand2-names z pyramid),
+        ap length (demand2-names z planes pyramid),
         names-long (levels z) planes,
       )
 
   -- The record of a pyramid that coding takes is never longer.
   pub record-room : length (recordOf z pyramid) ≤ enoughRoom z
-  unfolding recordOf
+  unfolding recordOf partsOf
   record-room =
       omega (
         arith,
         length-append (headerBytes z planes) (flat partBytes (partsOf z pyramid)),
-        header-room z Z planes (planes-few c),
+        header-room z Z planes (this-count c .few),
         parts-room,
-        mul-le-mul-right {m = planes} {n = mostPlanes} (area z) (planes-few c),
-        mul-le-mul {n₁ = planes} {m₁ = levels z} {n₂ = mostPlanes} {m₂ = 6} (planes-few c) (omega (arith, Z .few)),
+        mul-le-mul-right {m = planes} {n = mostPlanes} (area z) (this-count c .few),
+        mul-le-mul {n₁ = planes} {m₁ = levels z} {n₂ = mostPlanes} {m₂ = 6} (this-count c .few) (omega (arith, Z .few)),
       )
 
 -- So with that much room coding never answers 5, whatever the pyramid and the size; nor does its export, with places for its answer.

@@ -15,7 +15,7 @@ use Rattle.rules.specs.declared.Plane.{Plane}
 use Rattle.rules.specs.declared.Header.{Header}
 use Rattle.rules.specs.Document.Pyramid.{legalSize, area, levels, levelOf, family, below0, magnitude, negative, mostPlanes}
 use Rattle.rules.specs.Document.Passes.{State, start, from, PartName, partNames, signed}
-use Rattle.rules.specs.Document.Layout.{headerBytes, CodedPart, nameOf, reached}
+use Rattle.rules.specs.Document.Layout.{headerBytes, CodedPart, partsWith, nameOf, reached}
 use Rattle.rules.specs.Document.Numbers.{tail}
 use Rattle.rules.specs.Document.Calls.{accepted, unless, workFor, onHeader, onEnding, Progress, going, unfit, decodeParts, levelPlaces, reachedPlane, reachedPlanes, planeIn}
 use Rattle.rules.specs.Document.Calls.{pictured, decodedParts, decoding}
@@ -30,7 +30,7 @@ use Rattle.rules.specs.Laws.Parts.{present, absent, names-named, names-i
 use Rattle.rules.specs.Laws.Usable.{usable-there, usable-reached, reached-within, reached-falls}
 use Rattle.rules.specs.Laws.ReadBackPart.{headerOf}
 use Rattle.rules.specs.Laws.ReadBack.{partsAt, beforeAll, LegalParts, selection, parts-names, selection-legal, coded-legal}
-use Rattle.rules.specs.Laws.Demands.{Stated, coderParts, names, kept, wholeIn, tailIn, arrived, towardZero, Rounded}
+use Rattle.rules.specs.Laws.Demands.{Stated, names, kept, wholeIn, tailIn, arrived, towardZero, Rounded}
 use Rattle.rules.specs.Laws.Rounding.{signed-magnitude, signed-sign}
 use Rattle.rules.specs.Laws.KnownState.{known-value}
 use Rattle.rules.specs.Laws.Rebuilt.{rebuilt, OnTheWay, Ended, rebuilt-ends}
@@ -111,15 +111,15 @@ start-fresh z k = by (ℕ-discrete k (levels z))
 
 -- The coder's parts, and any selection of them, may stand in a record.
 module _ (z : Size) (ok : legalSize z ≡ true) (planes : ℕ) (pyramid : List ℤ) where
-  pub coder-legal : LegalParts (headerOf z planes) (beforeAll planes) (coderParts z planes pyramid)
+  pub coder-legal : LegalParts (headerOf z planes) (beforeAll planes) (partsWith z planes pyramid)
   coder-legal =
       coded-legal (headerOf z planes) (family z) (magnitude pyramid) (negative pyramid) (start z)
-      (all-then _ _ (coderParts z planes pyramid) (λ c l. omega (arith, l, from-length 0 (area z)))
+      (all-then _ _ (partsWith z planes pyramid) (λ c l. omega (arith, l, from-length 0 (area z)))
       (codedParts-bits (lawful z (legal z ok)) (magnitude pyramid) (negative pyramid) (partNames (levels z) planes)
       (partNames-levels (levels z) planes) (start z) (start-sound z (legal z ok))))
 
-  pub kept-legal : (keep : PartName → Bool) → LegalParts (headerOf z planes) (beforeAll planes) (kept keep (coderParts z planes pyramid))
-  kept-legal keep = selection-legal (headerOf z planes) (λ p. keep (p .name)) (beforeAll planes) (coderParts z planes pyramid) coder-legal
+  pub kept-legal : (keep : PartName → Bool) → LegalParts (headerOf z planes) (beforeAll planes) (kept keep (partsWith z planes pyramid))
+  kept-legal keep = selection-legal (headerOf z planes) (λ p. keep (p .name)) (beforeAll planes) (partsWith z planes pyramid) coder-legal
 
 module _ (z : Size) (ok : legalSize z ≡ true) (planes : ℕ) (few : planes ≤ mostPlanes) (pyramid : List ℤ)
     (small : (q : ℕ) → magnitude pyramid q < 2 ^ planes) where
@@ -148,24 +148,24 @@ module _ (z : Size) (ok : legalSize z ≡ true) (planes : ℕ) (few : planes ≤
   -- The parts that pass a test, as they are read from some bytes.
   module _ (keep : PartName → Bool) where
     abbrev there : List PartName
-    there = names (kept keep (coderParts z planes pyramid))
+    there = names (kept keep (partsWith z planes pyramid))
 
     abbrev R : ℕ → ℕ
     R k = reached (levels z) planes there k
 
-    module _ {cut : ℕ} {bytes : List ℕ} (read : ReadsAs z planes (kept keep (coderParts z planes pyramid)) cut bytes) where
+    module _ {cut : ℕ} {bytes : List ℕ} (read : ReadsAs z planes (kept keep (partsWith z planes pyramid)) cut bytes) where
       arrive : All (Arrives h bytes there (magnitude pyramid) (negative pyramid) R (reached-falls (levels z) planes there) keep) (partNames (levels z) planes)
       arrive =
           all-then _ _ (partNames (levels z) planes)
           (λ p n. record {
             if-usable = usable-reached (levels z) planes there (p .plane) (p .level) (n .under);
             then-kept = λ u.
-                there-kept keep (coderParts z planes pyramid) p
+                there-kept keep (partsWith z planes pyramid) p
                 (usable-there (levels z) planes there p n (usable-reached (levels z) planes there (p .plane) (p .level) (n .under) ∙ u));
           })
           (names-named (levels z) planes)
 
-      decodes : decodeParts h bytes there (partsAt (length (headerBytes z planes)) (kept keep (coderParts z planes pyramid))) (going (start z) blank)
+      decodes : decodeParts h bytes there (partsAt (length (headerBytes z planes)) (kept keep (partsWith z planes pyramid))) (going (start z) blank)
           ≡ rebuilt (family z) (magnitude pyramid) (negative pyramid) R (partNames (levels z) planes) (start z) blank
       decodes =
           decodes-rebuilt h bytes there (magnitude pyramid) (negative pyramid) R (reached-falls (levels z) planes there) keep (partNames (levels z) planes)
@@ -180,15 +180,15 @@ module _ (z : Size) (ok : legalSize z ≡ true) (planes : ℕ) (few : planes ≤
         (length-replicate (area z) (pos 0)) (blank-same (pos 0) (area z))
 
     -- decoding, where the header and these parts are what is read
-    module _ {cut : ℕ} {bytes : List ℕ} (read : ReadsAs z planes (kept keep (coderParts z planes pyramid)) cut bytes) (room work : ℕ)
+    module _ {cut : ℕ} {bytes : List ℕ} (read : ReadsAs z planes (kept keep (partsWith z planes pyramid)) cut bytes) (room work : ℕ)
         (sizes : Stated z room work) where
       accepts-read : (s : State) (v : List ℤ)
           → rebuilt (family z) (magnitude pyramid) (negative pyramid) R (partNames (levels z) planes) (start z) blank ≡ going s v
           → decoding bytes room work ≡ accepted (record { pyramid = v; tail = cut; reached = reachedPlanes h there })
       unfolding decoding onHeader unless decodedParts pictured onEnding
       accepts-read s v e =
-          let same : map nameOf (partsAt (length (headerBytes z planes)) (kept keep (coderParts z planes pyramid))) ≡ there
-          = parts-names (length (headerBytes z planes)) (kept keep (coderParts z planes pyramid)) in
+          let same : map nameOf (partsAt (length (headerBytes z planes)) (kept keep (partsWith z planes pyramid))) ≡ there
+          = parts-names (length (headerBytes z planes)) (kept keep (partsWith z planes pyramid)) in
           rw (
             header-read read ok few,
             eq-eqb room (area z) (sizes .whole),
@@ -199,7 +199,7 @@ module _ (z : Size) (ok : legalSize z ≡ true) (planes : ℕ) (few : planes ≤
             e,
           )
 
-      pub rounded-read : Rounded z planes pyramid (names (kept keep (coderParts z planes pyramid))) cut (decoding bytes room work)
+      pub rounded-read : Rounded z planes pyramid (names (kept keep (partsWith z planes pyramid))) cut (decoding bytes room work)
       unfolding Ended
       rounded-read = by (rebuilt (family z) (magnitude pyramid) (negative pyramid) R (partNames (levels z) planes) (start z) blank) refl ends
         where
@@ -235,13 +235,14 @@ module _ (z : Size) (ok : legalSize z ≡ true) (planes : ℕ) (few : planes ≤
 
   -- Any selection of the parts, and any number of bytes of it.
   pub rounded-arrived : (keep : PartName → Bool) (n room work : ℕ) → Stated z room work
-      → Rounded z planes pyramid (names (wholeIn n (kept keep (coderParts z planes pyramid)))) (tailIn n (kept keep (coderParts z planes pyramid)))
-      (decoding (arrived z planes (kept keep (coderParts z planes pyramid)) n) room work)
+      → Rounded z planes pyramid (names (wholeIn n (kept keep (partsWith z planes pyramid)))) (tailIn n (kept keep (partsWith z planes pyramid)))
+      (decoding (arrived z planes (kept keep (partsWith z planes pyramid)) n) room work)
   rounded-arrived keep n room work sizes =
-      let ps : List CodedPart = kept keep (coderParts z planes pyramid) in
-      let some : (left : PartName → Bool) × (kept left (coderParts z planes pyramid) ≡ wholeIn n ps)
-      = arrived-selection keep n (beforeAll planes) (coderParts z planes pyramid) (legal-order h (beforeAll planes) ps (kept-legal z ok planes pyramid keep)) in
+      let ps : List CodedPart = kept keep (partsWith z planes pyramid) in
+      let some : (left : PartName → Bool) × (kept left (partsWith z planes pyramid) ≡ wholeIn n ps)
+      = arrived-selection keep n (beforeAll planes) (partsWith z planes pyramid) (legal-order h (beforeAll planes) ps (kept-legal z ok planes pyramid keep)) in
       subst (λ x. Rounded z planes pyramid (names x) (tailIn n ps) (decoding (arrived z planes ps n) room work)) (some .1)
       (rounded-read (some .0)
-      (subst (λ x. ReadsAs z planes x (tailIn n ps) (arrived z planes ps n)) (sym (some .1)) (arrived-reads z planes ps ok few (kept-legal z ok planes pyramid keep) n))
+      (subst (λ x. ReadsAs z planes x (tailIn n ps) (arrived z planes ps n)) (sym (some .1))
+      (arrived-reads z planes ps ok few (kept-legal z ok planes pyramid keep) n))
       room work sizes)
