@@ -41,8 +41,21 @@ pub fn code_as<S: Slips>(
     out: &mut [u8],
     work: &mut [u32],
 ) -> CodeAnswer {
+    let planes = planes_of(largest_of(pyramid));
+    code_in_planes::<S>(pyramid, (w, h, n), planes, out, work)
+}
+
+/// [`code_as`] for a number of planes that is asked for: the coder's own, the
+/// earlier one, or more. Every magnitude must be below 2^planes.
+pub fn code_in_planes<S: Slips>(
+    pyramid: &[i32],
+    (w, h, n): (u64, u64, u64),
+    planes: u32,
+    out: &mut [u8],
+    work: &mut [u32],
+) -> CodeAnswer {
     let outcome = judge(pyramid, w, h, n, work)
-        .and_then(|shape| write_record::<S>(pyramid, shape, out, work));
+        .and_then(|shape| write_record::<S>(pyramid, Header { shape, planes }, out, work));
     work.fill(0);
     match outcome {
         Ok(length) => CodeAnswer {
@@ -76,17 +89,18 @@ fn judge(pyramid: &[i32], w: u64, h: u64, n: u64, work: &[u32]) -> Result<Shape,
     }
 }
 
+/// M: the largest magnitude.
+pub fn largest_of(pyramid: &[i32]) -> u32 {
+    pyramid.iter().map(|c| c.unsigned_abs()).max().unwrap_or(0)
+}
+
 fn write_record<S: Slips>(
     pyramid: &[i32],
-    shape: Shape,
+    header: Header,
     out: &mut [u8],
     work: &mut [u32],
 ) -> Result<usize, Refusal> {
-    let largest = pyramid.iter().map(|c| c.unsigned_abs()).max().unwrap_or(0);
-    let header = Header {
-        shape,
-        planes: planes_of(largest),
-    };
+    let shape = header.shape;
     let mut written = Written::to(out);
     written.append(&header.bytes());
 

@@ -141,10 +141,19 @@ impl Shape {
 }
 
 /// The number of planes for a largest magnitude M: n_max + 1 with n_max being
-/// log2 M rounded up, and none for 0.
+/// log2 M rounded down, and none for 0.
+pub fn planes_of(largest: u32) -> u32 {
+    match largest {
+        0 => 0,
+        m => m.ilog2() + 1,
+    }
+}
+
+/// The number of planes that records had until the coder rounded down: log2 M
+/// rounded up, and one more.
 ///
 /// 2^(n-1) < M <= 2^n says that M - 1 has n binary digits.
-pub fn planes_of(largest: u32) -> u32 {
+pub fn earlier_planes_of(largest: u32) -> u32 {
     match largest {
         0 => 0,
         m => (u32::BITS - (m - 1).leading_zeros()) + 1,

@@ -2,12 +2,13 @@
 
 use super::lent::*;
 use super::{header_of, malformed, Case, Compared, Subject};
-use crate::generate::{records, Chance};
+use crate::generate::records::{any_record, Whole};
+use crate::generate::Chance;
 use crate::layout::Header;
 use crate::portal::DECODE_ANSWER;
 
-pub fn compare_decode(chance: &mut Chance, base: &[u8], subject: &dyn Subject) -> Compared {
-    let record = records::any_record(chance, base);
+pub fn compare_decode(chance: &mut Chance, base: &Whole, subject: &dyn Subject) -> Compared {
+    let record = any_record(chance, &base.bytes);
     let header = header_of(&record);
     let (length, work_length) = decode_room(chance, header);
     let answer_length = answer_length(chance, DECODE_ANSWER);
@@ -33,7 +34,8 @@ pub fn compare_decode(chance: &mut Chance, base: &[u8], subject: &dyn Subject) -
     out.check("out", &mut want_out)?;
     work.check("work", &mut want_work)?;
     check_input("the record", &record, &before)?;
-    let sorts = malformed::sorts_of(&record, want, said.place);
+    let mut sorts = malformed::sorts_of(&record, want, said.place);
+    sorts.push(base.count.name());
     Ok(Case::new(want, header.map(|header| header.shape)).sorted(sorts))
 }
 

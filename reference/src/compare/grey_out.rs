@@ -7,7 +7,7 @@ use super::lent::*;
 use super::{header_of, Case, Compared, Stock, Subject, Wanted};
 use crate::bound::pixel_most;
 use crate::generate::pictures::{any_picture, pyramid_of};
-use crate::generate::records::{any_record, strike_some, whole, Pieces};
+use crate::generate::records::{any_record, of_any_count, strike_some, Count, Pieces, Whole};
 use crate::generate::shapes::shape_of_case;
 use crate::generate::{pyramids, Chance};
 use crate::lifting::{halved, transform_back};
@@ -28,6 +28,9 @@ const NONE_CLIPPED: &str = "none clipped";
 pub const SORTS: &[(&str, Wanted)] = &[
     (OF_PICTURE, Wanted::One),
     (OF_STRUCK, Wanted::One),
+    (Count::Now.name(), Wanted::One),
+    (Count::Earlier.name(), Wanted::One),
+    (Count::More.name(), Wanted::One),
     (HALVED, Wanted::One),
     (OF_ANY_RECORD, Wanted::One),
     (ANY_NUMBERS, Wanted::One),
@@ -88,7 +91,8 @@ fn source(chance: &mut Chance, case: u64, stock: &mut Stock) -> Source {
 /// whole or halved.
 fn of_struck_record(chance: &mut Chance, shape: Shape) -> Source {
     let pyramid = pyramid_of(&any_picture(chance, shape), shape);
-    let mut pieces = Pieces::of(&whole(&pyramid, shape));
+    let whole = of_any_count(chance, &pyramid, shape);
+    let mut pieces = Pieces::of(&whole.bytes);
     strike_some(chance, &mut pieces);
     let mut record = pieces.together();
     if chance.once_in(3) {
@@ -108,9 +112,9 @@ fn of_struck_record(chance: &mut Chance, shape: Shape) -> Source {
         shape: smaller,
         pyramid: halved(&left, shape, halvings).0,
         sorts: if halvings > 0 {
-            vec![OF_STRUCK, HALVED]
+            vec![OF_STRUCK, whole.count.name(), HALVED]
         } else {
-            vec![OF_STRUCK]
+            vec![OF_STRUCK, whole.count.name()]
         },
         promise: Promise::Near {
             recorded: recorded
@@ -124,15 +128,15 @@ fn of_struck_record(chance: &mut Chance, shape: Shape) -> Source {
 
 /// What any bytes decode to that decoding accepts; those that it refuses are
 /// taken without their harm.
-fn of_any_record(chance: &mut Chance, base: &[u8]) -> Source {
-    let harmed = any_record(chance, base);
+fn of_any_record(chance: &mut Chance, base: &Whole) -> Source {
+    let harmed = any_record(chance, &base.bytes);
     let (shape, pyramid) = decoded(&harmed)
-        .or_else(|| decoded(base))
+        .or_else(|| decoded(&base.bytes))
         .expect("the stock's records are accepted");
     Source {
         shape,
         pyramid,
-        sorts: vec![OF_ANY_RECORD],
+        sorts: vec![OF_ANY_RECORD, base.count.name()],
         promise: Promise::Prints,
     }
 }

@@ -1,14 +1,15 @@
 //! Cases of the part list program.
 
 use super::{header_of, malformed, Case, Compared};
-use crate::generate::{records, Chance};
+use crate::generate::records::{any_record, Whole};
+use crate::generate::Chance;
 use crate::partlist::LONGEST_INPUT;
 use std::io::Write;
 use std::path::Path;
 use std::process::{Command, Stdio};
 
-pub fn compare_partlist(chance: &mut Chance, base: &[u8], program: &Path) -> Compared {
-    let mut record = records::any_record(chance, base);
+pub fn compare_partlist(chance: &mut Chance, base: &Whole, program: &Path) -> Compared {
+    let mut record = any_record(chance, &base.bytes);
     if record.len() > LONGEST_INPUT && chance.percent(80) {
         record.truncate(LONGEST_INPUT - chance.below(2) * chance.below(LONGEST_INPUT));
     }
@@ -21,7 +22,8 @@ pub fn compare_partlist(chance: &mut Chance, base: &[u8], program: &Path) -> Com
     }
     let shape = header_of(&record).map(|header| header.shape);
     let (number, place) = listed_refusal(&want);
-    let sorts = malformed::sorts_of(&record, number, place);
+    let mut sorts = malformed::sorts_of(&record, number, place);
+    sorts.push(base.count.name());
     Ok(Case::new(number, shape).sorted(sorts))
 }
 

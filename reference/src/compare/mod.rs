@@ -17,8 +17,9 @@ mod serving;
 mod surveying;
 mod tally;
 
+use crate::generate::records::{any_whole, Count, Whole};
 use crate::generate::shapes::shape_of_case;
-use crate::generate::{records, Chance};
+use crate::generate::Chance;
 use crate::layout::Header;
 use crate::portal;
 use crate::reading::Walk;
@@ -231,17 +232,26 @@ impl Routine {
             Routine::GreyIn => grey_in::sorts_of_files(),
             Routine::GreyOut => grey_out::SORTS.to_vec(),
             Routine::Serve | Routine::Decode | Routine::Survey | Routine::Partlist => {
-                malformed::sorts()
+                [malformed::sorts(), COUNTS.to_vec()].concat()
             }
             Routine::Code => Vec::new(),
         }
     }
 }
 
+/// The counts of planes of the records that cases begin from.
+const COUNTS: [(&str, Wanted); 4] = [
+    (Count::Now.name(), Wanted::One),
+    (Count::Earlier.name(), Wanted::AQuarter),
+    (Count::More.name(), Wanted::One),
+    (Count::Invented.name(), Wanted::One),
+];
+
 /// How many cases of a sort a comparison must have had.
 #[derive(Clone, Copy, Debug, PartialEq, Eq)]
 pub enum Wanted {
     One,
+    AQuarter,
     AThird,
 }
 
@@ -338,30 +348,27 @@ fn all_cases(
 /// takes longer than harming it.
 struct Stock {
     seed: u64,
-    batch: Option<u64>,
-    record: Vec<u8>,
+    made: Option<(u64, Whole)>,
 }
 
 impl Stock {
     const SHARED_BY: u64 = 8;
 
     fn new(seed: u64) -> Stock {
-        Stock {
-            seed,
-            batch: None,
-            record: Vec::new(),
-        }
+        Stock { seed, made: None }
     }
 
-    fn record(&mut self, case: u64) -> &[u8] {
+    fn record(&mut self, case: u64) -> &Whole {
         let batch = case / Stock::SHARED_BY;
-        if self.batch != Some(batch) {
-            self.batch = Some(batch);
-            let mut chance = Chance::of_case(!self.seed, batch);
-            let shape = shape_of_case(&mut chance, batch);
-            self.record = records::any_whole(&mut chance, shape);
-        }
-        &self.record
+        let made = match self.made.take() {
+            Some((of, record)) if of == batch => (of, record),
+            _ => {
+                let mut chance = Chance::of_case(!self.seed, batch);
+                let shape = shape_of_case(&mut chance, batch);
+                (batch, any_whole(&mut chance, shape))
+            }
+        };
+        &self.made.insert(made).1
     }
 }
 

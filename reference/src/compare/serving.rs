@@ -2,7 +2,8 @@
 
 use super::lent::*;
 use super::{header_of, malformed, Case, Compared, Subject};
-use crate::generate::{records, Chance};
+use crate::generate::records::{any_record, Whole};
+use crate::generate::Chance;
 use crate::layout::Header;
 use crate::portal::SERVE_ANSWER;
 
@@ -21,8 +22,8 @@ fn request(chance: &mut Chance, header: Option<Header>) -> (u64, u64) {
     }
 }
 
-pub fn compare_serve(chance: &mut Chance, base: &[u8], subject: &dyn Subject) -> Compared {
-    let record = records::any_record(chance, base);
+pub fn compare_serve(chance: &mut Chance, base: &Whole, subject: &dyn Subject) -> Compared {
+    let record = any_record(chance, &base.bytes);
     let header = header_of(&record);
     let (level, plane) = request(chance, header);
     let length = serve_room(chance, &record, level, plane);
@@ -45,7 +46,8 @@ pub fn compare_serve(chance: &mut Chance, base: &[u8], subject: &dyn Subject) ->
     answer.check("answer", &mut want_answer)?;
     out.check("out", &mut want_out)?;
     check_input("the record", &record, &before)?;
-    let sorts = malformed::sorts_of(&record, want, said.place);
+    let mut sorts = malformed::sorts_of(&record, want, said.place);
+    sorts.push(base.count.name());
     Ok(Case::new(want, header.map(|header| header.shape)).sorted(sorts))
 }
 

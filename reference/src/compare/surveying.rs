@@ -2,11 +2,12 @@
 
 use super::lent::*;
 use super::{header_of, malformed, Case, Compared, Subject};
-use crate::generate::{records, Chance};
+use crate::generate::records::{any_record, Whole};
+use crate::generate::Chance;
 use crate::portal::SURVEY_ANSWER;
 
-pub fn compare_survey(chance: &mut Chance, base: &[u8], subject: &dyn Subject) -> Compared {
-    let record = records::any_record(chance, base);
+pub fn compare_survey(chance: &mut Chance, base: &Whole, subject: &dyn Subject) -> Compared {
+    let record = any_record(chance, &base.bytes);
     let answer_length = answer_length(chance, SURVEY_ANSWER);
     let said = crate::survey(&record);
     let numbers = said.numbers();
@@ -20,6 +21,7 @@ pub fn compare_survey(chance: &mut Chance, base: &[u8], subject: &dyn Subject) -
     answer.check("answer", &mut want_answer)?;
     check_input("the record", &record, &before)?;
     let shape = header_of(&record).map(|header| header.shape);
-    let sorts = malformed::sorts_of(&record, want, said.place);
+    let mut sorts = malformed::sorts_of(&record, want, said.place);
+    sorts.push(base.count.name());
     Ok(Case::new(want, shape).sorted(sorts))
 }

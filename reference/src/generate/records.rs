@@ -2,12 +2,13 @@
 //! bits that fit but that no coder wrote, and noise.
 
 use super::{pyramids, shapes, Chance};
+use crate::coder::{code_in_planes, largest_of};
 use crate::family::Node;
 use crate::layout::{body_length, head_bytes, push_number, Header, Packer, LONGEST_NUMBER};
 use crate::lists::AllLists;
 use crate::passes::{run_part, Side};
 use crate::reading::Walk;
-use crate::size::{Level, Plane, Shape, MOST_PLANES};
+use crate::size::{earlier_planes_of, planes_of, Level, Plane, Shape, MOST_PLANES};
 use crate::slip::Faithful;
 use std::convert::Infallible;
 
@@ -19,19 +20,71 @@ pub fn room_for(shape: Shape) -> usize {
 
 /// The coder's record of a pyramid.
 pub fn whole(pyramid: &[i32], shape: Shape) -> Vec<u8> {
+    whole_in(pyramid, shape, planes_of(largest_of(pyramid)))
+}
+
+/// A pyramid's record of so many planes.
+pub fn whole_in(pyramid: &[i32], shape: Shape, planes: u32) -> Vec<u8> {
     let mut out = vec![0; room_for(shape)];
     let mut work = vec![0; shape.workspace()];
-    let answer = crate::code(
-        pyramid,
+    let size = (
         shape.width().into(),
         shape.height().into(),
         shape.decompositions().into(),
-        &mut out,
-        &mut work,
     );
+    let answer = code_in_planes::<Faithful>(pyramid, size, planes, &mut out, &mut work);
     assert_eq!(answer.number, 0, "a legal pyramid is coded");
     out.truncate(answer.length as usize);
     out
+}
+
+/// Where the number of planes of a record comes from.
+#[derive(Clone, Copy, Debug, PartialEq, Eq)]
+pub enum Count {
+    /// The coder's; also the earlier one, where both are the same.
+    Now,
+    /// That of the coder before it rounded down, being another.
+    Earlier,
+    /// More than either.
+    More,
+    /// No pyramid was coded.
+    Invented,
+}
+
+impl Count {
+    pub const fn name(self) -> &'static str {
+        match self {
+            Count::Now => "this count",
+            Count::Earlier => "the earlier count",
+            Count::More => "more planes",
+            Count::Invented => "invented",
+        }
+    }
+}
+
+/// A record to begin from.
+#[derive(Clone, Debug)]
+pub struct Whole {
+    pub bytes: Vec<u8>,
+    pub count: Count,
+}
+
+/// A pyramid's record of any count: of the earlier one in every second case.
+pub fn of_any_count(chance: &mut Chance, pyramid: &[i32], shape: Shape) -> Whole {
+    let largest = largest_of(pyramid);
+    let (now, earlier) = (planes_of(largest), earlier_planes_of(largest));
+    let planes = match chance.weighted(&[6, 12, 4]) {
+        0 => now,
+        1 => earlier,
+        _ => MOST_PLANES - chance.below((MOST_PLANES - earlier) as usize + 1) as u32,
+    };
+    let count = match planes {
+        _ if planes == now => Count::Now,
+        _ if planes == earlier => Count::Earlier,
+        _ => Count::More,
+    };
+    let bytes = whole_in(pyramid, shape, planes);
+    Whole { bytes, count }
 }
 
 /// A record whose bits fit but that no coder wrote: the passes are run with
@@ -221,14 +274,17 @@ impl Harm {
     ];
 }
 
-/// A whole record to begin from: a coder's, or one with invented bits.
-pub fn any_whole(chance: &mut Chance, shape: Shape) -> Vec<u8> {
-    if chance.once_in(3) {
-        invented(chance, shape)
-    } else {
-        let pyramid = pyramids::any_pyramid(chance, shape);
-        whole(&pyramid, shape)
+/// A whole record to begin from: a coder's of any count, or one with invented
+/// bits.
+pub fn any_whole(chance: &mut Chance, shape: Shape) -> Whole {
+    if chance.once_in(4) {
+        return Whole {
+            bytes: invented(chance, shape),
+            count: Count::Invented,
+        };
     }
+    let pyramid = pyramids::any_pyramid(chance, shape);
+    of_any_count(chance, &pyramid, shape)
 }
 
 /// The record after one harm of any kind, or two in turn, or none.

@@ -66,7 +66,7 @@ fn damaged_records() {
     let mut counts = [0; 13];
     for _ in 0..600 {
         let shape = any_shape(&mut chance);
-        let whole = any_whole(&mut chance, shape);
+        let whole = any_whole(&mut chance, shape).bytes;
         for _ in 0..20 {
             counts[take(&any_record(&mut chance, &whole)) as usize] += 1;
         }

@@ -77,6 +77,8 @@ fn what_did_not_occur_is_named() {
     assert!(missing.len() > 25, "{missing:?}");
     let long = |name: &&String| name.starts_with("long ");
     assert!(missing.iter().filter(long).count() >= 7, "{missing:?}");
+    let counts = |name: &&String| name.contains("count") || name.contains("planes");
+    assert!(missing.iter().filter(counts).count() >= 2, "{missing:?}");
     let missing = compare(Routine::GreySize, 1, &Own).unwrap().missing();
     assert!(missing.len() > 15, "{missing:?}");
     let third = |name: &&String| name.starts_with("a third being ");

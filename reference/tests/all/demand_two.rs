@@ -3,11 +3,12 @@
 
 use crate::helpers::*;
 use crate::literal;
+use reference::coder::largest_of;
 use reference::generate::pyramids::{any_pyramid, pyramid, PyramidKind};
-use reference::generate::records::Pieces;
+use reference::generate::records::{whole_in, Pieces};
 use reference::generate::shapes::{any_shape, shape_of, SizeClass};
 use reference::generate::Chance;
-use reference::size::Shape;
+use reference::size::{earlier_planes_of, planes_of, Shape, MOST_PLANES};
 
 fn published(pyramid: &[i32], shape: Shape) -> Vec<u8> {
     literal::record(
@@ -42,6 +43,61 @@ fn records_are_those_of_the_published_steps() {
                 }
             }
         }
+    }
+}
+
+/// The earlier count is that of what is stored; more planes than either are
+/// legal too. All of them give the pyramid.
+#[test]
+fn records_of_every_count() {
+    let mut chance = Chance::new(27);
+    let mut differing = 0;
+    for n in 1..=4 {
+        for kind in PyramidKind::ALL {
+            let shape = shape_of(&mut chance, n, SizeClass::To16);
+            let pyramid = pyramid(&mut chance, shape, kind);
+            let largest = largest_of(&pyramid);
+            let earlier = literal::earlier_planes(largest);
+            assert_eq!(earlier_planes_of(largest), earlier);
+            differing += u32::from(earlier != planes_of(largest));
+            let [w, h, n] = [shape.width(), shape.height(), shape.decompositions()];
+            for planes in planes_of(largest)..=MOST_PLANES {
+                let record = whole_in(&pyramid, shape, planes);
+                let [w, h, n] = [w as usize, h as usize, n as usize];
+                assert!(record == literal::record_in(&pyramid, w, h, n, planes));
+                let (answer, back) = decoded(&record);
+                assert_eq!((answer.number, answer.tail, answer.reached), (0, 0, [0; 6]));
+                assert!(back == pyramid, "{shape:?} {kind:?} {planes}");
+            }
+        }
+    }
+    assert!(differing > 10, "{differing}");
+}
+
+/// -5 at (0, 0) of 4 x 4, now and as it was written before.
+#[test]
+fn minus_five_by_either_count() {
+    let mut pyramid = [0; 16];
+    pyramid[0] = -5;
+    let now = [
+        0x01, 0x04, 0x04, 0x01, 0x03, 0x02, 0x02, 0x05, 0xC0, 0x02, 0x01, 0x03, 0x00, 0x01, 0x02,
+        0x04, 0x00, 0x01, 0x01, 0x03, 0x00, 0x00, 0x02, 0x04, 0x10, 0x00, 0x01, 0x03, 0x00,
+    ];
+    let before = [
+        0x01, 0x04, 0x04, 0x01, 0x04, 0x03, 0x02, 0x04, 0x00, 0x03, 0x01, 0x03, 0x00,
+    ];
+    let shape = shape(4, 4, 1);
+    assert_eq!(coded(&pyramid, shape), now);
+    assert_eq!(
+        whole_in(&pyramid, shape, earlier_planes_of(5)),
+        [&before, &now[5..]].concat()
+    );
+    for (value, bytes, planes) in [(5, 29, 3), (65_535, 133, 16), (-65_535, 133, 16)] {
+        pyramid[0] = value;
+        let record = coded(&pyramid, shape);
+        assert_eq!((record.len(), record[4]), (bytes, planes));
+        let earlier = whole_in(&pyramid, shape, u32::from(planes) + 1);
+        assert_eq!(earlier.len(), bytes + 8);
     }
 }
 

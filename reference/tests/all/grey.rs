@@ -239,7 +239,7 @@ fn whatever_is_decoded_can_be_printed() {
     let mut largest = 0;
     for _ in 0..400 {
         let shape = any_shape(&mut chance);
-        let record = any_whole(&mut chance, shape);
+        let record = any_whole(&mut chance, shape).bytes;
         let (answer, decoded) = decoded(&record);
         assert_eq!(answer.number, 0);
         largest = largest.max(decoded.iter().map(|c| c.unsigned_abs()).max().unwrap());

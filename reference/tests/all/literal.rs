@@ -34,7 +34,11 @@ type Step = Result<(), RanOut>;
 /// The record of a pyramid.
 pub fn record(pyramid: &[i32], w: usize, h: usize, n: usize) -> Vec<u8> {
     let largest = pyramid.iter().map(|c| c.unsigned_abs()).max().unwrap();
-    let planes = planes(largest);
+    record_in(pyramid, w, h, n, planes(largest))
+}
+
+/// For so many planes.
+pub fn record_in(pyramid: &[i32], w: usize, h: usize, n: usize, planes: u32) -> Vec<u8> {
     let mut literal = Literal::start(pyramid.to_vec(), w, h, n);
     let mut record = Vec::new();
     for value in [1, w, h, n, planes as usize] {
@@ -53,8 +57,13 @@ pub fn record(pyramid: &[i32], w: usize, h: usize, n: usize) -> Vec<u8> {
     record
 }
 
-/// The least n with M <= 2^n, and one.
+/// The least number with M < 2^planes: log2 M rounded down, and one.
 fn planes(largest: u32) -> u32 {
+    (0..).find(|&planes| largest < 1 << planes).unwrap()
+}
+
+/// The count before it: the least n with M <= 2^n, and one.
+pub fn earlier_planes(largest: u32) -> u32 {
     if largest == 0 {
         return 0;
     }

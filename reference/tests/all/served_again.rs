@@ -74,7 +74,7 @@ fn small_records_of_every_kind_for_all_pairs() {
     let mut accepted = 0;
     for round in 0..60 {
         let shape = shape_of(&mut chance, 1 + round % 2, SizeClass::To16);
-        let whole = any_whole(&mut chance, shape);
+        let whole = any_whole(&mut chance, shape).bytes;
         let record = any_record(&mut chance, &whole);
         if !is_accepted(&record) {
             continue;

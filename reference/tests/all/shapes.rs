@@ -4,7 +4,7 @@ use crate::helpers::{level_at, shape};
 use reference::family::{Node, Set};
 use reference::generate::shapes::{any_shape, shape_of, SizeClass};
 use reference::generate::Chance;
-use reference::size::{planes_of, Level, Shape};
+use reference::size::{earlier_planes_of, planes_of, Level, Shape};
 use std::collections::HashSet;
 
 fn offspring(shape: Shape, row: u32, column: u32) -> Vec<(u32, u32)> {
@@ -101,27 +101,32 @@ fn levels_are_where_the_rules_put_them() {
 
 #[test]
 fn plane_counts() {
-    for (largest, planes) in [
-        (0, 0),
-        (1, 1),
-        (2, 2),
-        (3, 3),
-        (4, 3),
-        (5, 4),
-        (8, 4),
-        (9, 5),
-        (32_768, 16),
-        (32_769, 17),
-        (65_535, 17),
+    for (largest, planes, earlier) in [
+        (0, 0, 0),
+        (1, 1, 1),
+        (2, 2, 2),
+        (3, 2, 3),
+        (4, 3, 3),
+        (5, 3, 4),
+        (6, 3, 4),
+        (7, 3, 4),
+        (8, 4, 4),
+        (9, 4, 5),
+        (32_768, 16, 16),
+        (32_769, 16, 17),
+        (65_535, 16, 17),
     ] {
         assert_eq!(planes_of(largest), planes, "M = {largest}");
+        assert_eq!(earlier_planes_of(largest), earlier, "M = {largest}");
     }
 }
 
 #[test]
-fn plane_counts_round_up() {
+fn plane_counts_round_down_and_once_rounded_up() {
     for largest in 1..=65_535u32 {
         let n_max = planes_of(largest) - 1;
+        assert!(1 << n_max <= largest && largest < 1 << (n_max + 1));
+        let n_max = earlier_planes_of(largest) - 1;
         assert!(largest <= 1 << n_max);
         assert!(n_max == 0 || largest > 1 << (n_max - 1));
     }
