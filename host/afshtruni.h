@@ -134,8 +134,10 @@ enum {
  *
  * Writes to `out` the header and every part, planes downward and levels
  * downward in a plane: the pyramid at full detail. For the largest magnitude M
- * above 0 there are n + 1 planes, where n is log2 M rounded up; a pyramid of
- * nothing but 0 has no planes, and its record is the header alone.
+ * above 0 there are n + 1 planes, where n is log2 M rounded down: 5 has 3
+ * planes, 65,535 has 16. A pyramid of nothing but 0 has no planes, and its
+ * record is the header alone. Records from when n was rounded up, with a plane
+ * more where M is no power of two, are served and decoded as ever.
  *
  *   pyramid, pyramid_len   the coefficients, exactly width x height of them;
  *                          only read

@@ -9,7 +9,14 @@
 #define REFINED_14_TO_0                                                                                                                   \
     REFINED("0E") REFINED("0D") REFINED("0C") REFINED("0B") REFINED("0A") REFINED("09") REFINED("08") REFINED("07") REFINED("06")         \
     REFINED("05") REFINED("04") REFINED("03") REFINED("02") REFINED("01") REFINED("00")
-#define FOUND_AT_15(body) "01 04 04 01 11 10 02 04 00 10 01 03 00 0F 02 05 " body " 0F 01 03 00 " REFINED_14_TO_0
+#define FOUND_AT_15(body) "0F 02 05 " body " 0F 01 03 00 " REFINED_14_TO_0
+#define IN_16_PLANES(body) "01 04 04 01 10 " FOUND_AT_15(body)
+#define IN_17_PLANES(body) "01 04 04 01 11 10 02 04 00 10 01 03 00 " FOUND_AT_15(body)
+
+/* The same with 5 or -5. */
+#define FOUND_AT_2(body) "02 02 05 " body " 02 01 03 00 01 02 04 00 01 01 03 00 00 02 04 10 00 01 03 00"
+#define IN_3_PLANES(body) "01 04 04 01 03 " FOUND_AT_2(body)
+#define IN_4_PLANES(body) "01 04 04 01 04 03 02 04 00 03 01 03 00 " FOUND_AT_2(body)
 
 /* A part of 0 bits in each of the levels 4 to 1. */
 #define NOTHING_IN_4_TO_1 "00 04 00 00 03 00 00 02 00 00 01 00"
@@ -18,10 +25,16 @@ const Pair pairs[] = {
     {"P6: the record in full", 4, 4, 1, EXAMPLE_PYRAMID, EXAMPLE},
     {"P7: all zero", 4, 4, 1, "", "01 04 04 01 00"},
     {"a magnitude of 1 has 1 plane", 4, 4, 1, "1", "01 04 04 01 01 00 02 05 80 00 01 03 00"},
-    {"a magnitude of 5 has 4 planes", 4, 4, 1, "-5",
-     "01 04 04 01 04 03 02 04 00 03 01 03 00 02 02 05 C0 02 01 03 00 01 02 04 00 01 01 03 00 00 02 04 10 00 01 03 00"},
-    {"65,535 has 17 planes", 4, 4, 1, "65535", FOUND_AT_15("80")},
-    {"-65,535", 4, 4, 1, "-65535", FOUND_AT_15("C0")},
+    {"2 has 2 planes", 4, 4, 1, "2", "01 04 04 01 02 01 02 05 80 01 01 03 00 00 02 04 00 00 01 03 00"},
+    {"3 has 2 planes", 4, 4, 1, "3", "01 04 04 01 02 01 02 05 80 01 01 03 00 00 02 04 10 00 01 03 00"},
+    {"4 has 3 planes", 4, 4, 1, "4", "01 04 04 01 03 02 02 05 80 02 01 03 00 01 02 04 00 01 01 03 00 00 02 04 00 00 01 03 00"},
+    {"5 has 3 planes", 4, 4, 1, "5", IN_3_PLANES("80")},
+    {"-5", 4, 4, 1, "-5", IN_3_PLANES("C0")},
+    {"7 has 3 planes", 4, 4, 1, "7", "01 04 04 01 03 02 02 05 80 02 01 03 00 01 02 04 10 01 01 03 00 00 02 04 10 00 01 03 00"},
+    {"8 has 4 planes", 4, 4, 1, "8",
+     "01 04 04 01 04 03 02 05 80 03 01 03 00 02 02 04 00 02 01 03 00 01 02 04 00 01 01 03 00 00 02 04 00 00 01 03 00"},
+    {"65,535 has 16 planes", 4, 4, 1, "65535", IN_16_PLANES("80")},
+    {"-65,535", 4, 4, 1, "-65535", IN_16_PLANES("C0")},
 
     {"P1: 127 bits", 4, 124, 1, "1 1 0 0  1 0", "01 04 7C 01 01 00 02 7F A8 " ZEROS_12 "00 00 00 00 01 5D " ZEROS_12},
     {"P2: 128 bits", 4, 124, 1, "1 1 0 0  1 1", "01 04 7C 01 01 00 02 80 01 AA " ZEROS_12 "00 00 00 00 01 5D " ZEROS_12},
@@ -41,3 +54,13 @@ const Pair pairs[] = {
 };
 
 const size_t pair_count = sizeof pairs / sizeof *pairs;
+
+/* Until W5 the coder had a plane more where M is no power of two: log2 M rounded up. */
+const Pair written_before[] = {
+    {"5, written before: 4 planes", 4, 4, 1, "5", IN_4_PLANES("80")},
+    {"-5, written before", 4, 4, 1, "-5", IN_4_PLANES("C0")},
+    {"65,535, written before: 17 planes", 4, 4, 1, "65535", IN_17_PLANES("80")},
+    {"-65,535, written before", 4, 4, 1, "-65535", IN_17_PLANES("C0")},
+};
+
+const size_t written_before_count = sizeof written_before / sizeof *written_before;

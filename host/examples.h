@@ -28,4 +28,8 @@ typedef struct {
 extern const Pair pairs[];
 extern const size_t pair_count;
 
+/* Records that the coder wrote once and writes no longer; they are read as ever. */
+extern const Pair written_before[];
+extern const size_t written_before_count;
+
 #endif

@@ -101,11 +101,11 @@ static void try_accepted(const Bytes *record, const Pyramid *result, uint64_t ta
     try_wrong_lengths(record, result->length);
 }
 
-/* What the coder writes of a pyramid decodes to it, exact at every level. */
-static void test_pairs(void) {
+/* What the coder writes of a pyramid, or wrote before, decodes to it, exact at every level. */
+static void test_pairs(const Pair *of, size_t count) {
     static const uint64_t reached[LEVELS];
-    for (size_t i = 0; i < pair_count; i++) {
-        const Pair *pair = &pairs[i];
+    for (size_t i = 0; i < count; i++) {
+        const Pair *pair = &of[i];
         begin_case(pair->name);
         Bytes record = bytes_of(pair->record);
         Pyramid pyramid = pyramid_of(pair->pyramid, pair->width * pair->height);
@@ -547,7 +547,8 @@ static void try_null(const Null *row) {
 
 int main(void) {
     setvbuf(stdout, NULL, _IOLBF, BUFSIZ);
-    test_pairs();
+    test_pairs(pairs, pair_count);
+    test_pairs(written_before, written_before_count);
     test_tables();
     test_selections();
     test_cuts();

@@ -76,11 +76,11 @@ static void try_accepted(const Bytes *record, uint64_t level, uint64_t plane, co
         try_answers(refused);
 }
 
-/* What the coder writes of a pyramid, served whole, is itself: P1 to P3, P6, P7 and P12 among them. */
-static void test_pairs(void) {
-    for (size_t i = 0; i < pair_count; i++) {
-        begin_case(pairs[i].name);
-        Bytes record = bytes_of(pairs[i].record);
+/* What the coder writes of a pyramid, or wrote before, served whole, is itself: P1 to P3, P6, P7 and P12 among them. */
+static void test_pairs(const Pair *of, size_t count) {
+    for (size_t i = 0; i < count; i++) {
+        begin_case(of[i].name);
+        Bytes record = bytes_of(of[i].record);
         try_accepted(&record, 1, 0, &record, 0);
         free(record.at);
         end_case();
@@ -407,7 +407,8 @@ static void test_null(void) {
 
 int main(void) {
     setvbuf(stdout, NULL, _IOLBF, BUFSIZ);
-    test_pairs();
+    test_pairs(pairs, pair_count);
+    test_pairs(written_before, written_before_count);
     test_tables();
     test_cuts();
     test_again();

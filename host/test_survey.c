@@ -168,10 +168,10 @@ static void test_tables(void) {
     }
 }
 
-/* What the coder writes of a pyramid has every part: P1 to P3, P6, P7 and P12 among them. */
-static void test_pairs(void) {
-    for (size_t i = 0; i < pair_count; i++) {
-        const Pair *pair = &pairs[i];
+/* What the coder writes of a pyramid, or wrote before, has every part: P1 to P3, P6, P7 and P12 among them. */
+static void test_pairs(const Pair *of, size_t count) {
+    for (size_t i = 0; i < count; i++) {
+        const Pair *pair = &of[i];
         begin_case(pair->name);
         Bytes record = bytes_of(pair->record);
         uint64_t told[AFS_SURVEYED_NUMBERS];
@@ -241,7 +241,8 @@ static void test_sizes_to_lend(void) {
 int main(void) {
     setvbuf(stdout, NULL, _IOLBF, BUFSIZ);
     test_tables();
-    test_pairs();
+    test_pairs(pairs, pair_count);
+    test_pairs(written_before, written_before_count);
     test_cuts();
     test_null();
     test_sizes_to_lend();
