@@ -83,14 +83,23 @@ static Outcome decode_into(Bytes record, int32_t *pyramid, size_t count, uint32_
     return outcome;
 }
 
+/* What a good header tells, else all 0. Decoding may find a fault before the first one that a survey finds: what is before that is surveyed again, as it is
+   a record too unless its header is at fault. */
+static Header survey_header(Bytes record) {
+    uint64_t answer[AFS_SURVEYED_NUMBERS];
+    if (afs_survey(record.at, record.length, answer, AFS_SURVEYED_NUMBERS) != AFS_ACCEPTED)
+        afs_survey(record.at, answer[AFS_SURVEYED_PLACE], answer, AFS_SURVEYED_NUMBERS);
+    return (Header){
+        .width = (uint32_t)answer[AFS_SURVEYED_WIDTH],
+        .height = (uint32_t)answer[AFS_SURVEYED_HEIGHT],
+        .decompositions = (uint32_t)answer[AFS_SURVEYED_DECOMPOSITIONS],
+        .planes = (uint32_t)answer[AFS_SURVEYED_PLANES],
+    };
+}
+
 Outcome decode_numbers(Bytes record, int32_t **pyramid, Header *header) {
     *pyramid = NULL;
-    /* No pyramid is empty: a header at fault is refused here for its fault, and a good one for LENGTH. */
-    Outcome header_judged = decode_into(record, NULL, 0, NULL, 0);
-    if (header_judged.number != AFS_LENGTH)
-        return header_judged;
-    const uint8_t *at = record.at;
-    *header = read_header(&at);
+    *header = survey_header(record);
     size_t count = (size_t)header->width * header->height, work_count = WORK_PER_COEFFICIENT * count;
     int32_t *numbers = memory_for(count, sizeof *numbers);
     uint32_t *work = memory_for(work_count, sizeof *work);
