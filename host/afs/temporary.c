@@ -66,9 +66,11 @@ int begin_temporary(const char *target, const struct stat *replaced) {
     if (file != -1)
         temporary = path;
     sigprocmask(SIG_SETMASK, &before, NULL);
-    errno = error;
-    if (file == -1)
+    if (file == -1) {
+        free(path);
+        errno = error;
         return -1;
+    }
     /* Not everybody may give a file away, and not every disk knows modes. */
     if (replaced != NULL && fchown(file, replaced->st_uid, replaced->st_gid) != 0 && errno != EPERM)
         return -1;
@@ -90,9 +92,12 @@ static int link_to(const char *target) {
 
 int place_temporary(const char *target, bool over) {
     sigset_t before = hold_signals();
+    char *placed = temporary;
     int error = !over ? link_to(target) : rename(temporary, target) == 0 ? 0 : errno;
     if (error == 0)
         temporary = NULL;
     sigprocmask(SIG_SETMASK, &before, NULL);
+    if (error == 0)
+        free(placed);
     return error;
 }
