@@ -79,7 +79,9 @@ fn one_more(count: usize, tone: u32) -> usize
 // The first tones of the workspace as pixels from a place on. Answers how many were set to the nearer end.
 fn store_pixels(work: &[u32], count: usize, out: &mut [u8], at: usize) -> usize
     requires { ⌜ (count ≤ length (now work)) × (at + count ≤ length (now out)) × (count ≤ 4294967296) ⌝ }
-    ensures { λ r. ⌜ (r ≡ clippedIn (numbersIn count (now (work .entry)))) × (now (out .exit) ≡ sets (now (out .entry)) at (map clip (numbersIn count (now (work .entry))))) ⌝ }
+    ensures { λ r.
+        ⌜ (r ≡ clippedIn (numbersIn count (now (work .entry))))
+        × (now (out .exit) ≡ sets (now (out .entry)) at (map clip (numbersIn count (now (work .entry))))) ⌝ }
 {
     let mut clipped = 0;
     let mut q = 0;

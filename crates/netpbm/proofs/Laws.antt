@@ -14,7 +14,8 @@ use borrow.Author.Tests.{leb-true, leb-false, le-leb, lt-leb, eqb-true, eq-eqb, 
 use Rattle.rules.specs.Laws.Tests.{clash, both-left, both-right, same-test}
 use Rattle.pictures.specs.declared.Grey.{Grey}
 use Rattle.pictures.specs.declared.Grey.the-variants.{Picture, NotGrey}
-use Rattle.pictures.specs.Document.Netpbm.{lineEnd, blank, hash, gapByte, digit, begins, afterComment, afterBlanks, afterGap, number, GreyHeader, noHeader, header}
+use Rattle.pictures.specs.Document.Netpbm.{lineEnd, blank, hash, gapByte, digit, begins, afterComment, afterBlanks, afterGap, number, GreyHeader}
+use Rattle.pictures.specs.Document.Netpbm.{noHeader, header}
 use Rattle.pictures.specs.Document.Netpbm.{isP5, onMagic, onNumber, lastBlank, onEnd, greatestPixel, readGrey, greatestTold, told}
 use Rattle.pictures.specs.Laws.GreyCauses.{no-more}
 use Rattle.pictures.specs.Laws.GreyCauses.Gap.{a-blank}
@@ -377,7 +378,8 @@ module _ {s : List ℕ} {width height at greatest behind : ℕ} (F : FieldThere 
   pub greatest-wrong : ¬ (greatest ≡ greatestPixel) → GreatestTold s width height at NotGrey
   unfolding told
   greatest-wrong n w h p q =
-      rw (F .reads (λ g d. cond (eqb g greatestPixel) (onEnd d (λ e. header w h e)) noHeader), ne-eqb (F .worth) greatestPixel (λ e. n (omega (arith, F .tells))))
+      let other : ¬ (F .worth ≡ greatestPixel) = λ e. n (omega (arith, F .tells)) in
+      rw (F .reads (λ g d. cond (eqb g greatestPixel) (onEnd d (λ e. header w h e)) noHeader), ne-eqb (F .worth) greatestPixel other)
       no-header
 
 -- A field that is missing, whatever was to come.

@@ -295,7 +295,9 @@ pub fn decode_part(
     pyramid: &mut [i32],
 ) -> Passed
     requires { ⌜ ReadyToDecode z plane level (now work) counts (now pyramid) ⌝ }
-    ensures { λ r. ⌜ PartDecoded (now (body .entry)) z plane level (now (work .entry)) counts (now (pyramid .entry)) r (now (work .exit)) (now (pyramid .exit)) ⌝ }
+    ensures { λ r.
+        ⌜ PartDecoded (now (body .entry)) z plane level (now (work .entry)) counts (now (pyramid .entry))
+        r (now (work .exit)) (now (pyramid .exit)) ⌝ }
 {
     let unasked = [0i32; 1];
     let mut unwritten = [0u8; 1];

@@ -109,7 +109,9 @@ pub extern "C" fn afs_grey_in(
     work: &mut [u32],
     answer: &mut [u64],
 ) -> u64
-    ensures { λ number. ⌜ AfsGreyIn (now (file .entry)) decompositions (now (pyramid .entry)) (now (work .entry)) (now (answer .entry)) number (now (pyramid .exit)) (now (work .exit)) (now (answer .exit)) ⌝ }
+    ensures { λ number.
+        ⌜ AfsGreyIn (now (file .entry)) decompositions (now (pyramid .entry)) (now (work .entry)) (now (answer .entry))
+        number (now (pyramid .exit)) (now (work .exit)) (now (answer .exit)) ⌝ }
 {
     if answer.len() < 4 {
         memory::zero_i32(pyramid);
@@ -130,7 +132,10 @@ pub extern "C" fn afs_grey_out(
     work: &mut [u32],
     answer: &mut [u64],
 ) -> u64
-    ensures { λ number. ⌜ AfsGreyOut (now (pyramid .entry)) (record { w = width; h = height; n = decompositions }) (now (out .entry)) (now (work .entry)) (now (answer .entry)) number (now (out .exit)) (now (work .exit)) (now (answer .exit)) ⌝ }
+    ensures { λ number.
+        ⌜ AfsGreyOut (now (pyramid .entry)) (record { w = width; h = height; n = decompositions })
+        (now (out .entry)) (now (work .entry)) (now (answer .entry))
+        number (now (out .exit)) (now (work .exit)) (now (answer .exit)) ⌝ }
 {
     if answer.len() < 4 {
         memory::zero_u8(out);

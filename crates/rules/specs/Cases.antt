@@ -1,5 +1,6 @@
 -- The cases that document 01 names, P1 to P12, and its record in full, with some more that only one reading of it gives, and bytes of which W2 says
--- why they are refused: one table, and one claim about all its rows, by computation. What is stated is numbers and bytes; of a call the answer that its export writes and the output it leaves.
+-- why they are refused: one table, and one claim about all its rows, by computation. What is stated is numbers and bytes; of a call the answer that its
+-- export writes and the output it leaves.
 use mathlib.Core.Path.{_≡_, refl}
 use mathlib.Core.List.{List, [], _∷_, _++_, map}
 use Prim.Native.Nat.{ℕ, _+_, _*_}
@@ -9,13 +10,21 @@ use Rattle.rules.specs.declared.Size.{Size}
 use Rattle.rules.specs.declared.Number.{Number}
 use Rattle.rules.specs.declared.Number.the-variants.{Value, TooManyBytes, LongForm}
 use Rattle.rules.specs.Document.Notation.{any, every, flat, greatest, lowest, ifAny, zeros}
-use Rattle.rules.specs.Document.Pyramid.{legalSide, legalSize, magnitude, negative, within, levelUpTo, levelOf, block, offspringLL, offspringAt, offspringOf, generations, descendantsOf, log2Up, earlierPlanesOf, log2Down, planesOf}
-use Rattle.rules.specs.Document.Passes.{members, inLevel, tested, tests, opened, added, weighed, visited, visits, turns, sets, refines, pass, walk, listed, passed, after, from, rows, bandLL, rootOf, start, partsOfPlane, partNames, truth, coded, signed, grown, written, decoded}
-use Rattle.rules.specs.Document.Layout.{groups, numberBytes, numberFrom, readNumber, eightBits, packFrom, packed, bitAt, clearFrom, padClear, headerBytes, partBytes, codedParts, recordWith, planesIn, earlierPlanesIn, partsOf, recordOf, wholeOf, bodyOf, nameOf, sameName, needs, usable, reached}
-use Rattle.rules.specs.Document.Numbers.{headNumber, judgedHeader, readSizes, readHeader, partNumber, follows, legalHead, judgedPart, headed, readPart, goOn, readFrom, readParts}
-use Rattle.rules.specs.Document.Calls.{Result, unless, workFor, firstOver, fitted, coding, onHeader, onEnding, legalAsk, keptOf, servedBytes, Portion, portioned, serving}
+use Rattle.rules.specs.Document.Pyramid.{legalSide, legalSize, magnitude, negative, within, levelUpTo, levelOf, block, offspringLL, offspringAt}
+use Rattle.rules.specs.Document.Pyramid.{offspringOf, generations, descendantsOf, log2Up, earlierPlanesOf, log2Down, planesOf}
+use Rattle.rules.specs.Document.Passes.{members, inLevel, tested, tests, opened, added, weighed, visited, visits, turns, sets, refines, pass}
+use Rattle.rules.specs.Document.Passes.{walk, listed, passed, after, from, rows, bandLL, rootOf, start, partsOfPlane, partNames, truth, coded}
+use Rattle.rules.specs.Document.Passes.{signed, grown, written, decoded}
+use Rattle.rules.specs.Document.Layout.{groups, numberBytes, numberFrom, readNumber, eightBits, packFrom, packed, bitAt, clearFrom, padClear}
+use Rattle.rules.specs.Document.Layout.{headerBytes, partBytes, codedParts, recordWith, planesIn, earlierPlanesIn, partsOf, recordOf, wholeOf}
+use Rattle.rules.specs.Document.Layout.{bodyOf, nameOf, sameName, needs, usable, reached}
+use Rattle.rules.specs.Document.Numbers.{headNumber, judgedHeader, readSizes, readHeader, partNumber, follows, legalHead, judgedPart, headed}
+use Rattle.rules.specs.Document.Numbers.{readPart, goOn, readFrom, readParts}
+use Rattle.rules.specs.Document.Calls.{Result, unless, workFor, firstOver, fitted, coding, onHeader, onEnding, legalAsk, keptOf, servedBytes}
+use Rattle.rules.specs.Document.Calls.{Portion, portioned, serving}
 use Rattle.rules.specs.Document.Calls.{used, onward, decodeParts, Picture, reachedPlane, reachedPlanes, pictured, decodedParts, decoding}
-use Rattle.rules.specs.Document.Calls.{filled, codeOut, codeAnswer, serveOut, serveAnswer, decodeOut, decodeAnswer, codeNumbers, serveNumbers, planeIn, decodeNumbers, codePlaces, servePlaces, decodePlaces, reported}
+use Rattle.rules.specs.Document.Calls.{filled, codeOut, codeAnswer, serveOut, serveAnswer, decodeOut, decodeAnswer, codeNumbers, serveNumbers}
+use Rattle.rules.specs.Document.Calls.{planeIn, decodeNumbers, codePlaces, servePlaces, decodePlaces, reported}
 
 -- Opening one of these opens a section's definitions.
 unfoldable pub opensPyramid : Unit {0}
@@ -74,8 +83,12 @@ unfoldable pub opensDecoding : Unit {0}
 unfolding used onward decodeParts reachedPlane reachedPlanes pictured decodedParts decoding
 opensDecoding = tt
 
+unfoldable pub opensOutputs : Unit {0}
+unfolding filled codeOut serveOut decodeOut
+opensOutputs = tt
+
 unfoldable pub opensAnswers : Unit {0}
-unfolding filled codeOut codeAnswer serveOut serveAnswer decodeOut decodeAnswer codeNumbers serveNumbers planeIn decodeNumbers reported
+unfolding opensOutputs codeAnswer serveAnswer decodeAnswer codeNumbers serveNumbers planeIn decodeNumbers reported
 opensAnswers = tt
 
 -- The document's record: N = 1, 4 x 4, rows 4 -1 0 0 / 2 0 0 -3 / 0 0 1 0 / 0 0 0 0.

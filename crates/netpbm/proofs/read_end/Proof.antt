@@ -27,7 +27,12 @@ are-there-requires : tie.Need-are-there-requires
 are-there-requires c κs = search needs
 
 returns-2 : tie.Need-returns-2
-returns-2 c = end-all (c .before .before .before .before .before .last-blank .ensures) (c .before .before .before .before .byte-at .ensures) (c .before .before .before .is-blank .ensures) (not-false _ (c .before .before .if1 .left)) (c .before .are-there .ensures) (c .if2 .taken) (omega arith)
+returns-2 c =
+    let reached = c .before .before .before .before .before .last-blank .ensures in
+    let byte = c .before .before .before .before .byte-at .ensures in
+    let blank = c .before .before .before .is-blank .ensures in
+    let is-one = not-false _ (c .before .before .if1 .left) in
+    end-all reached byte blank is-one (c .before .are-there .ensures) (c .if2 .taken) (omega arith)
 
 returns-3 : tie.Need-returns-3
 returns-3 c = search (needs, end-short, not-false)

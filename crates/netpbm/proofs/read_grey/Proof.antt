@@ -41,7 +41,8 @@ read-greatest-requires c κs = field-there _ _ (c .before .before .before .read-
 
 returns-4 : tie.Need-returns-4
 returns-4 c =
-    let W = field-there _ _ (c .before .before .before .before .before .before .before .before .read-field .ensures) (c .before .before .before .before .before .before .width .given .1) in
+    let told = c .before .before .before .before .before .before .before .before .read-field .ensures in
+    let W = field-there _ _ told (c .before .before .before .before .before .before .width .given .1) in
     let H = field-there _ _ (c .before .before .before .before .read-field2 .ensures) (c .before .before .height .given .1) in
     search (needs, sides-read, not-false)
 

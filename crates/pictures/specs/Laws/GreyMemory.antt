@@ -13,7 +13,8 @@ use Rattle.rules.specs.Document.Notation.{zeros}
 use Rattle.rules.specs.Document.Pyramid.{area}
 use Rattle.rules.specs.Document.Numbers.{verdictNumber}
 use Rattle.rules.specs.Document.Layout.{recordOf}
-use Rattle.rules.specs.Document.Calls.{Result, refused, accepted, workFor, filled, coding, codeNumbers, codeAnswer, codePlaces, AfsCode, decodePlaces, AfsDecode}
+use Rattle.rules.specs.Document.Calls.{Result, refused, accepted, workFor, filled, coding, codeNumbers, codeAnswer, codePlaces, AfsCode, decodePlaces}
+use Rattle.rules.specs.Document.Calls.{AfsDecode}
 use Rattle.rules.specs.Laws.Results.{number-accepts}
 use Rattle.rules.specs.Laws.Demands.{Codable, Stated, enoughRoom}
 use Rattle.rules.specs.Laws.Exports.{afsCode-codes}

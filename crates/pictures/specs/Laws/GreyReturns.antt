@@ -23,7 +23,8 @@ use Rattle.rules.specs.Laws.Planes.{none-over, under-first}
 use Rattle.rules.specs.Laws.Demands.{Codable}
 use Rattle.pictures.specs.Document.Lifting.{pyramidOf, pictureOf}
 use Rattle.pictures.specs.Document.Netpbm.{greatestPixel, GreyFile, notGrey, picture, readFile, greyFile}
-use Rattle.pictures.specs.Document.Calls.{GreyPyramid, onPicture, lifted, greyIn, clip, outside, clippedIn, mostDecoded, GreyPrint, printOf, printed, greyOut}
+use Rattle.pictures.specs.Document.Calls.{GreyPyramid, onPicture, lifted, greyIn, clip, outside, clippedIn, mostDecoded, GreyPrint, printOf}
+use Rattle.pictures.specs.Document.Calls.{printed, greyOut}
 use Rattle.pictures.specs.Laws.Behind.{Bytes, Pixels, file-pixels}
 use Rattle.pictures.specs.Laws.Grids.{pixels-return}
 use Rattle.pictures.specs.Laws.Range.{picture-codable}

@@ -22,7 +22,8 @@ use Rattle.rules.specs.Laws.Sizes.{legal}
 use Rattle.rules.specs.Laws.Offspring.Level.{level-most, level-least}
 use Rattle.rules.specs.Laws.Causes.{InRange, CODED}
 use Rattle.rules.specs.Laws.CallCases.{coding-is}
-use Rattle.rules.specs.Laws.Planes.{planesOf-above, planesOf-most, earlierPlanesOf-above, earlierPlanesOf-most, magnitude-most, under-first, range-greatest}
+use Rattle.rules.specs.Laws.Planes.{planesOf-above, planesOf-most, earlierPlanesOf-above, earlierPlanesOf-most, magnitude-most, under-first}
+use Rattle.rules.specs.Laws.Planes.{range-greatest}
 use Rattle.rules.specs.Laws.Results.{unless-accepted, accepted-same}
 use Rattle.rules.specs.Laws.ReadBackPart.{headerOf}
 use Rattle.rules.specs.Laws.ReadBack.{recordBytes, beforeAll}
