@@ -1,6 +1,6 @@
 //! The product's archive, libportal.a, linked under the feature `archive`.
 
-use crate::compare::{Returned, Subject};
+use crate::compare::{Call, Memory, Returned, Sizes, Subject};
 
 // Takes no part in the program: it makes cargo notice a new archive.
 const _: &[u8] = include_bytes!(concat!(
@@ -84,141 +84,50 @@ extern "C" {
 /// The archive's calls.
 pub struct Archive;
 
-// In each call the pointers and lengths are those of slices that live through
-// it, and the borrow checker keeps them apart, as the calls ask.
+/// An exported call: of each slice its address and length.
+macro_rules! exported {
+    ($name:ident, $read:ident, [$($number:ident),*], [$($lent:ident),*]) => {
+        $name(
+            $read.as_ptr(),
+            $read.len(),
+            $($number,)*
+            $($lent.as_mut_ptr(), $lent.len()),*
+        )
+    };
+}
+
 impl Subject for Archive {
-    fn code(
-        &self,
-        pyramid: &[i32],
-        w: u64,
-        h: u64,
-        n: u64,
-        out: &mut [u8],
-        work: &mut [u32],
-        answer: &mut [u64],
-    ) -> Returned {
+    fn call(&self, call: Call, memory: &mut Memory) -> Returned {
+        let Memory {
+            bytes,
+            coefficients,
+            work,
+            answer,
+        } = memory;
+        // The pointers and lengths are those of slices that live through the
+        // call, and the borrow checker keeps them apart, as the calls ask.
         Ok(unsafe {
-            afs_code(
-                pyramid.as_ptr(),
-                pyramid.len(),
-                w,
-                h,
-                n,
-                out.as_mut_ptr(),
-                out.len(),
-                work.as_mut_ptr(),
-                work.len(),
-                answer.as_mut_ptr(),
-                answer.len(),
-            )
-        })
-    }
-
-    fn serve(
-        &self,
-        record: &[u8],
-        level: u64,
-        plane: u64,
-        out: &mut [u8],
-        answer: &mut [u64],
-    ) -> Returned {
-        Ok(unsafe {
-            afs_serve(
-                record.as_ptr(),
-                record.len(),
-                level,
-                plane,
-                out.as_mut_ptr(),
-                out.len(),
-                answer.as_mut_ptr(),
-                answer.len(),
-            )
-        })
-    }
-
-    fn decode(
-        &self,
-        record: &[u8],
-        out: &mut [i32],
-        work: &mut [u32],
-        answer: &mut [u64],
-    ) -> Returned {
-        Ok(unsafe {
-            afs_decode(
-                record.as_ptr(),
-                record.len(),
-                out.as_mut_ptr(),
-                out.len(),
-                work.as_mut_ptr(),
-                work.len(),
-                answer.as_mut_ptr(),
-                answer.len(),
-            )
-        })
-    }
-
-    fn survey(&self, record: &[u8], answer: &mut [u64]) -> Returned {
-        Ok(unsafe {
-            afs_survey(
-                record.as_ptr(),
-                record.len(),
-                answer.as_mut_ptr(),
-                answer.len(),
-            )
-        })
-    }
-
-    fn grey_size(&self, file: &[u8], answer: &mut [u64]) -> Returned {
-        Ok(unsafe { afs_grey_size(file.as_ptr(), file.len(), answer.as_mut_ptr(), answer.len()) })
-    }
-
-    fn grey_in(
-        &self,
-        file: &[u8],
-        n: u64,
-        out: &mut [i32],
-        work: &mut [u32],
-        answer: &mut [u64],
-    ) -> Returned {
-        Ok(unsafe {
-            afs_grey_in(
-                file.as_ptr(),
-                file.len(),
-                n,
-                out.as_mut_ptr(),
-                out.len(),
-                work.as_mut_ptr(),
-                work.len(),
-                answer.as_mut_ptr(),
-                answer.len(),
-            )
-        })
-    }
-
-    fn grey_out(
-        &self,
-        pyramid: &[i32],
-        w: u64,
-        h: u64,
-        n: u64,
-        out: &mut [u8],
-        work: &mut [u32],
-        answer: &mut [u64],
-    ) -> Returned {
-        Ok(unsafe {
-            afs_grey_out(
-                pyramid.as_ptr(),
-                pyramid.len(),
-                w,
-                h,
-                n,
-                out.as_mut_ptr(),
-                out.len(),
-                work.as_mut_ptr(),
-                work.len(),
-                answer.as_mut_ptr(),
-                answer.len(),
-            )
+            match call {
+                Call::Code(pyramid, Sizes { w, h, n }) => {
+                    exported!(afs_code, pyramid, [w, h, n], [bytes, work, answer])
+                }
+                Call::Serve {
+                    record,
+                    level,
+                    plane,
+                } => exported!(afs_serve, record, [level, plane], [bytes, answer]),
+                Call::Decode(record) => {
+                    exported!(afs_decode, record, [], [coefficients, work, answer])
+                }
+                Call::Survey(record) => exported!(afs_survey, record, [], [answer]),
+                Call::GreySize(file) => exported!(afs_grey_size, file, [], [answer]),
+                Call::GreyIn { file, n } => {
+                    exported!(afs_grey_in, file, [n], [coefficients, work, answer])
+                }
+                Call::GreyOut(pyramid, Sizes { w, h, n }) => {
+                    exported!(afs_grey_out, pyramid, [w, h, n], [bytes, work, answer])
+                }
+            }
         })
     }
 }

@@ -2,7 +2,7 @@
 //! calls that are written to it (`host/piped_calls.c` says in which form), so
 //! that a machine that can't link the archive can compare it all the same.
 
-use crate::compare::{Returned, Subject};
+use crate::compare::{Call, Memory, Returned, Sizes, Subject};
 use std::cell::RefCell;
 use std::io::{self, Read, Write};
 use std::path::Path;
@@ -36,7 +36,7 @@ impl<W: Write, R: Read> Piped<W, R> {
     }
 
     /// The answer to a call; it has one unless the program has failed.
-    fn answer(&self, call: &Call) -> Result<Answer, String> {
+    fn answer(&self, call: &Written) -> Result<Answer, String> {
         let mut bytes = vec![0; NUMBER + call.lent];
         self.exchange(&call.bytes, &mut bytes)
             .map_err(|error| format!("no answer to the call: {error}"))?;
@@ -54,137 +54,76 @@ impl<W: Write, R: Read> Piped<W, R> {
 }
 
 impl<W: Write, R: Read> Subject for Piped<W, R> {
-    fn code(
-        &self,
-        pyramid: &[i32],
-        w: u64,
-        h: u64,
-        n: u64,
-        out: &mut [u8],
-        work: &mut [u32],
-        answer: &mut [u64],
-    ) -> Returned {
-        let mut call = Call::new(b'c', &[w, h, n]);
-        call.lend(pyramid);
-        call.lend(out);
-        call.lend(work);
-        call.lend(answer);
-        let mut told = self.answer(&call)?;
+    fn call(&self, call: Call, memory: &mut Memory) -> Returned {
+        let mut written = Written::head(call);
+        match Input::of(call) {
+            Input::Bytes(_, bytes) => written.lend(bytes),
+            Input::Pyramid(pyramid) => written.lend(pyramid),
+        }
+        let uses = Uses::of(call);
+        if uses.bytes {
+            written.lend(memory.bytes);
+        }
+        if uses.coefficients {
+            written.lend(memory.coefficients);
+        }
+        if uses.work {
+            written.lend(memory.work);
+        }
+        written.lend(memory.answer);
+
+        let mut told = self.answer(&written)?;
         let returned = told.number();
-        told.check_same("the pyramid", pyramid)?;
-        told.take(out);
-        told.take(work);
-        told.take(answer);
+        match Input::of(call) {
+            Input::Bytes(name, bytes) => told.check_same(name, bytes)?,
+            Input::Pyramid(pyramid) => told.check_same("the pyramid", pyramid)?,
+        }
+        // What a call isn't lent is empty, and nothing is told of it.
+        told.take(memory.bytes);
+        told.take(memory.coefficients);
+        told.take(memory.work);
+        told.take(memory.answer);
         Ok(returned)
     }
+}
 
-    fn serve(
-        &self,
-        record: &[u8],
-        level: u64,
-        plane: u64,
-        out: &mut [u8],
-        answer: &mut [u64],
-    ) -> Returned {
-        let mut call = Call::new(b's', &[level, plane]);
-        call.lend(record);
-        call.lend(out);
-        call.lend(answer);
-        let mut told = self.answer(&call)?;
-        let returned = told.number();
-        told.check_same("the record", record)?;
-        told.take(out);
-        told.take(answer);
-        Ok(returned)
+/// What a call only reads.
+enum Input<'a> {
+    Bytes(&'static str, &'a [u8]),
+    Pyramid(&'a [i32]),
+}
+
+impl<'a> Input<'a> {
+    fn of(call: Call<'a>) -> Input<'a> {
+        match call {
+            Call::Code(pyramid, _) | Call::GreyOut(pyramid, _) => Input::Pyramid(pyramid),
+            Call::Serve { record, .. } | Call::Decode(record) | Call::Survey(record) => {
+                Input::Bytes("the record", record)
+            }
+            Call::GreySize(file) | Call::GreyIn { file, .. } => Input::Bytes("the file", file),
+        }
     }
+}
 
-    fn decode(
-        &self,
-        record: &[u8],
-        out: &mut [i32],
-        work: &mut [u32],
-        answer: &mut [u64],
-    ) -> Returned {
-        let mut call = Call::new(b'd', &[]);
-        call.lend(record);
-        call.lend(out);
-        call.lend(work);
-        call.lend(answer);
-        let mut told = self.answer(&call)?;
-        let returned = told.number();
-        told.check_same("the record", record)?;
-        told.take(out);
-        told.take(work);
-        told.take(answer);
-        Ok(returned)
-    }
+/// What a call is lent to write to beside its answer, be it empty.
+struct Uses {
+    bytes: bool,
+    coefficients: bool,
+    work: bool,
+}
 
-    fn survey(&self, record: &[u8], answer: &mut [u64]) -> Returned {
-        let mut call = Call::new(b'v', &[]);
-        call.lend(record);
-        call.lend(answer);
-        let mut told = self.answer(&call)?;
-        let returned = told.number();
-        told.check_same("the record", record)?;
-        told.take(answer);
-        Ok(returned)
-    }
-
-    fn grey_size(&self, file: &[u8], answer: &mut [u64]) -> Returned {
-        let mut call = Call::new(b'g', &[]);
-        call.lend(file);
-        call.lend(answer);
-        let mut told = self.answer(&call)?;
-        let returned = told.number();
-        told.check_same("the file", file)?;
-        told.take(answer);
-        Ok(returned)
-    }
-
-    fn grey_in(
-        &self,
-        file: &[u8],
-        n: u64,
-        out: &mut [i32],
-        work: &mut [u32],
-        answer: &mut [u64],
-    ) -> Returned {
-        let mut call = Call::new(b'i', &[n]);
-        call.lend(file);
-        call.lend(out);
-        call.lend(work);
-        call.lend(answer);
-        let mut told = self.answer(&call)?;
-        let returned = told.number();
-        told.check_same("the file", file)?;
-        told.take(out);
-        told.take(work);
-        told.take(answer);
-        Ok(returned)
-    }
-
-    fn grey_out(
-        &self,
-        pyramid: &[i32],
-        w: u64,
-        h: u64,
-        n: u64,
-        out: &mut [u8],
-        work: &mut [u32],
-        answer: &mut [u64],
-    ) -> Returned {
-        let mut call = Call::new(b'o', &[w, h, n]);
-        call.lend(pyramid);
-        call.lend(out);
-        call.lend(work);
-        call.lend(answer);
-        let mut told = self.answer(&call)?;
-        let returned = told.number();
-        told.check_same("the pyramid", pyramid)?;
-        told.take(out);
-        told.take(work);
-        told.take(answer);
-        Ok(returned)
+impl Uses {
+    fn of(call: Call) -> Uses {
+        let bytes = matches!(
+            call,
+            Call::Code(..) | Call::Serve { .. } | Call::GreyOut(..)
+        );
+        let coefficients = matches!(call, Call::Decode(_) | Call::GreyIn { .. });
+        Uses {
+            bytes,
+            coefficients,
+            work: (bytes || coefficients) && !matches!(call, Call::Serve { .. }),
+        }
     }
 }
 
@@ -192,16 +131,26 @@ impl<W: Write, R: Read> Subject for Piped<W, R> {
 const NUMBER: usize = 8;
 
 /// A call as it is written, and how many bytes of memory it lends.
-struct Call {
+struct Written {
     bytes: Vec<u8>,
     lent: usize,
 }
 
-impl Call {
-    fn new(letter: u8, numbers: &[u64]) -> Call {
+impl Written {
+    /// Its letter and its numbers.
+    fn head(call: Call) -> Written {
+        let (letter, numbers) = match call {
+            Call::Code(_, Sizes { w, h, n }) => (b'c', vec![w, h, n]),
+            Call::Serve { level, plane, .. } => (b's', vec![level, plane]),
+            Call::Decode(_) => (b'd', vec![]),
+            Call::Survey(_) => (b'v', vec![]),
+            Call::GreySize(_) => (b'g', vec![]),
+            Call::GreyIn { n, .. } => (b'i', vec![n]),
+            Call::GreyOut(_, Sizes { w, h, n }) => (b'o', vec![w, h, n]),
+        };
         let mut bytes = vec![letter];
         numbers.iter().for_each(|number| number.put(&mut bytes));
-        Call { bytes, lent: 0 }
+        Written { bytes, lent: 0 }
     }
 
     fn lend<T: Cell>(&mut self, memory: &[T]) {

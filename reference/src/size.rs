@@ -143,10 +143,8 @@ impl Shape {
 /// The number of planes for a largest magnitude M: n_max + 1 with n_max being
 /// log2 M rounded down, and none for 0.
 pub fn planes_of(largest: u32) -> u32 {
-    match largest {
-        0 => 0,
-        m => m.ilog2() + 1,
-    }
+    let powers_up_to_it = (0..u32::BITS).filter(|&n| 1u32 << n <= largest);
+    powers_up_to_it.count() as u32
 }
 
 /// The number of planes that records had until the coder rounded down: log2 M

@@ -1,7 +1,7 @@
 //! Cases of coding.
 
 use super::lent::*;
-use super::{Case, Compared, Subject};
+use super::{Case, Compared, Sizes, Subject};
 use crate::generate::shapes::shape_of_case;
 use crate::generate::{pyramids, records, Chance};
 use crate::portal::CODE_ANSWER;
@@ -131,7 +131,8 @@ pub fn compare_code(chance: &mut Chance, case: u64, subject: &dyn Subject) -> Co
     let mut out = Lent::dirty(case.out, DIRTY_BYTE);
     let mut work = Lent::dirty(case.work, DIRTY_WORD);
     let mut answer = Lent::dirty(case.answer, DIRTY_NUMBER);
-    let got = subject.code(&pyramid, w, h, n, out.cells(), work.cells(), answer.cells())?;
+    let sizes = Sizes { w, h, n };
+    let got = subject.code(&pyramid, sizes, out.cells(), work.cells(), answer.cells())?;
 
     check_returned(got, want)?;
     answer.check("answer", &mut want_answer)?;

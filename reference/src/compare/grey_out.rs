@@ -4,7 +4,7 @@
 use super::coding::any_size_number;
 use super::grey_in::grey_room;
 use super::lent::*;
-use super::{header_of, Case, Compared, Stock, Subject, Wanted};
+use super::{header_of, Case, Compared, Sizes, Stock, Subject, Wanted};
 use crate::bound::pixel_most;
 use crate::generate::pictures::{any_picture, pyramid_of};
 use crate::generate::records::{any_record, of_any_count, strike_some, Count, Pieces, Whole};
@@ -208,7 +208,7 @@ fn lengths(chance: &mut Chance, source: &mut Source) -> Lengths {
     lengths
 }
 
-pub fn compare_grey_out(
+pub(super) fn compare_grey_out(
     chance: &mut Chance,
     case: u64,
     stock: &mut Stock,
@@ -232,7 +232,8 @@ pub fn compare_grey_out(
     let mut out = Lent::dirty(lengths.out, DIRTY_BYTE);
     let mut work = Lent::dirty(lengths.work, DIRTY_WORD);
     let mut answer = Lent::dirty(lengths.answer, DIRTY_NUMBER);
-    let got = subject.grey_out(pyramid, w, h, n, out.cells(), work.cells(), answer.cells())?;
+    let sizes = Sizes { w, h, n };
+    let got = subject.grey_out(pyramid, sizes, out.cells(), work.cells(), answer.cells())?;
 
     check_returned(got, want)?;
     answer.check("answer", &mut want_answer)?;

@@ -14,6 +14,7 @@ mod lent;
 mod listing;
 mod malformed;
 mod serving;
+mod subject;
 mod surveying;
 mod tally;
 
@@ -21,7 +22,6 @@ use crate::generate::records::{any_whole, Count, Whole};
 use crate::generate::shapes::shape_of_case;
 use crate::generate::Chance;
 use crate::layout::Header;
-use crate::portal;
 use crate::reading::Walk;
 use crate::size::Shape;
 use coding::compare_code;
@@ -31,140 +31,9 @@ use grey_out::compare_grey_out;
 use listing::compare_partlist;
 use serving::compare_serve;
 use std::path::Path;
+pub use subject::{Call, Memory, Own, Returned, Sizes, Subject};
 use surveying::compare_survey;
 pub use tally::{Difference, Tally};
-
-/// What a call returned, or why it couldn't be made.
-pub type Returned = Result<u64, String>;
-
-/// What is compared with the library.
-pub trait Subject {
-    #[allow(clippy::too_many_arguments)]
-    fn code(
-        &self,
-        pyramid: &[i32],
-        w: u64,
-        h: u64,
-        n: u64,
-        out: &mut [u8],
-        work: &mut [u32],
-        answer: &mut [u64],
-    ) -> Returned;
-
-    fn serve(
-        &self,
-        record: &[u8],
-        level: u64,
-        plane: u64,
-        out: &mut [u8],
-        answer: &mut [u64],
-    ) -> Returned;
-
-    fn decode(
-        &self,
-        record: &[u8],
-        out: &mut [i32],
-        work: &mut [u32],
-        answer: &mut [u64],
-    ) -> Returned;
-
-    fn survey(&self, record: &[u8], answer: &mut [u64]) -> Returned;
-
-    fn grey_size(&self, file: &[u8], answer: &mut [u64]) -> Returned;
-
-    fn grey_in(
-        &self,
-        file: &[u8],
-        n: u64,
-        out: &mut [i32],
-        work: &mut [u32],
-        answer: &mut [u64],
-    ) -> Returned;
-
-    #[allow(clippy::too_many_arguments)]
-    fn grey_out(
-        &self,
-        pyramid: &[i32],
-        w: u64,
-        h: u64,
-        n: u64,
-        out: &mut [u8],
-        work: &mut [u32],
-        answer: &mut [u64],
-    ) -> Returned;
-}
-
-/// The library itself, through [`portal`]: tries the portal, and the
-/// comparison.
-pub struct Own;
-
-impl Subject for Own {
-    fn code(
-        &self,
-        pyramid: &[i32],
-        w: u64,
-        h: u64,
-        n: u64,
-        out: &mut [u8],
-        work: &mut [u32],
-        answer: &mut [u64],
-    ) -> Returned {
-        Ok(portal::afs_code(pyramid, w, h, n, out, work, answer))
-    }
-
-    fn serve(
-        &self,
-        record: &[u8],
-        level: u64,
-        plane: u64,
-        out: &mut [u8],
-        answer: &mut [u64],
-    ) -> Returned {
-        Ok(portal::afs_serve(record, level, plane, out, answer))
-    }
-
-    fn decode(
-        &self,
-        record: &[u8],
-        out: &mut [i32],
-        work: &mut [u32],
-        answer: &mut [u64],
-    ) -> Returned {
-        Ok(portal::afs_decode(record, out, work, answer))
-    }
-
-    fn survey(&self, record: &[u8], answer: &mut [u64]) -> Returned {
-        Ok(portal::afs_survey(record, answer))
-    }
-
-    fn grey_size(&self, file: &[u8], answer: &mut [u64]) -> Returned {
-        Ok(portal::afs_grey_size(file, answer))
-    }
-
-    fn grey_in(
-        &self,
-        file: &[u8],
-        n: u64,
-        out: &mut [i32],
-        work: &mut [u32],
-        answer: &mut [u64],
-    ) -> Returned {
-        Ok(portal::afs_grey_in(file, n, out, work, answer))
-    }
-
-    fn grey_out(
-        &self,
-        pyramid: &[i32],
-        w: u64,
-        h: u64,
-        n: u64,
-        out: &mut [u8],
-        work: &mut [u32],
-        answer: &mut [u64],
-    ) -> Returned {
-        Ok(portal::afs_grey_out(pyramid, w, h, n, out, work, answer))
-    }
-}
 
 #[derive(Clone, Copy, Debug, PartialEq, Eq)]
 pub enum Routine {

@@ -1,7 +1,9 @@
 //! The comparison: the reference's own portal passes it, all that can occur
 //! occurs in it, and subjects that are wrong in one thing fail it.
 
-use reference::compare::{run, run_partlist, Difference, Own, Returned, Routine, Subject, Tally};
+use reference::compare::{
+    run, run_partlist, Call, Difference, Memory, Own, Returned, Routine, Subject, Tally,
+};
 use std::path::Path;
 use std::process::Command;
 
@@ -102,7 +104,6 @@ struct Wrong {
 }
 
 /// All that a call was lent, where it has it, and what it returns.
-#[derive(Default)]
 struct Lent<'l> {
     returned: u64,
     bytes: &'l mut [u8],
@@ -112,118 +113,14 @@ struct Lent<'l> {
 }
 
 impl Subject for Wrong {
-    fn code(
-        &self,
-        pyramid: &[i32],
-        w: u64,
-        h: u64,
-        n: u64,
-        out: &mut [u8],
-        work: &mut [u32],
-        answer: &mut [u64],
-    ) -> Returned {
+    fn call(&self, call: Call, memory: &mut Memory) -> Returned {
+        let returned = Own.call(call, memory)?;
         let mut lent = Lent {
-            returned: Own.code(pyramid, w, h, n, out, work, answer)?,
-            bytes: out,
-            work,
-            answer,
-            ..Lent::default()
-        };
-        (self.spoil)(&mut lent);
-        Ok(lent.returned)
-    }
-
-    fn serve(
-        &self,
-        record: &[u8],
-        level: u64,
-        plane: u64,
-        out: &mut [u8],
-        answer: &mut [u64],
-    ) -> Returned {
-        let mut lent = Lent {
-            returned: Own.serve(record, level, plane, out, answer)?,
-            bytes: out,
-            answer,
-            ..Lent::default()
-        };
-        (self.spoil)(&mut lent);
-        Ok(lent.returned)
-    }
-
-    fn decode(
-        &self,
-        record: &[u8],
-        out: &mut [i32],
-        work: &mut [u32],
-        answer: &mut [u64],
-    ) -> Returned {
-        let mut lent = Lent {
-            returned: Own.decode(record, out, work, answer)?,
-            coefficients: out,
-            work,
-            answer,
-            ..Lent::default()
-        };
-        (self.spoil)(&mut lent);
-        Ok(lent.returned)
-    }
-
-    fn survey(&self, record: &[u8], answer: &mut [u64]) -> Returned {
-        let mut lent = Lent {
-            returned: Own.survey(record, answer)?,
-            answer,
-            ..Lent::default()
-        };
-        (self.spoil)(&mut lent);
-        Ok(lent.returned)
-    }
-
-    fn grey_size(&self, file: &[u8], answer: &mut [u64]) -> Returned {
-        let mut lent = Lent {
-            returned: Own.grey_size(file, answer)?,
-            answer,
-            ..Lent::default()
-        };
-        (self.spoil)(&mut lent);
-        Ok(lent.returned)
-    }
-
-    fn grey_in(
-        &self,
-        file: &[u8],
-        n: u64,
-        out: &mut [i32],
-        work: &mut [u32],
-        answer: &mut [u64],
-    ) -> Returned {
-        let mut lent = Lent {
-            returned: Own.grey_in(file, n, out, work, answer)?,
-            coefficients: out,
-            work,
-            answer,
-            ..Lent::default()
-        };
-        (self.spoil)(&mut lent);
-        Ok(lent.returned)
-    }
-
-    fn grey_out(
-        &self,
-        pyramid: &[i32],
-        w: u64,
-        h: u64,
-        n: u64,
-        out: &mut [u8],
-        work: &mut [u32],
-        answer: &mut [u64],
-    ) -> Returned {
-        let mut lent = Lent {
-            returned: Own.grey_out(pyramid, w, h, n, out, work, answer)?,
-            bytes: out,
-            work,
-            answer,
-            ..Lent::default()
+            returned,
+            bytes: memory.bytes,
+            coefficients: memory.coefficients,
+            work: memory.work,
+            answer: memory.answer,
         };
         (self.spoil)(&mut lent);
         Ok(lent.returned)
@@ -382,79 +279,24 @@ fn a_wrong_coefficient_or_pixel_is_caught() {
 struct Overrun;
 
 impl Subject for Overrun {
-    fn code(
-        &self,
-        pyramid: &[i32],
-        w: u64,
-        h: u64,
-        n: u64,
-        out: &mut [u8],
-        work: &mut [u32],
-        answer: &mut [u64],
-    ) -> Returned {
-        Own.code(pyramid, w, h, n, out, work, answer)
-    }
-
-    fn serve(
-        &self,
-        record: &[u8],
-        level: u64,
-        plane: u64,
-        out: &mut [u8],
-        answer: &mut [u64],
-    ) -> Returned {
-        let number = Own.serve(record, level, plane, out, answer);
+    fn call(&self, call: Call, memory: &mut Memory) -> Returned {
+        let returned = Own.call(call, memory);
+        let Memory {
+            bytes,
+            work,
+            answer,
+            ..
+        } = memory;
         // The comparison keeps guards of its own around every slice it lends.
-        unsafe { *out.as_mut_ptr().add(out.len()) = 0 };
-        number
-    }
-
-    fn decode(
-        &self,
-        record: &[u8],
-        out: &mut [i32],
-        work: &mut [u32],
-        answer: &mut [u64],
-    ) -> Returned {
-        Own.decode(record, out, work, answer)
-    }
-
-    fn survey(&self, record: &[u8], answer: &mut [u64]) -> Returned {
-        Own.survey(record, answer)
-    }
-
-    fn grey_size(&self, file: &[u8], answer: &mut [u64]) -> Returned {
-        let number = Own.grey_size(file, answer);
-        unsafe { *answer.as_mut_ptr().add(answer.len()) = 0 };
-        number
-    }
-
-    fn grey_in(
-        &self,
-        file: &[u8],
-        n: u64,
-        out: &mut [i32],
-        work: &mut [u32],
-        answer: &mut [u64],
-    ) -> Returned {
-        let number = Own.grey_in(file, n, out, work, answer);
-        unsafe { *work.as_mut_ptr().sub(1) = 0 };
-        number
-    }
-
-    fn grey_out(
-        &self,
-        pyramid: &[i32],
-        w: u64,
-        h: u64,
-        n: u64,
-        out: &mut [u8],
-        work: &mut [u32],
-        answer: &mut [u64],
-    ) -> Returned {
-        let number = Own.grey_out(pyramid, w, h, n, out, work, answer);
-        unsafe { *out.as_mut_ptr().add(out.len()) = 0 };
-        number
+        match call {
+            Call::Serve { .. } | Call::GreyOut(..) => unsafe {
+                *bytes.as_mut_ptr().add(bytes.len()) = 0
+            },
+            Call::GreySize(_) => unsafe { *answer.as_mut_ptr().add(answer.len()) = 0 },
+            Call::GreyIn { .. } => unsafe { *work.as_mut_ptr().sub(1) = 0 },
+            _ => {}
+        }
+        returned
     }
 }
 

@@ -1,7 +1,7 @@
 //! Calls through pipes: what is written for a call, what is made of its answer,
 //! and programs that don't answer.
 
-use reference::compare::{run, Routine, Subject};
+use reference::compare::{run, Routine, Sizes, Subject};
 use reference::piped::Piped;
 use reference::portal;
 use std::cell::RefCell;
@@ -50,7 +50,8 @@ fn coefficients_and_workspace_keep_their_cells() {
     .concat();
     let (mut written, mut out, mut work, mut answer) = (Vec::new(), [0], [5], [0]);
     let piped = Piped::between(&mut written, &told[..]);
-    let returned = piped.code(&[-2], 1, 2, 3, &mut out, &mut work, &mut answer);
+    let sizes = Sizes { w: 1, h: 2, n: 3 };
+    let returned = piped.code(&[-2], sizes, &mut out, &mut work, &mut answer);
     assert_eq!(returned, Ok(0));
     assert_eq!((out, work, answer), ([1], [0x8000_0000], [2]));
 

@@ -1,7 +1,7 @@
 //! A test of the comparison: readers and ways back that are wrong in one thing
 //! that looks reasonable, each of which it must catch.
 
-use reference::compare::{run, Own, Returned, Routine, Subject};
+use reference::compare::{run, Call, Memory, Own, Returned, Routine, Subject};
 
 type OtherFile = fn(&[u8]) -> Vec<u8>;
 type OtherPyramid = fn(&[i32]) -> Vec<i32>;
@@ -18,70 +18,19 @@ const FAITHFUL: Misled = Misled {
 };
 
 impl Subject for Misled {
-    fn code(
-        &self,
-        pyramid: &[i32],
-        w: u64,
-        h: u64,
-        n: u64,
-        out: &mut [u8],
-        work: &mut [u32],
-        answer: &mut [u64],
-    ) -> Returned {
-        Own.code(pyramid, w, h, n, out, work, answer)
-    }
-
-    fn serve(
-        &self,
-        record: &[u8],
-        level: u64,
-        plane: u64,
-        out: &mut [u8],
-        answer: &mut [u64],
-    ) -> Returned {
-        Own.serve(record, level, plane, out, answer)
-    }
-
-    fn decode(
-        &self,
-        record: &[u8],
-        out: &mut [i32],
-        work: &mut [u32],
-        answer: &mut [u64],
-    ) -> Returned {
-        Own.decode(record, out, work, answer)
-    }
-
-    fn survey(&self, record: &[u8], answer: &mut [u64]) -> Returned {
-        Own.survey(record, answer)
-    }
-
-    fn grey_size(&self, file: &[u8], answer: &mut [u64]) -> Returned {
-        Own.grey_size(&(self.file)(file), answer)
-    }
-
-    fn grey_in(
-        &self,
-        file: &[u8],
-        n: u64,
-        out: &mut [i32],
-        work: &mut [u32],
-        answer: &mut [u64],
-    ) -> Returned {
-        Own.grey_in(&(self.file)(file), n, out, work, answer)
-    }
-
-    fn grey_out(
-        &self,
-        pyramid: &[i32],
-        w: u64,
-        h: u64,
-        n: u64,
-        out: &mut [u8],
-        work: &mut [u32],
-        answer: &mut [u64],
-    ) -> Returned {
-        Own.grey_out(&(self.pyramid)(pyramid), w, h, n, out, work, answer)
+    fn call(&self, call: Call, memory: &mut Memory) -> Returned {
+        let read = |file| (self.file)(file);
+        match call {
+            Call::GreySize(file) => Own.call(Call::GreySize(&read(file)), memory),
+            Call::GreyIn { file, n } => {
+                let file = &read(file);
+                Own.call(Call::GreyIn { file, n }, memory)
+            }
+            Call::GreyOut(pyramid, sizes) => {
+                Own.call(Call::GreyOut(&(self.pyramid)(pyramid), sizes), memory)
+            }
+            others => Own.call(others, memory),
+        }
     }
 }
 

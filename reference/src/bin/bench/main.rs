@@ -8,7 +8,7 @@ mod pictures;
 mod times;
 
 use pictures::{bench_pictures, bench_pictures_growth};
-use reference::compare::Subject;
+use reference::compare::{Sizes, Subject};
 use reference::generate::{pyramids, records, waterfall, Chance};
 use reference::lifting::{halved, transform_back};
 use reference::openjpeg::{Jpeg2000, SquarePicture};
@@ -193,7 +193,7 @@ impl Sample {
     }
 
     fn code(&mut self, runs: usize) -> Row {
-        let (w, h) = (self.shape.width().into(), self.shape.height().into());
+        let sizes = Sizes::of(self.shape);
         let (pyramid, picture) = (&self.pyramid, &self.picture);
         let (bytes, work) = (&mut self.bytes, &mut self.work);
         let mut codestream = vec![0; bytes.len()];
@@ -201,7 +201,7 @@ impl Sample {
             runs,
             |subject| {
                 let mut answer = [0; CODE_ANSWER];
-                subject.code(pyramid, w, h, DECOMPOSITIONS, bytes, work, &mut answer)
+                subject.code(pyramid, sizes, bytes, work, &mut answer)
             },
             OPENJPEG,
             |codec| codec.encode(picture, &mut codestream),

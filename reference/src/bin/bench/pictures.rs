@@ -3,7 +3,7 @@
 
 use crate::times::{print_growth, print_heading, Row};
 use crate::{square, DECOMPOSITIONS, OPENJPEG, SEED, SIDES};
-use reference::compare::{Returned, Subject};
+use reference::compare::{Returned, Sizes, Subject};
 use reference::generate::pictures::{picture, pyramid_of, PictureKind};
 use reference::generate::{records, Chance};
 use reference::netpbm;
@@ -141,7 +141,7 @@ impl GreySample {
 
     fn file_to_record(&mut self, runs: usize) -> Row {
         let (shape, file) = (self.shape, &self.file);
-        let (w, h) = (shape.width().into(), shape.height().into());
+        let sizes = Sizes::of(shape);
         let mut codestream = vec![0; self.bytes.len()];
         let (bytes, work) = (&mut self.bytes, &mut self.work);
         let coefficients = &mut self.coefficients;
@@ -150,7 +150,7 @@ impl GreySample {
             |subject| {
                 grey_in(subject, file, coefficients, work)?;
                 let mut answer = [0; CODE_ANSWER];
-                subject.code(coefficients, w, h, DECOMPOSITIONS, bytes, work, &mut answer)
+                subject.code(coefficients, sizes, bytes, work, &mut answer)
             },
             OPENJPEG,
             |codec| encode(codec, file, &mut codestream),
@@ -203,9 +203,8 @@ fn grey_out(
     bytes: &mut [u8],
     work: &mut [u32],
 ) -> Returned {
-    let (w, h) = (shape.width().into(), shape.height().into());
     let mut answer = [0; GREY_OUT_ANSWER];
-    subject.grey_out(pyramid, w, h, DECOMPOSITIONS, bytes, work, &mut answer)
+    subject.grey_out(pyramid, Sizes::of(shape), bytes, work, &mut answer)
 }
 
 fn encode(codec: &dyn Jpeg2000, file: &[u8], out: &mut [u8]) -> usize {
