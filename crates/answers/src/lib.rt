@@ -1,16 +1,20 @@
 // The document's number and place for each verdict, made in one function each; and each answer's numbers at the front of a lent slice.
 ghost use mathlib.Core.Path.{_≡_};
-ghost use Prim.Native.Nat.{_≤_, _<_};
+ghost use mathlib.Core.List.{map};
+ghost use Prim.Native.Nat.{_+_, _≤_};
 ghost use lib.ListN.{length};
+ghost use lib.Seq.{sets};
+ghost use Rattle.rules.specs.Document.Passes.{from};
 ghost use Rattle.rules.specs.Document.Numbers.{refusalNumber, refusalPlace, verdictNumber, verdictPlace};
 ghost use Rattle.rules.specs.Document.Calls.{levelPlaces, codePlaces, servePlaces, decodePlaces, codeNumbers, serveNumbers, planeIn, decodeNumbers};
 ghost use Rattle.survey.specs.Surveyed.{surveyPlaces, surveyNumbers};
 ghost use Rattle.pictures.specs.Document.Calls.{greyReadNumbers, greyWrittenNumbers, greyPlaces};
-ghost use Rattle.answers.specs.Report.{Reported};
+ghost use Rattle.answers.specs.Report.{verdictNumbers, Reported};
 use pictures::GreyRead;
 use pictures::GreyWritten;
 use rules::Coded;
 use rules::Decoded;
+use rules::LEVEL_PLACES;
 use rules::Plane;
 use rules::Refusal;
 use rules::Served;
@@ -75,15 +79,24 @@ pub fn place(v: Verdict) -> u64
     }
 }
 
+// All 0, but for number and place in front.
+fn report_verdict(v: Verdict, answer: &mut [u64]) -> u64
+    requires { ⌜ codePlaces ≤ length (now answer) ⌝ }
+    ensures { λ n. ⌜ Reported (verdictNumbers v) (now (answer .entry)) n (now (answer .exit)) ⌝ }
+{
+    memory::zero_u64(answer);
+    let n = number(v);
+    answer[0] = n;
+    answer[1] = place(v);
+    n
+}
+
 pub fn report_coded(a: Coded, answer: &mut [u64]) -> u64
     requires { ⌜ codePlaces ≤ length (now answer) ⌝ }
     ensures { λ n. ⌜ Reported (codeNumbers a) (now (answer .entry)) n (now (answer .exit)) ⌝ }
 {
-    memory::zero_u64(answer);
     let v = a.verdict;
-    let n = number(v);
-    answer[0] = n;
-    answer[1] = place(v);
+    let n = report_verdict(v, answer);
     answer[2] = a.length as u64;
     n
 }
@@ -92,41 +105,35 @@ pub fn report_served(a: Served, answer: &mut [u64]) -> u64
     requires { ⌜ servePlaces ≤ length (now answer) ⌝ }
     ensures { λ n. ⌜ Reported (serveNumbers a) (now (answer .entry)) n (now (answer .exit)) ⌝ }
 {
-    memory::zero_u64(answer);
     let v = a.verdict;
-    let n = number(v);
-    answer[0] = n;
-    answer[1] = place(v);
+    let n = report_verdict(v, answer);
     answer[2] = a.length as u64;
     answer[3] = a.tail as u64;
     n
 }
 
-fn plane_number(planes: [Plane; 6], i: usize) -> u64
-    requires { ⌜ i < levelPlaces ⌝ }
-    ensures { λ n. ⌜ n ≡ planeIn planes i ⌝ }
+// The planes, level 1 first, from a place on.
+fn store_planes(planes: [Plane; LEVEL_PLACES], answer: &mut [u64], at: usize)
+    requires { ⌜ at + levelPlaces ≤ length (now answer) ⌝ }
+    ensures { λ _. ⌜ now (answer .exit) ≡ sets (now (answer .entry)) at (map (planeIn planes) (from 0 levelPlaces)) ⌝ }
 {
-    let p = planes[i];
-    p.0 as u64
+    let mut i = 0;
+    while i < LEVEL_PLACES {
+        let plane = planes[i];
+        answer[at + i] = plane.0 as u64;
+        i += 1;
+    }
 }
 
 pub fn report_decoded(a: Decoded, answer: &mut [u64]) -> u64
     requires { ⌜ decodePlaces ≤ length (now answer) ⌝ }
     ensures { λ n. ⌜ Reported (decodeNumbers a) (now (answer .entry)) n (now (answer .exit)) ⌝ }
 {
-    memory::zero_u64(answer);
     let v = a.verdict;
-    let reached = a.reached;
-    let n = number(v);
-    answer[0] = n;
-    answer[1] = place(v);
+    let n = report_verdict(v, answer);
     answer[2] = a.tail as u64;
-    answer[3] = plane_number(reached, 0);
-    answer[4] = plane_number(reached, 1);
-    answer[5] = plane_number(reached, 2);
-    answer[6] = plane_number(reached, 3);
-    answer[7] = plane_number(reached, 4);
-    answer[8] = plane_number(reached, 5);
+    let reached = a.reached;
+    store_planes(reached, answer, 3);
     n
 }
 
@@ -134,13 +141,10 @@ pub fn report_surveyed(a: Survey, answer: &mut [u64]) -> u64
     requires { ⌜ surveyPlaces ≤ length (now answer) ⌝ }
     ensures { λ n. ⌜ Reported (surveyNumbers a) (now (answer .entry)) n (now (answer .exit)) ⌝ }
 {
-    memory::zero_u64(answer);
     let v = a.verdict;
+    let n = report_verdict(v, answer);
     let header = a.header;
     let size = header.size;
-    let n = number(v);
-    answer[0] = n;
-    answer[1] = place(v);
     answer[2] = size.w as u64;
     answer[3] = size.h as u64;
     answer[4] = size.n as u64;
@@ -154,11 +158,8 @@ pub fn report_grey_read(a: GreyRead, answer: &mut [u64]) -> u64
     requires { ⌜ greyPlaces ≤ length (now answer) ⌝ }
     ensures { λ n. ⌜ Reported (greyReadNumbers a) (now (answer .entry)) n (now (answer .exit)) ⌝ }
 {
-    memory::zero_u64(answer);
     let v = a.verdict;
-    let n = number(v);
-    answer[0] = n;
-    answer[1] = place(v);
+    let n = report_verdict(v, answer);
     answer[2] = a.w as u64;
     answer[3] = a.h as u64;
     n
@@ -168,11 +169,8 @@ pub fn report_grey_written(a: GreyWritten, answer: &mut [u64]) -> u64
     requires { ⌜ greyPlaces ≤ length (now answer) ⌝ }
     ensures { λ n. ⌜ Reported (greyWrittenNumbers a) (now (answer .entry)) n (now (answer .exit)) ⌝ }
 {
-    memory::zero_u64(answer);
     let v = a.verdict;
-    let n = number(v);
-    answer[0] = n;
-    answer[1] = place(v);
+    let n = report_verdict(v, answer);
     answer[2] = a.length as u64;
     answer[3] = a.clipped as u64;
     n

@@ -11,6 +11,7 @@ use Rattle.parts.specs.declared.Counts.{Counts}
 use Rattle.rules.specs.Document.Notation.{flat, greatest, zeros}
 use Rattle.rules.specs.Document.Pyramid.{levels, mostMagnitude, mostPlanes, planesOf}
 use Rattle.rules.specs.Document.Passes.{start, PartName, partNames}
+use Rattle.rules.specs.Document.Calls.{levelPlaces}
 use Rattle.rules.specs.Document.Layout.{version, numberBytes, headerBytes, planesIn, partsOf, recordOf}
 use Rattle.rules.specs.Laws.Sizes.{legal}
 use Rattle.rules.specs.Laws.Planes.{planesOf-most, range-greatest}
@@ -35,7 +36,7 @@ module _ {pyramid : List ℤ} {z : Size} {work : List ℕ} (g : Given pyramid z 
     first = stageOf z work′ (record { counts = counts; place = place }) out
 
     pub parts-begin : planes ≤ mostPlanes → Clear out place → place ≤ headerMost
-        → Given pyramid z work′ × (planes ≤ mostPlanes) × Going z (6 * planes) (stageOf z work′ (record { counts = counts; place = place }) out)
+        → Given pyramid z work′ × (planes ≤ mostPlanes) × Going z (levelPlaces * planes) (stageOf z work′ (record { counts = counts; place = place }) out)
     parts-begin a c l = (
       given-same g (s .same),
       a,

@@ -11,6 +11,7 @@ use Rattle.rules.specs.declared.Plane.{Plane}
 use Rattle.rules.specs.declared.Level.{Level}
 use Rattle.rules.specs.Document.Pyramid.{levels, mostPlanes}
 use Rattle.rules.specs.Document.Passes.{PartName, partsOfPlane, partNames}
+use Rattle.rules.specs.Document.Calls.{levelPlaces}
 use Rattle.rules.specs.Laws.Sizes.{legal}
 use Rattle.parts.specs.Standing.{named}
 use Rattle.coder.specs.declared.Progress.{Progress}
@@ -67,7 +68,7 @@ module _ (pyramid : List ℤ) (z : Size) where
     pub level : k ≤ levels z
     pub left : Left work₀ x₀ (partsOfPlane (n .0) (levels z)) work x (partsOfPlane (n .0) k) k
 
-  pub levels-begin : {n : Plane} {work : List ℕ} {x : Stage} (k : ℕ) → k ≡ levels z → Given pyramid z work → n .0 < mostPlanes → Going z 6 x
+  pub levels-begin : {n : Plane} {work : List ℕ} {x : Stage} (k : ℕ) → k ≡ levels z → Given pyramid z work → n .0 < mostPlanes → Going z levelPlaces x
       → LevelsLeft n work x k work x
   levels-begin {n} {work} {x} k e g a h =
       record {
@@ -111,9 +112,9 @@ module _ (pyramid : List ℤ) (z : Size) where
   -- write_planes: so many planes are done, from the highest on.
   pub record PlanesDone (planes : ℕ) (work₀ : List ℕ) (x₀ : Stage) (done : ℕ) (work : List ℕ) (x : Stage) : Type 0 where
     pub few : planes ≤ mostPlanes
-    pub left : Left work₀ x₀ (partNames (levels z) planes) work x (partNames (levels z) (planes - done)) (6 * (planes - done))
+    pub left : Left work₀ x₀ (partNames (levels z) planes) work x (partNames (levels z) (planes - done)) (levelPlaces * (planes - done))
 
-  pub planes-begin : {planes : ℕ} {work : List ℕ} {x : Stage} → Given pyramid z work → planes ≤ mostPlanes → Going z (6 * planes) x
+  pub planes-begin : {planes : ℕ} {work : List ℕ} {x : Stage} → Given pyramid z work → planes ≤ mostPlanes → Going z (levelPlaces * planes) x
       → PlanesDone planes work x 0 work x
   planes-begin {planes} {work} {x} g a h =
       let e : planes - 0 ≡ planes = omega arith in
@@ -124,8 +125,8 @@ module _ (pyramid : List ℤ) (z : Size) where
 
   module _ {planes : ℕ} {work₀ : List ℕ} {x₀ : Stage} where
     pub planes-due : {work : List ℕ} {x : Stage} (done : ℕ) → done < planes → PlanesDone planes work₀ x₀ done work x
-        → Given pyramid z work × (planes - (done + 1) < mostPlanes) × Going z 6 x
-    planes-due done b l = (l .left .given, omega (arith, l .few), going-fewer 6 (omega arith) (l .left .going))
+        → Given pyramid z work × (planes - (done + 1) < mostPlanes) × Going z levelPlaces x
+    planes-due done b l = (l .left .given, omega (arith, l .few), going-fewer levelPlaces (omega arith) (l .left .going))
 
     pub planes-turn : {work work′ out′ : List ℕ} {p : Progress} {x : Stage} (done : ℕ) → done < planes → PlanesDone planes work₀ x₀ done work x
         → Reached z work p work′ out′ (through pyramid z (partsOfPlane (planes - (done + 1)) (levels z)) x)
@@ -135,11 +136,11 @@ module _ (pyramid : List ℤ) (z : Size) where
         let n : ℕ = planes - (done + 1) in
         let e : planes - done ≡ suc n = omega arith in
         let sized = l .left .given .legal in
-        let g = going-plane pyramid z sized {m = 6 * n} n (levels z) (omega (arith, l .few)) (omega arith) x
-        (going-fewer (levels z + 6 * n) (omega (arith, legal z sized .few)) (l .left .going)) in
+        let g = going-plane pyramid z sized {m = levelPlaces * n} n (levels z) (omega (arith, l .few)) (omega arith) x
+        (going-fewer (levels z + levelPlaces * n) (omega (arith, legal z sized .few)) (l .left .going)) in
         record {
           few = l .few;
-          left = left-less (l .left) (partsOfPlane n (levels z)) (partNames (levels z) n) (6 * n) (ap (partNames (levels z)) e) g r;
+          left = left-less (l .left) (partsOfPlane n (levels z)) (partNames (levels z) n) (levelPlaces * n) (ap (partNames (levels z)) e) g r;
         }
 
     pub planes-end : {work out : List ℕ} {p : Progress} (done : ℕ) → planes ≤ done → PlanesDone planes work₀ x₀ done work (stageOf z work p out)

@@ -10,7 +10,7 @@ ghost use Rattle.rules.specs.Document.Notation.{greatest, zeros};
 ghost use Rattle.rules.specs.Document.Pyramid.{legalSize, levels, mostPlanes, planesOf};
 ghost use Rattle.rules.specs.Document.Passes.{start, partsOfPlane, partNames};
 ghost use Rattle.rules.specs.Document.Layout.{version, recordOf};
-ghost use Rattle.rules.specs.Document.Calls.{refused, fitted, coding, Coding};
+ghost use Rattle.rules.specs.Document.Calls.{levelPlaces, refused, fitted, coding, Coding};
 ghost use Rattle.parts.specs.Standing.{named};
 ghost use Rattle.coder.specs.Writing.{Answered, judgedInput, Given, headerMost, Wrote, HeadFits, Headed};
 ghost use Rattle.coder.specs.Writing.{stageOf, onward, through, Clear, Going, Due, Reached, bytesOfParts, Stored};
@@ -21,9 +21,8 @@ use rules::Level;
 use rules::Plane;
 use rules::Refusal;
 use rules::Size;
+use rules::VERSION;
 use rules::Verdict;
-
-const VERSION: usize = 1;
 
 const MOST_MAGNITUDE: u32 = 65535;
 
@@ -156,7 +155,7 @@ fn write_plane(
     work: &mut [u32],
     progress: Progress,
 ) -> Progress
-    requires { ⌜ Given (now pyramid) z (now work) × (plane .0 < mostPlanes) × Going z 6 (stageOf z (now work) progress (now out)) ⌝ }
+    requires { ⌜ Given (now pyramid) z (now work) × (plane .0 < mostPlanes) × Going z levelPlaces (stageOf z (now work) progress (now out)) ⌝ }
     ensures { λ r. ⌜ Reached z (now (work .entry)) r (now (work .exit)) (now (out .exit)) (through (now (pyramid .entry)) z (partsOfPlane (plane .0) (levels z)) (stageOf z (now (work .entry)) progress (now (out .entry)))) ⌝ }
 {
     let mut reached = progress;
@@ -177,7 +176,7 @@ fn write_planes(
     work: &mut [u32],
     progress: Progress,
 ) -> Progress
-    requires { ⌜ Given (now pyramid) z (now work) × (planes ≤ mostPlanes) × Going z (6 * planes) (stageOf z (now work) progress (now out)) ⌝ }
+    requires { ⌜ Given (now pyramid) z (now work) × (planes ≤ mostPlanes) × Going z (levelPlaces * planes) (stageOf z (now work) progress (now out)) ⌝ }
     ensures { λ r. ⌜ Reached z (now (work .entry)) r (now (work .exit)) (now (out .exit)) (through (now (pyramid .entry)) z (partNames (levels z) planes) (stageOf z (now (work .entry)) progress (now (out .entry)))) ⌝ }
 {
     let mut reached = progress;

@@ -13,7 +13,8 @@ use Rattle.rules.specs.declared.Header.{Header}
 use Rattle.rules.specs.declared.Part.{Part}
 use Rattle.decoder.specs.declared.Found.the-variants as found
 use Rattle.decoder.specs.declared.Turn.{Turn}
-use Rattle.rules.specs.Document.Pyramid.{family, levels}
+use Rattle.rules.specs.Document.Pyramid.{family}
+use Rattle.rules.specs.Document.Numbers.{topLevel}
 use Rattle.rules.specs.Document.Passes.{PartName, State, Course, Reader, after, decoded}
 use Rattle.rules.specs.Document.Layout.{bitAt, bodyOf, nameOf, usable}
 use Rattle.rules.specs.Document.Calls.{Progress, going, unfit, used, onward}
@@ -32,7 +33,7 @@ taken-alike bytes z p reached s t v a out work r out′ work′ h =
 
 -- The definition's `onward` comes to the same, where the test that one walk can make is the definition's.
 module _ (h : Header) (s : List ℕ) (there : List PartName) (p : Part) (reached : List Plane) (t : State) (v : List ℤ)
-    (test : usable (levels (h .size)) (h .planes) there (nameOf p) ≡ usableNow (reachedAt reached) (nameOf p)) where
+    (test : usable (topLevel h) (h .planes) there (nameOf p) ≡ usableNow (reachedAt reached) (nameOf p)) where
   c : Course Reader
   c = decoded (family (h .size)) (nameOf p) (bitAt (bodyOf s p)) t v
 

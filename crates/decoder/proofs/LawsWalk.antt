@@ -17,10 +17,10 @@ use Rattle.rules.specs.declared.PartRead.the-variants as part
 use Rattle.decoder.specs.declared.Walk.{Walk}
 use Rattle.decoder.specs.declared.Found.the-variants as found
 use Rattle.decoder.specs.declared.Turn.{Turn}
-use Rattle.rules.specs.Document.Pyramid.{area, levels, magnitude, mostPlanes}
+use Rattle.rules.specs.Document.Pyramid.{area, magnitude, mostPlanes}
 use Rattle.rules.specs.Document.Passes.{PartName, State, start}
 use Rattle.rules.specs.Document.Layout.{nameOf, usable, reached}
-use Rattle.rules.specs.Document.Numbers.{readPart, Ending, tail, fault, Reading, readParts}
+use Rattle.rules.specs.Document.Numbers.{readPart, Ending, tail, fault, Reading, readParts, topLevel}
 use Rattle.rules.specs.Document.Calls.{levelPlaces, refused, accepted, Progress, going, unfit, onward, decodeParts, onEnding, reachedPlanes, pictured, decodedParts}
 use Rattle.rules.specs.Laws.Tests.{clash}
 use Rattle.rules.specs.Laws.Sizes.{legal}
@@ -176,7 +176,7 @@ module _ (h : Header) (s : List ℕ) (w : Walk) (out : List ℤ) (work : List �
 
     -- the planes reached are those of the parts that came by
     R : ℕ → ℕ
-    R k = reached (levels (h .size)) (h .planes) (map nameOf (W .seen)) k
+    R k = reached (topLevel h) (h .planes) (map nameOf (W .seen)) k
 
     R-held : (k : ℕ) → 1 ≤ k → R k ≡ reachedAt (w .reached) k
     unfolding R
@@ -186,10 +186,10 @@ module _ (h : Header) (s : List ℕ) (w : Walk) (out : List ℤ) (work : List �
     test-held : usableNow R (nameOf p) ≡ usableNow (reachedAt (w .reached)) (nameOf p)
     test-held = usableNow-same R (reachedAt (w .reached)) (nameOf p) (whole .legal .named .from1) R-held
 
-    test : usable (levels (h .size)) (h .planes) (names h s) (nameOf p) ≡ usableNow (reachedAt (w .reached)) (nameOf p)
+    test : usable (topLevel h) (h .planes) (names h s) (nameOf p) ≡ usableNow (reachedAt (w .reached)) (nameOf p)
     unfolding R
     test =
-        ap (λ (ps : List Part). usable (levels (h .size)) (h .planes) (map nameOf ps) (nameOf p)) parts-part
+        ap (λ (ps : List Part). usable (topLevel h) (h .planes) (map nameOf ps) (nameOf p)) parts-part
         ∙ usable-read h s (record { plane = h .planes; level = 0 }) (h .end) (W .seen) p (later .parts) wholes
         ∙ test-held
 
@@ -203,7 +203,7 @@ module _ (h : Header) (s : List ℕ) (w : Walk) (out : List ℤ) (work : List �
     unfolding metOn usedOn gone R nameOf
     met-reached = cases (usableNow (reachedAt (w .reached)) (nameOf p)) refl
       where
-        is : (k : ℕ) → 1 ≤ k → reached (levels (h .size)) (h .planes) (map nameOf came) k ≡ reachedNow R (nameOf p) k
+        is : (k : ℕ) → 1 ≤ k → reached (topLevel h) (h .planes) (map nameOf came) k ≡ reachedNow R (nameOf p) k
         is k f = reached-read h s (record { plane = h .planes; level = 0 }) (h .end) (W .seen) p (later .parts) wholes k f
 
         cases : (b : Bool) → usableNow (reachedAt (w .reached)) (nameOf p) ≡ b

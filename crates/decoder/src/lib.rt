@@ -8,6 +8,7 @@ use record::Name;
 use rules::Decoded;
 use rules::Header;
 use rules::HeaderRead;
+use rules::LEVEL_PLACES;
 use rules::Level;
 use rules::Part;
 use rules::PartRead;
@@ -21,7 +22,7 @@ use rules::Verdict;
 pub struct Walk {
     pub before: Name,
     pub place: usize,
-    pub reached: [Plane; 6],
+    pub reached: [Plane; LEVEL_PLACES],
     pub counts: Counts,
 }
 
@@ -56,7 +57,7 @@ fn first_walk(h: Header, pyramid: &mut [i32], work: &mut [u32]) -> Walk
 }
 
 // After a part.
-fn walk_past(p: Part, reached: [Plane; 6], counts: Counts) -> Walk
+fn walk_past(p: Part, reached: [Plane; LEVEL_PLACES], counts: Counts) -> Walk
     ensures { λ r. ⌜ Past p reached counts r ⌝ }
 {
     let plane = p.plane;
@@ -152,7 +153,7 @@ fn refuse(r: Refusal, out: &mut [i32], work: &mut [u32]) -> Decoded
     Decoded {
         verdict: Verdict::Refused(r),
         tail: 0,
-        reached: [Plane(0); 6],
+        reached: [Plane(0); LEVEL_PLACES],
     }
 }
 

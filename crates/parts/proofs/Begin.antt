@@ -18,7 +18,7 @@ use Rattle.rules.specs.declared.Size.{Size}
 use Rattle.rules.specs.Document.Notation.{flat, ifAny}
 use Rattle.rules.specs.Document.Pyramid.{greatestSide, legalSize, area, levels, offspringOf}
 use Rattle.rules.specs.Document.Passes.{typeA, Lists, from, rows, bandLL, rootOf, start}
-use Rattle.rules.specs.Document.Calls.{workFor}
+use Rattle.rules.specs.Document.Calls.{levelPlaces, workFor}
 use Rattle.rules.specs.Laws.Count.{All, every-all, ifAny-some, flat-append}
 use Rattle.rules.specs.Laws.Sizes.{Legal, legal, area-bound, span-most, levelStart, levelStart-top, levelSize, levelSize-top}
 use Rattle.rules.specs.Laws.Slots.{room-slots}
@@ -278,10 +278,10 @@ band-listing z n work e i h =
 
 -- the counts: none but those of level N+1
 abbrev none : List ℕ
-none = replicate 6 0
+none = replicate levelPlaces 0
 
 none-at : (i : ℕ) → getD none i 0 ≡ 0
-none-at i = go 6 i
+none-at i = go levelPlaces i
   where
     go : (m j : ℕ) → _≡_ {A = ℕ} (getD (replicate m 0) j 0) 0
     go zero j = refl
@@ -292,7 +292,7 @@ module _ (z : Size) (r : Fill) where
   abbrev counts : Counts
   counts = record { lip = set none (z .n) (r .lip); lsp = none; lis = set none (z .n) (r .left) }
 
-  counts-top : (x : ℕ) → z .n < 6 → countAt (set none (z .n) x) (levels z) ≡ x
+  counts-top : (x : ℕ) → z .n < levelPlaces → countAt (set none (z .n) x) (levels z) ≡ x
   counts-top x h = let i : levels z - 1 ≡ z .n = omega arith in ap (λ (j : ℕ). getD (set none (z .n) x) j 0) i ∙ getD-set-same none (z .n) x 0 h
 
   counts-else : (x k : ℕ) → 1 ≤ z .n → k ≢ levels z → countAt (set none (z .n) x) k ≡ 0
@@ -321,7 +321,7 @@ module _ (z : Size) (r : Fill) where
     top-lists : length ys ≡ 4 * n → {xs : List ℕ} → Listed z (bandLL z) n xs empty ys r → stateOf z work′ counts (levels z) ≡ start z (levels z)
     unfolding stateOf listsAt
     top-lists l L =
-        let few : z .n < 6 = omega (arith, legal z e .few) in
+        let few : z .n < levelPlaces = omega (arith, legal z e .few) in
         let v : r .visited ≡ 0 = ap (λ f. f .visited) (L .fill) in
         let p : r .lsp ≡ 0 = ap (λ f. f .lsp) (L .fill) in
         rw (

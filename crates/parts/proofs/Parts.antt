@@ -19,7 +19,7 @@ use Rattle.rules.specs.declared.Level.{Level}
 use Rattle.rules.specs.Document.Pyramid.{family, levels, levelOf, magnitude}
 use Rattle.rules.specs.Document.Passes.{Entry, typeA, typeB, members, inLevel, Lists, State, Side, Course, passed, own, handed, after, from}
 use Rattle.rules.specs.Document.Numbers.{mostBits}
-use Rattle.rules.specs.Document.Calls.{workFor}
+use Rattle.rules.specs.Document.Calls.{levelPlaces, workFor}
 use Rattle.rules.specs.Laws.Count.{_∈_, sum, is, All, all-of, all-then}
 use Rattle.rules.specs.Laws.Family.{level-some, grandchild}
 use Rattle.rules.specs.Laws.Sizes.{Legal, legal, area-bound, levelStart, levelSize}
@@ -42,7 +42,7 @@ use Rattle.testing.specs.Exchange.{Chan, chan, familyOf, side}
 use Rattle.testing.specs.Tests.{course}
 use Rattle.testing.specs.Growing.{Growth}
 use Rattle.passes.specs.Steps.{hasMember, Queued, Proper, Fresh, listsOf}
-use Rattle.parts.specs.Standing.{stretchOf, countAt, Six, fillOf, withLists, listsAt, stateOf, Ready, ReadyToCode, PartCoded, ReadyToDecode, PartDecoded}
+use Rattle.parts.specs.Standing.{stretchOf, countAt, Places, fillOf, withLists, listsAt, stateOf, Ready, ReadyToCode, PartCoded, ReadyToDecode, PartDecoded}
 use Rattle.parts.specs.Workspace.{Lending, Lent, movedOut, handedOn, Handing, Handed, runOf, Running, courseIn, PartRun}
 use Rattle.parts.proofs.Workspace.{size-some, size-place}
 use Rattle.parts.proofs.States.{state-in, state-same, handedOn-next, handedOn-other}
@@ -212,7 +212,7 @@ module _ (run : Run) {work : List ℕ} {counts : Counts} {d : List ℤ} (H : Run
       }
 
   -- after the pass
-  module _ (six : Six counts) {C : Side Chan} {out work₁ out₁ : List ℕ} {d₁ : List ℤ} {r : Stand} (T : Lent C run work out d begun work₁ out₁ d₁ r) where
+  module _ (six : Places counts) {C : Side Chan} {out work₁ out₁ : List ℕ} {d₁ : List ℤ} {r : Stand} (T : Lent C run work out d begun work₁ out₁ d₁ r) where
     abbrev c : Course Chan
     c = courseIn C run work counts out d
 
@@ -228,7 +228,7 @@ module _ (run : Run) {work : List ℕ} {counts : Counts} {d : List ℤ} (H : Run
     gone-count : length (c .moved) ≡ r .fill .moved
     gone-count = ap (λ x. length (x .moved)) (sym ran-course) ∙ moved-length (run .n) made (r .fill) (T .ran .fits)
 
-    few : k ≤ 6
+    few : k ≤ levelPlaces
     few = omega (arith, R .level, legal z (R .legal) .few)
 
     other-count : (cs : List ℕ) (x j : ℕ) → 1 ≤ j → j ≢ k → countAt (set cs (k - 1) x) j ≡ countAt cs j
@@ -315,7 +315,7 @@ module _ (run : Run) {work : List ℕ} {counts : Counts} {d : List ℤ} (H : Run
             handedOn-other k gone (stateOf z work₁ ours) j m ∙ ours-other j i ∙ sym (after-other c (stateOf z work counts) k j i m)
 
   -- the same of lists and counts that the code has made
-  module _ (six : Six counts) {C : Side Chan} {out work₁ out₁ : List ℕ} {d₁ : List ℤ} {r : Stand} {f : Fill} (e : f ≡ fillOf counts k)
+  module _ (six : Places counts) {C : Side Chan} {out work₁ out₁ : List ℕ} {d₁ : List ℤ} {r : Stand} {f : Fill} (e : f ≡ fillOf counts k)
       (T : Lent C run work out d (record { fill = f; at = run .from }) work₁ out₁ d₁ r) {left : Counts} (i : left ≡ withLists counts k (r .fill)) where
     lent-begun : Lent C run work out d begun work₁ out₁ d₁ r
     lent-begun = subst (λ x. Lent C run work out d (record { fill = x; at = run .from }) work₁ out₁ d₁ r) e T
@@ -327,7 +327,7 @@ module _ (run : Run) {work : List ℕ} {counts : Counts} {d : List ℤ} (H : Run
         → PartRun C run work counts out d p work₂ out₁ d₁
     part-done {work₂} {p} D = part-run six lent-begun (subst (λ x. Handed z (run .level) work₁ x (r .fill .moved) (p .counts) work₂) i D)
 
-  pub part-few : (1 ≤ k) × (k ≤ 6)
+  pub part-few : (1 ≤ k) × (k ≤ levelPlaces)
   part-few = (R .coarser, omega (arith, R .level, legal z (R .legal) .few))
 
 pub run-is : {reads : Bool} {z : Size} {plane : Plane} {level : Level} (counts : Counts) {at : BitPosition} {n : ℕ} {f : Fill}

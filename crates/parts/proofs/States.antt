@@ -12,7 +12,7 @@ use borrow.Author.Tests.{le-leb, lt-leb, eq-eqb, ne-eqb}
 use Rattle.rules.specs.declared.Size.{Size}
 use Rattle.rules.specs.declared.Level.{Level}
 use Rattle.rules.specs.Document.Pyramid.{levels}
-use Rattle.rules.specs.Document.Calls.{workFor}
+use Rattle.rules.specs.Document.Calls.{levelPlaces, workFor}
 use Rattle.rules.specs.Document.Passes.{Entry, Lists, State}
 use Rattle.rules.specs.Laws.Sizes.{Legal, legal, area-bound, levelSize}
 use Rattle.lists.specs.Stretch.{sets-few, listsIn, sets-none}
@@ -81,10 +81,10 @@ module _ (z : Size) (k : Level) {work : List ℕ} {counts : Counts} {moved : ℕ
           rw e (ap (λ x. record { lip = stateOf z work counts j .lip; lis = x; lsp = stateOf z work counts j .lsp }) (append-nil (stateOf z work counts j .lis)))
 
   module _ (next : Level) (e : next .0 ≡ k .0 - 1) (h : 2 ≤ k .0) where
-    pub next-few : (1 ≤ next .0) × (next .0 ≤ 6)
+    pub next-few : (1 ≤ next .0) × (next .0 ≤ levelPlaces)
     next-few = (omega arith, omega (arith, H .level, legal z (H .legal) .few))
 
-    pub next-more : (1 ≤ next .0) × (next .0 ≤ 6) × (countAt (counts .lis) (next .0) + moved < 2 ^ 32)
+    pub next-more : (1 ≤ next .0) × (next .0 ≤ levelPlaces) × (countAt (counts .lis) (next .0) + moved < 2 ^ 32)
     next-more =
         let Z : Legal z = legal z (H .legal) in
         let b : next .0 ≤ levels z = omega (arith, H .level) in
@@ -103,7 +103,8 @@ module _ (z : Size) (k : Level) {work : List ℕ} {counts : Counts} {moved : ℕ
           lis = rw (i, e) (H .lis (omega arith));
         }
 
-    handed-with : length (counts .lis) ≡ 6 → k .0 ≤ 6 → {work′ : List ℕ} → HandedOver z k next moved (countAt (counts .lis) (next .0)) work work′
+    handed-with : length (counts .lis) ≡ levelPlaces → k .0 ≤ levelPlaces
+        → {work′ : List ℕ} → HandedOver z k next moved (countAt (counts .lis) (next .0)) work work′
         → Handed z k work counts moved (withSets counts (next .0) moved) work′
     unfolding listsAt
     handed-with six most {work′} O = record { lists = λ j. go j (ℕ-discrete j (next .0)); same = O .same }
@@ -136,7 +137,8 @@ module _ (z : Size) (k : Level) {work : List ℕ} {counts : Counts} {moved : ℕ
             (λ a b. (O .others j a b d, refl, getD-set-other (counts .lis) (next .0 - 1) (j - 1) (countAt (counts .lis) (next .0) + moved) 0 (λ i. d (omega arith)), refl))
             ∙ sym (handedOn-other _ _ _ _ (λ i. d (omega arith)))
 
-    pub handed-over : length (counts .lis) ≡ 6 → k .0 ≤ 6 → {work′ : List ℕ} {there : ℕ} {r : Counts} → there ≡ countAt (counts .lis) (next .0)
+    pub handed-over : length (counts .lis) ≡ levelPlaces → k .0 ≤ levelPlaces
+        → {work′ : List ℕ} {there : ℕ} {r : Counts} → there ≡ countAt (counts .lis) (next .0)
         → HandedOver z k next moved there work work′ → r ≡ withSets counts (next .0) moved → Handed z k work counts moved r work′
     handed-over six most {work′} i O j =
         subst (λ r. Handed z k work counts moved r work′) (sym j) (handed-with six most (subst (λ x. HandedOver z k next moved x work work′) i O))

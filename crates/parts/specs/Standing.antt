@@ -16,7 +16,7 @@ use Rattle.rules.specs.Document.Pyramid.{legalSize, levels, mostPlanes, family,
 use Rattle.rules.specs.Document.Passes.{Lists, State, Course, Reader, PartName, start, after, coded, decoded}
 use Rattle.rules.specs.Document.Layout.{bitAt}
 use Rattle.rules.specs.Document.Numbers.{mostBits}
-use Rattle.rules.specs.Document.Calls.{workFor}
+use Rattle.rules.specs.Document.Calls.{levelPlaces, workFor}
 use Rattle.rules.specs.Laws.Sizes.{levelStart, levelSize}
 use Rattle.rules.specs.Laws.StateRecord.{SoundLists}
 use Rattle.lists.specs.declared.Fill.{Fill}
@@ -32,11 +32,11 @@ stretchOf z k work = seg (4 * levelStart z k) (4 * levelSize z k) work
 abbrev pub countAt : List ℕ → ℕ → ℕ
 countAt counts k = getD counts (k - 1) 0
 
--- there is a count for each of six levels
-pub record Six (c : Counts) : Type 0 where
-  pub lip : length (c .lip) ≡ 6
-  pub lsp : length (c .lsp) ≡ 6
-  pub lis : length (c .lis) ≡ 6
+-- there is a count for each of the levels
+pub record Places (c : Counts) : Type 0 where
+  pub lip : length (c .lip) ≡ levelPlaces
+  pub lsp : length (c .lsp) ≡ levelPlaces
+  pub lis : length (c .lis) ≡ levelPlaces
 
 -- the level's lists as a pass finds them, as it leaves them, and with sets that came to its LIS
 abbrev pub fillOf : Counts → ℕ → Fill

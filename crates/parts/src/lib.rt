@@ -7,15 +7,16 @@ ghost use Prim.Native.Nat.{_+_, _*_, _^_, _≤_, _<_};
 ghost use lib.ListN.{length};
 ghost use Rattle.rules.specs.Document.Pyramid.{legalSize, levels, greatestSide};
 ghost use Rattle.rules.specs.Document.Passes.{bandLL};
-ghost use Rattle.rules.specs.Document.Calls.{workFor};
+ghost use Rattle.rules.specs.Document.Calls.{levelPlaces, workFor};
 ghost use Rattle.rules.specs.Laws.Sizes.{levelStart, levelSize};
 ghost use Rattle.testing.specs.Exchange.{side};
-ghost use Rattle.parts.specs.Standing.{countAt, Six, fillOf, withLists, withSets, Started, ReadyToCode, PartCoded, ReadyToDecode, PartDecoded};
+ghost use Rattle.parts.specs.Standing.{countAt, Places, fillOf, withLists, withSets, Started, ReadyToCode, PartCoded, ReadyToDecode, PartDecoded};
 ghost use Rattle.parts.specs.Workspace.{Lending, Lent, HandingOver, HandedOver, Handing, Handed, runOf, Running, PartRun};
 ghost use Rattle.parts.specs.Begin.{empty, rowOf, Listing, Listed};
 use bits::BitPosition;
 use lists::Fill;
 use lists::Set;
+use rules::LEVEL_PLACES;
 use rules::Level;
 use rules::Plane;
 use rules::Size;
@@ -25,9 +26,9 @@ use testing::Stand;
 
 // How full each level's lists are; level 1 first.
 pub struct Counts {
-    pub lip: [usize; 6],
-    pub lsp: [usize; 6],
-    pub lis: [usize; 6],
+    pub lip: [usize; LEVEL_PLACES],
+    pub lsp: [usize; LEVEL_PLACES],
+    pub lis: [usize; LEVEL_PLACES],
 }
 
 // The counts after a part, and the place of the next bit.
@@ -96,21 +97,21 @@ pub fn start(z: Size, work: &mut [u32]) -> Counts
     let top = z.n;
     let n = shape::level_size(z, Level(top + 1));
     let f = list_band(z, &mut work[0..4 * n], n);
-    let mut lip = [0; 6];
+    let mut lip = [0; LEVEL_PLACES];
     lip[top] = f.lip;
-    let mut lis = [0; 6];
+    let mut lis = [0; LEVEL_PLACES];
     lis[top] = f.left;
     Counts {
         lip,
-        lsp: [0; 6],
+        lsp: [0; LEVEL_PLACES],
         lis,
     }
 }
 
 // The level's lists, as a pass finds them.
 fn fill_of(counts: Counts, k: Level) -> Fill
-    requires { ⌜ (1 ≤ k .0) × (k .0 ≤ 6) ⌝ }
-    ensures { λ r. ⌜ (r ≡ fillOf counts (k .0)) × Six counts ⌝ }
+    requires { ⌜ (1 ≤ k .0) × (k .0 ≤ levelPlaces) ⌝ }
+    ensures { λ r. ⌜ (r ≡ fillOf counts (k .0)) × Places counts ⌝ }
 {
     let i = k.0 - 1;
     let lip = counts.lip[i];
@@ -128,7 +129,7 @@ fn fill_of(counts: Counts, k: Level) -> Fill
 
 // The level's lists are those that a pass left.
 fn with_lists(counts: Counts, k: Level, f: Fill) -> Counts
-    requires { ⌜ (1 ≤ k .0) × (k .0 ≤ 6) ⌝ }
+    requires { ⌜ (1 ≤ k .0) × (k .0 ≤ levelPlaces) ⌝ }
     ensures { λ r. ⌜ r ≡ withLists counts (k .0) f ⌝ }
 {
     let i = k.0 - 1;
@@ -141,7 +142,7 @@ fn with_lists(counts: Counts, k: Level, f: Fill) -> Counts
 
 // The level's LIS has become longer by so many sets.
 fn with_sets(counts: Counts, k: Level, more: usize) -> Counts
-    requires { ⌜ (1 ≤ k .0) × (k .0 ≤ 6) × (countAt (counts .lis) (k .0) + more < 2 ^ 32) ⌝ }
+    requires { ⌜ (1 ≤ k .0) × (k .0 ≤ levelPlaces) × (countAt (counts .lis) (k .0) + more < 2 ^ 32) ⌝ }
     ensures { λ r. ⌜ r ≡ withSets counts (k .0) more ⌝ }
 {
     let i = k.0 - 1;

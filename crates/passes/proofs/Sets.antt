@@ -14,6 +14,7 @@ use Rattle.rules.specs.declared.Size.{Size}
 use Rattle.rules.specs.Document.Notation.{greatest}
 use Rattle.rules.specs.Document.Pyramid.{Family, area, levelOf, offspringOf, magnitude, maxD, maxL}
 use Rattle.rules.specs.Document.Passes.{Entry, typeA, typeB, set?, stays, members, opened, added, truth, Side, Course, listed, listing, done}
+use Rattle.rules.specs.Document.Calls.{levelPlaces}
 use Rattle.rules.specs.Laws.Count.{All, _∈_, some-in}
 use Rattle.rules.specs.Laws.Family.{Lawful, level-some, offspring-descend, grandchild, grandchild-in}
 use Rattle.rules.specs.Laws.Sizes.{Legal, legal}
@@ -107,7 +108,7 @@ module _ (run : Run) (P : Proper run) where
   L : Lawful F
   L = lawful (run .z) Z
 
-  pub level-few : k ≤ 6
+  pub level-few : k ≤ levelPlaces
   level-few = omega (arith, P .level, Z .few)
 
   pub node-index : {p : ℕ} → p < area (run .z) → p < 2 ^ 31

@@ -7,6 +7,9 @@ pub enum Grey {
     NotGrey,
 }
 
+// The length of each grey call's answer.
+pub const GREY_PLACES: usize = 4;
+
 // The answers of the way in, a grey file's to its pyramid, and of the way back.
 pub struct GreyRead {
     pub verdict: Verdict,

@@ -5,9 +5,14 @@ ghost use Rattle.rules.specs.Document.Notation.{zeros};
 ghost use Rattle.rules.specs.Document.Calls.{AfsCode, AfsServe, AfsDecode};
 ghost use Rattle.pictures.specs.Document.Calls.{AfsGreySize, AfsGreyIn, AfsGreyOut};
 ghost use Rattle.survey.specs.Surveyed.{AfsSurvey};
+use pictures::GREY_PLACES;
+use rules::CODE_PLACES;
+use rules::DECODE_PLACES;
 use rules::Level;
 use rules::Plane;
+use rules::SERVE_PLACES;
 use rules::Size;
+use survey::SURVEY_PLACES;
 
 // An answer slice that its answer doesn't fit in: all 0, and the number of ROOM is only returned.
 fn too_short(answer: &mut [u64]) -> u64
@@ -29,7 +34,7 @@ pub extern "C" fn afs_code(
 ) -> u64
     ensures { λ number. ⌜ AfsCode (now (pyramid .entry)) (record { w = w; h = h; n = n }) (now (out .entry)) (now (work .entry)) (now (answer .entry)) number (now (out .exit)) (now (work .exit)) (now (answer .exit)) ⌝ }
 {
-    if answer.len() < 3 {
+    if answer.len() < CODE_PLACES {
         memory::zero_u8(out);
         memory::zero_u32(work);
         return too_short(answer);
@@ -53,7 +58,7 @@ pub extern "C" fn afs_serve(
 ) -> u64
     ensures { λ n. ⌜ AfsServe (now (bytes .entry)) level plane (now (out .entry)) (now (answer .entry)) n (now (out .exit)) (now (answer .exit)) ⌝ }
 {
-    if answer.len() < 4 {
+    if answer.len() < SERVE_PLACES {
         memory::zero_u8(out);
         return too_short(answer);
     }
@@ -70,7 +75,7 @@ pub extern "C" fn afs_decode(
 ) -> u64
     ensures { λ n. ⌜ AfsDecode (now (bytes .entry)) (now (out .entry)) (now (work .entry)) (now (answer .entry)) n (now (out .exit)) (now (work .exit)) (now (answer .exit)) ⌝ }
 {
-    if answer.len() < 9 {
+    if answer.len() < DECODE_PLACES {
         memory::zero_i32(out);
         memory::zero_u32(work);
         return too_short(answer);
@@ -83,7 +88,7 @@ pub extern "C" fn afs_decode(
 pub extern "C" fn afs_survey(bytes: &[u8], answer: &mut [u64]) -> u64
     ensures { λ n. ⌜ AfsSurvey (now (bytes .entry)) (now (answer .entry)) n (now (answer .exit)) ⌝ }
 {
-    if answer.len() < 8 {
+    if answer.len() < SURVEY_PLACES {
         return too_short(answer);
     }
     let a = survey::survey_of(bytes);
@@ -94,7 +99,7 @@ pub extern "C" fn afs_survey(bytes: &[u8], answer: &mut [u64]) -> u64
 pub extern "C" fn afs_grey_size(file: &[u8], answer: &mut [u64]) -> u64
     ensures { λ n. ⌜ AfsGreySize (now (file .entry)) (now (answer .entry)) n (now (answer .exit)) ⌝ }
 {
-    if answer.len() < 4 {
+    if answer.len() < GREY_PLACES {
         return too_short(answer);
     }
     let a = grey::grey_size(file);
@@ -113,7 +118,7 @@ pub extern "C" fn afs_grey_in(
         ⌜ AfsGreyIn (now (file .entry)) decompositions (now (pyramid .entry)) (now (work .entry)) (now (answer .entry))
         number (now (pyramid .exit)) (now (work .exit)) (now (answer .exit)) ⌝ }
 {
-    if answer.len() < 4 {
+    if answer.len() < GREY_PLACES {
         memory::zero_i32(pyramid);
         memory::zero_u32(work);
         return too_short(answer);
@@ -137,7 +142,7 @@ pub extern "C" fn afs_grey_out(
         (now (out .entry)) (now (work .entry)) (now (answer .entry))
         number (now (out .exit)) (now (work .exit)) (now (answer .exit)) ⌝ }
 {
-    if answer.len() < 4 {
+    if answer.len() < GREY_PLACES {
         memory::zero_u8(out);
         memory::zero_u32(work);
         return too_short(answer);

@@ -6,12 +6,13 @@ use Prim.Native.Nat.{ℕ, zero, suc, _+_, _-_, _≤_, _<_}
 use native.Mathlib.Omega.{arith}
 use native.Mathlib.Decide.{decLe}
 use lib.Dec.{leb, eqb}
-use lib.ListN.{length, getD, set, List·getD-eq-default}
+use lib.ListN.{length, getD, set, replicate, List·getD-eq-default}
 use borrow.Author.Tests.{le-leb, lt-leb, eq-eqb, ne-eqb}
 use Rattle.rules.specs.declared.Size.{Size}
 use Rattle.rules.specs.declared.Plane.{Plane}
 use Rattle.rules.specs.declared.Header.{Header}
 use Rattle.rules.specs.Document.Pyramid.{legalSize, levels}
+use Rattle.rules.specs.Document.Numbers.{topLevel}
 use Rattle.rules.specs.Document.Passes.{PartName, from}
 use Rattle.rules.specs.Document.Layout.{reached}
 use Rattle.rules.specs.Document.Calls.{levelPlaces, planeIn, reachedPlane, reachedPlanes}
@@ -90,43 +91,43 @@ module _ (h : Header) (there : List PartName) where
       let e : 1 + (k - 1) ≡ k = omega arith in
       ap (λ (x : Plane). x .0) (from-at (reachedPlane h there) 1 levelPlaces (k - 1) (record { 0 = 0 }) (omega arith) ∙ ap (reachedPlane h there) e)
 
-  plane-reached : (k : ℕ) → reachedPlane h there k .0 ≡ reached (levels (h .size)) (h .planes) there k
+  plane-reached : (k : ℕ) → reachedPlane h there k .0 ≡ reached (topLevel h) (h .planes) there k
   unfolding reachedPlane
-  plane-reached k = cases (decLe k (levels (h .size)))
+  plane-reached k = cases (decLe k (topLevel h))
     where
-      cases : Dec (k ≤ levels (h .size)) → cond (leb k (levels (h .size))) (reached (levels (h .size)) (h .planes) there k) 0
-          ≡ reached (levels (h .size)) (h .planes) there k
-      cases (yes l) = rw (le-leb k (levels (h .size)) l)
-      cases (no l) = rw (lt-leb k (levels (h .size)) (omega arith), reached-beyond (levels (h .size)) (h .planes) there k (omega arith))
+      cases : Dec (k ≤ topLevel h) → cond (leb k (topLevel h)) (reached (topLevel h) (h .planes) there k) 0
+          ≡ reached (topLevel h) (h .planes) there k
+      cases (yes l) = rw (le-leb k (topLevel h) l)
+      cases (no l) = rw (lt-leb k (topLevel h) (omega arith), reached-beyond (topLevel h) (h .planes) there k (omega arith))
 
   -- What stands at a level is what it reached.
   pub reachedAt-planes : legalSize (h .size) ≡ true → (k : ℕ) → 1 ≤ k
-      → reachedAt (reachedPlanes h there) k ≡ reached (levels (h .size)) (h .planes) there k
+      → reachedAt (reachedPlanes h there) k ≡ reached (topLevel h) (h .planes) there k
   reachedAt-planes lawful k f = cases (decLe k levelPlaces)
     where
-      cases : Dec (k ≤ levelPlaces) → reachedAt (reachedPlanes h there) k ≡ reached (levels (h .size)) (h .planes) there k
+      cases : Dec (k ≤ levelPlaces) → reachedAt (reachedPlanes h there) k ≡ reached (topLevel h) (h .planes) there k
       cases (yes l) = plane-at k f l ∙ plane-reached k
       cases (no l) =
           sym (reachedAt-beyond (reachedPlanes h there) k six-planes (omega arith))
-          ∙ sym (reached-beyond (levels (h .size)) (h .planes) there k (omega (arith, size-levels (h .size) lawful)))
+          ∙ sym (reached-beyond (topLevel h) (h .planes) there k (omega (arith, size-levels (h .size) lawful)))
 
 -- One part more: a usable one changes what its level reached, one that is not changes nothing.
 module _ (h : Header) (there more : List PartName) (R : ℕ → ℕ) (p : PartName) (x : Plane) (e : x .0 ≡ p .plane)
-    (f : 1 ≤ p .level) (l : p .level ≤ levels (h .size))
-    (was : (k : ℕ) → reached (levels (h .size)) (h .planes) there k ≡ R k)
-    (is : (k : ℕ) → 1 ≤ k → reached (levels (h .size)) (h .planes) more k ≡ reachedNow R p k) where
+    (f : 1 ≤ p .level) (l : p .level ≤ topLevel h)
+    (was : (k : ℕ) → reached (topLevel h) (h .planes) there k ≡ R k)
+    (is : (k : ℕ) → 1 ≤ k → reached (topLevel h) (h .planes) more k ≡ reachedNow R p k) where
   pub reachedPlanes-used : usableNow R p ≡ true → set (reachedPlanes h there) (p .level - 1) x ≡ reachedPlanes h more
   unfolding reachedPlanes reachedPlane reachedNow
   reachedPlanes-used u = from-set (reachedPlane h there) (reachedPlane h more) 1 levelPlaces (p .level - 1) x own other
     where
-      own : x ≡ record { 0 = cond (leb (1 + (p .level - 1)) (levels (h .size))) (reached (levels (h .size)) (h .planes) more (1 + (p .level - 1))) 0 }
+      own : x ≡ record { 0 = cond (leb (1 + (p .level - 1)) (topLevel h)) (reached (topLevel h) (h .planes) more (1 + (p .level - 1))) 0 }
       own =
           let n : 1 + (p .level - 1) ≡ p .level = omega arith in
-          rw (n, le-leb (p .level) (levels (h .size)) l, is (p .level) f, eq-eqb (p .level) (p .level) refl, u) (λ i. record { 0 = e i })
+          rw (n, le-leb (p .level) (topLevel h) l, is (p .level) f, eq-eqb (p .level) (p .level) refl, u) (λ i. record { 0 = e i })
 
       other : (j : ℕ) → 1 ≤ j → (j ≡ 1 + (p .level - 1) → ⊥)
-          → _≡_ {A = Plane} (record { 0 = cond (leb j (levels (h .size))) (reached (levels (h .size)) (h .planes) there j) 0 })
-          (record { 0 = cond (leb j (levels (h .size))) (reached (levels (h .size)) (h .planes) more j) 0 })
+          → _≡_ {A = Plane} (record { 0 = cond (leb j (topLevel h)) (reached (topLevel h) (h .planes) there j) 0 })
+          (record { 0 = cond (leb j (topLevel h)) (reached (topLevel h) (h .planes) more j) 0 })
       other j a d = rw (is j a, ne-eqb j (p .level) (λ b. d (omega arith)), was j)
 
   pub reachedPlanes-over : usableNow R p ≡ false → reachedPlanes h there ≡ reachedPlanes h more
@@ -135,17 +136,54 @@ module _ (h : Header) (there more : List PartName) (R : ℕ → ℕ) (p : PartNa
       from-same (reachedPlane h there) (reachedPlane h more) 1 levelPlaces (λ j a.
       rw (is j a, u, neither (eqb j (p .level)), was j))
 
--- Without any part.
-module _ (h : Header) (k : ℕ) where
-  pub unreached-level : 1 ≤ k → k ≤ h .size .n + 1 → record { 0 = h .planes } ≡ reachedPlane h [] k
-  unfolding reachedPlane
-  unreached-level f l = rw (le-leb k (levels (h .size)) (omega arith), reached-none (levels (h .size)) (h .planes) k f (omega arith))
+-- Without any part: the first levels, as many as are done, have all planes before them, the others nothing.
+unfoldable pub notReached : ℕ → ℕ → ℕ → Plane
+notReached planes done k = record { 0 = cond (leb k done) planes 0 }
 
-  pub unreached-beyond : h .size .n + 1 < k → record { 0 = 0 } ≡ reachedPlane h [] k
-  unfolding reachedPlane
-  unreached-beyond l = rw (lt-leb k (levels (h .size)) (omega arith))
+-- The loop that sets them, after some of the levels.
+pub record Begun (h : Header) (levels done : ℕ) (found : List Plane) : Type 0 where
+  pub every : levels ≡ topLevel h
+  pub few : levels ≤ levelPlaces
+  pub within : done ≤ levels
+  pub holds : found ≡ map (notReached (h .planes) done) (from 1 levelPlaces)
 
-pub six-unreached : (h : Header) (a b c d e f : Plane) → a ≡ reachedPlane h [] 1 → b ≡ reachedPlane h [] 2 → c ≡ reachedPlane h [] 3
-    → d ≡ reachedPlane h [] 4 → e ≡ reachedPlane h [] 5 → f ≡ reachedPlane h [] 6 → a ∷ b ∷ c ∷ d ∷ e ∷ f ∷ [] ≡ reachedPlanes h []
-unfolding reachedPlanes from
-six-unreached h a b c d e f i j k l m n = cc
+module _ (h : Header) {levels : ℕ} where
+  pub begun-none : legalSize (h .size) ≡ true → levels ≡ h .size .n + 1 → Begun h levels 0 (replicate levelPlaces (record { 0 = 0 }))
+  unfolding notReached from
+  begun-none l e =
+      record { every = omega arith; few = omega (arith, size-levels (h .size) l); within = omega arith; holds = refl }
+
+  module _ {done : ℕ} {found : List Plane} (b : Begun h levels done found) where
+    pub begun-more : done < levels → Begun h levels (done + 1) (set found done (record { 0 = h .planes }))
+    unfolding notReached
+    begun-more l =
+        record {
+          every = b .every;
+          few = b .few;
+          within = omega arith;
+          holds =
+              ap (λ (x : List Plane). set x done (record { 0 = h .planes })) (b .holds)
+              ∙ from-set (notReached (h .planes) done) (notReached (h .planes) (done + 1)) 1 levelPlaces done (record { 0 = h .planes })
+              (rw (le-leb (1 + done) (done + 1) (omega arith)))
+              (λ j f d. other j (decLe j done) d);
+        }
+      where
+        other : (j : ℕ) → Dec (j ≤ done) → (j ≡ 1 + done → ⊥)
+            → _≡_ {A = Plane} (record { 0 = cond (leb j done) (h .planes) 0 }) (record { 0 = cond (leb j (done + 1)) (h .planes) 0 })
+        other j (yes m) d = rw (le-leb j done m, le-leb j (done + 1) (omega arith))
+        other j (no m) d = rw (lt-leb j done (omega arith), lt-leb j (done + 1) (omega arith))
+
+    pub begun-all : levels ≤ done → found ≡ reachedPlanes h []
+    unfolding notReached reachedPlanes reachedPlane
+    begun-all l =
+        b .holds ∙ ap (λ (n : ℕ). map (notReached (h .planes) n) (from 1 levelPlaces)) every-level
+        ∙ from-same (notReached (h .planes) (topLevel h)) (reachedPlane h []) 1 levelPlaces (λ k f. level k f (decLe k (topLevel h)))
+      where
+        every-level : done ≡ topLevel h
+        every-level = omega (arith, b .every, b .within)
+
+        level : (k : ℕ) → 1 ≤ k → Dec (k ≤ topLevel h)
+            → _≡_ {A = Plane} (record { 0 = cond (leb k (topLevel h)) (h .planes) 0 })
+            (record { 0 = cond (leb k (topLevel h)) (reached (topLevel h) (h .planes) [] k) 0 })
+        level k f (yes m) = rw (le-leb k (topLevel h) m, reached-none (topLevel h) (h .planes) k f m)
+        level k f (no m) = rw (lt-leb k (topLevel h) (omega arith))

@@ -1,22 +1,21 @@
-// The plane that each of six levels reached, level 1 first, and what it says of the next part: whether it is usable.
+// The plane that each level reached, level 1 first, and what it says of the next part: whether it is usable.
 ghost use mathlib.Core.Path.{_≡_};
 ghost use mathlib.Core.Bool.{true};
 ghost use mathlib.Core.List.{[]};
 ghost use Prim.Native.Nat.{_-_, _≤_, _<_};
 ghost use lib.ListN.{length, set};
 ghost use Rattle.rules.specs.Document.Pyramid.{legalSize, mostPlanes};
-ghost use Rattle.rules.specs.Document.Calls.{levelPlaces, reachedPlane, reachedPlanes};
+ghost use Rattle.rules.specs.Document.Calls.{levelPlaces, reachedPlanes};
 ghost use Rattle.rules.specs.Laws.OneWalk.{usableNow};
 ghost use Rattle.record.specs.Named.{nameBy};
 ghost use Rattle.reached.specs.Planes.{reachedAt};
 use rules::Header;
+use rules::LEVEL_PLACES;
 use rules::Level;
 use rules::Plane;
 
-const LEVEL_PLACES: usize = 6;
-
-// The plane that a level reached. Above the sixth level there is nothing to reach.
-fn reached_plane(reached: [Plane; 6], level: Level) -> Plane
+// The plane that a level reached. Behind the last place there is nothing to reach.
+fn reached_plane(reached: [Plane; LEVEL_PLACES], level: Level) -> Plane
     requires { ⌜ (1 ≤ level .0) × (length reached ≡ levelPlaces) ⌝ }
     ensures { λ r. ⌜ r .0 ≡ reachedAt reached (level .0) ⌝ }
 {
@@ -29,7 +28,7 @@ fn reached_plane(reached: [Plane; 6], level: Level) -> Plane
 }
 
 // Whether a part is usable, by what was reached before it: its level the plane above, the next coarser level its plane.
-pub fn is_usable(reached: [Plane; 6], plane: Plane, level: Level) -> bool
+pub fn is_usable(reached: [Plane; LEVEL_PLACES], plane: Plane, level: Level) -> bool
     requires { ⌜ (plane .0 < mostPlanes) × (1 ≤ level .0) × (level .0 ≤ levelPlaces) × (length reached ≡ levelPlaces) ⌝ }
     ensures { λ r. ⌜ r ≡ usableNow (reachedAt reached) (nameBy plane level) ⌝ }
 {
@@ -42,7 +41,11 @@ pub fn is_usable(reached: [Plane; 6], plane: Plane, level: Level) -> bool
 }
 
 // A level has reached a plane.
-pub fn with_reached(reached: [Plane; 6], plane: Plane, level: Level) -> [Plane; 6]
+pub fn with_reached(
+    reached: [Plane; LEVEL_PLACES],
+    plane: Plane,
+    level: Level,
+) -> [Plane; LEVEL_PLACES]
     requires { ⌜ (1 ≤ level .0) × (level .0 ≤ levelPlaces) ⌝ }
     ensures { λ r. ⌜ r ≡ set reached (level .0 - 1) plane ⌝ }
 {
@@ -52,30 +55,17 @@ pub fn with_reached(reached: [Plane; 6], plane: Plane, level: Level) -> [Plane; 
     next
 }
 
-// What a level reaches without any part: no plane, or nothing where there is no such level.
-fn unreached(h: Header, level: Level) -> Plane
-    requires { ⌜ (legalSize (h .size) ≡ true) × (1 ≤ level .0) ⌝ }
-    ensures { λ r. ⌜ r ≡ reachedPlane h [] (level .0) ⌝ }
-{
-    let size = h.size;
-    if level.0 <= size.n + 1 {
-        Plane(h.planes)
-    } else {
-        Plane(0)
-    }
-}
-
-// What the six levels reach without any part.
-pub fn none_reached(h: Header) -> [Plane; 6]
+// What the levels reach without any part: no plane, and nothing where there is no such level.
+pub fn none_reached(h: Header) -> [Plane; LEVEL_PLACES]
     requires { ⌜ legalSize (h .size) ≡ true ⌝ }
     ensures { λ r. ⌜ r ≡ reachedPlanes h [] ⌝ }
 {
-    [
-        unreached(h, Level(1)),
-        unreached(h, Level(2)),
-        unreached(h, Level(3)),
-        unreached(h, Level(4)),
-        unreached(h, Level(5)),
-        unreached(h, Level(6)),
-    ]
+    let levels = h.size.n + 1;
+    let mut reached = [Plane(0); LEVEL_PLACES];
+    let mut done = 0;
+    while done < levels {
+        reached[done] = Plane(h.planes);
+        done += 1;
+    }
+    reached
 }

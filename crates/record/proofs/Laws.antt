@@ -22,10 +22,10 @@ use Rattle.rules.specs.declared.PartRead.{PartRead}
 use Rattle.rules.specs.declared.PartRead.the-variants as part
 use Rattle.rules.specs.declared.HeaderRead.{HeaderRead}
 use Rattle.rules.specs.declared.HeaderRead.the-variants as header
-use Rattle.rules.specs.Document.Pyramid.{legalSize, mostPlanes, levels}
+use Rattle.rules.specs.Document.Pyramid.{legalSize, mostPlanes}
 use Rattle.rules.specs.Document.Passes.{PartName}
 use Rattle.rules.specs.Document.Layout.{readNumber, version, bytesFor, padClear, bodyOf, nameOf}
-use Rattle.rules.specs.Document.Numbers.{headNumber, judgedHeader, mostBits, partNumber, follows, legalHead, judgedPart}
+use Rattle.rules.specs.Document.Numbers.{headNumber, judgedHeader, mostBits, partNumber, follows, legalHead, judgedPart, topLevel}
 use Rattle.record.specs.Named.{unreadHeader, unread, wholePart}
 use Rattle.rules.specs.Laws.Sizes.{Legal, legal}
 use Rattle.rules.specs.Laws.Tests.{both-right}
@@ -107,13 +107,13 @@ module _ (h : Header) (before p : PartName) (bits : ℕ) where
 
   pub head-high : h .size .n + 1 < p .level → false ≡ legalHead h before p bits
   unfolding legalHead
-  head-high l = rw (lt-leb (p .level) (levels (h .size)) (omega arith), and-false (ltb (p .plane) (h .planes) && leb 1 (p .level)))
+  head-high l = rw (lt-leb (p .level) (topLevel h) (omega arith), and-false (ltb (p .plane) (h .planes) && leb 1 (p .level)))
 
   pub head-bits : 4 * h .size .w * h .size .h < bits → false ≡ legalHead h before p bits
   unfolding legalHead
   head-bits l =
       rw (lt-leb bits (mostBits (h .size)) (omega (arith, mul-assoc 4 (h .size .w) (h .size .h))))
-      (sym (and-false (ltb (p .plane) (h .planes) && leb 1 (p .level) && leb (p .level) (levels (h .size)) && follows before p)))
+      (sym (and-false (ltb (p .plane) (h .planes) && leb 1 (p .level) && leb (p .level) (topLevel h) && follows before p)))
 
   pub head-order : (b : Bool) → b ≡ follows before p → p .plane < h .planes → 1 ≤ p .level → p .level ≤ h .size .n + 1 → bits ≤ 4 * h .size .w * h .size .h
       → b ≡ legalHead h before p bits
@@ -122,7 +122,7 @@ module _ (h : Header) (before p : PartName) (bits : ℕ) where
       rw (
         lt-ltb (p .plane) (h .planes) n,
         le-leb 1 (p .level) k,
-        le-leb (p .level) (levels (h .size)) (omega arith),
+        le-leb (p .level) (topLevel h) (omega arith),
         le-leb bits (mostBits (h .size)) (omega (arith, mul-assoc 4 (h .size .w) (h .size .h))),
       ) (e ∙ sym (and-true (follows before p)))
 
@@ -181,7 +181,7 @@ module _ (h : Header) (s : List ℕ) (before : PartName) (p : Part) (b : Bool) (
 pub head-few : (h : Header) (before p : PartName) (bits : ℕ) (b : Bool) → legalSize (h .size) ≡ true → b ≡ legalHead h before p bits → b ≡ true → bits ≤ 2 ^ 20
 unfolding legalHead
 head-few h before p bits b l e t =
-    let m : bits ≤ mostBits (h .size) = leb-true bits (mostBits (h .size)) (both-right (ltb (p .plane) (h .planes) && leb 1 (p .level) && leb (p .level) (levels (h .size)) && follows before p) _ (sym e ∙ t)) in
+    let m : bits ≤ mostBits (h .size) = leb-true bits (mostBits (h .size)) (both-right (ltb (p .plane) (h .planes) && leb 1 (p .level) && leb (p .level) (topLevel h) && follows before p) _ (sym e ∙ t)) in
     let n : h .size .w * h .size .h ≤ 512 * 512 = mul-le-mul {n₁ = h .size .w} {m₁ = h .size .h} {n₂ = 512} {m₂ = 512} (legal (h .size) l .width .most) (legal (h .size) l .height .most) in
     omega arith
 

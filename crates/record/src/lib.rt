@@ -10,22 +10,20 @@ ghost use Rattle.record.specs.Named.{named, nameBy, unreadHeader, unread
 use rules::Header;
 use rules::HeaderRead;
 use rules::Level;
+use rules::MOST_PLANES;
 use rules::Number;
 use rules::Part;
 use rules::PartRead;
 use rules::Plane;
 use rules::Refusal;
 use rules::Size;
+use rules::VERSION;
 
 // A part's plane and level.
 pub struct Name {
     pub plane: Plane,
     pub level: Level,
 }
-
-const VERSION: usize = 1;
-
-const MOST_PLANES: usize = 17;
 
 fn judged_header(z: Size, planes: usize, end: usize) -> HeaderRead
     ensures { λ r. ⌜ r ≡ judgedHeader z planes end ⌝ }

@@ -1,5 +1,21 @@
 // Document 01's types, shared by every crate above. The rules themselves stand in specs/Document.
 
+pub const VERSION: usize = 1;
+
+pub const GREATEST_SIDE: usize = 512;
+
+pub const MOST_PLANES: usize = 17;
+
+// Places for one number a level: as many as a record can have levels.
+pub const LEVEL_PLACES: usize = 6;
+
+// The lengths of the answers of coding, serving and decoding.
+pub const CODE_PLACES: usize = 3;
+
+pub const SERVE_PLACES: usize = 4;
+
+pub const DECODE_PLACES: usize = 3 + LEVEL_PLACES;
+
 // Planes and levels are counted apart: a place for one never accepts the other.
 pub struct Plane(pub usize);
 
@@ -49,7 +65,7 @@ pub struct Served {
 pub struct Decoded {
     pub verdict: Verdict,
     pub tail: usize,
-    pub reached: [Plane; 6],
+    pub reached: [Plane; LEVEL_PLACES],
 }
 
 // A number read: its value and the place after it, or why it is none.

@@ -21,10 +21,10 @@ use Rattle.rules.specs.declared.PartRead.the-variants as part
 use Rattle.rules.specs.declared.Plane.{Plane}
 use Rattle.rules.specs.declared.Level.{Level}
 use Rattle.rules.specs.Document.Notation.{flat, zeros}
-use Rattle.rules.specs.Document.Pyramid.{legalSize, levels}
+use Rattle.rules.specs.Document.Pyramid.{legalSize}
 use Rattle.rules.specs.Document.Passes.{PartName}
 use Rattle.rules.specs.Document.Layout.{wholeOf, nameOf}
-use Rattle.rules.specs.Document.Numbers.{Ending, tail, fault, Reading, readHeader, readPart, readParts}
+use Rattle.rules.specs.Document.Numbers.{Ending, tail, fault, Reading, readHeader, readPart, readParts, topLevel}
 use Rattle.rules.specs.Document.Calls.{refused, accepted, unless, onHeader, onEnding, legalAsk, keptOf, servedBytes, Portion, portioned, serving, filled, serveOut, serveAnswer, Serving}
 use Rattle.rules.specs.Laws.Reading.{HeaderStands, readHeader-stands, header-legal, header-within, PartStands, readPart-stands, part-further}
 use Rattle.rules.specs.Laws.Walk.{partsFrom, readParts-from, partsFrom-part, partsFrom-tail, partsFrom-fault}
@@ -42,11 +42,11 @@ module _ (h : Header) (level : Level) (plane : Plane) where
 
   pub ask-high : 1 ≤ level .0 → h .size .n < level .0 - 1 → false ≡ legalAsk h (level .0) (plane .0)
   unfolding legalAsk
-  ask-high k l = rw (le-leb 1 (level .0) k, lt-leb (level .0) (levels (h .size)) (omega arith))
+  ask-high k l = rw (le-leb 1 (level .0) k, lt-leb (level .0) (topLevel h) (omega arith))
 
   pub ask-plane : 1 ≤ level .0 → level .0 - 1 ≤ h .size .n → leb (plane .0) (h .planes) ≡ legalAsk h (level .0) (plane .0)
   unfolding legalAsk
-  ask-plane k l = rw (le-leb 1 (level .0) k, le-leb (level .0) (levels (h .size)) (omega arith))
+  ask-plane k l = rw (le-leb 1 (level .0) k, le-leb (level .0) (topLevel h) (omega arith))
 
 -- One part.
 module _ (s : List ℕ) (p : Part) (level : Level) (plane : Plane) (out : List ℕ) (written : ℕ) where

@@ -1,4 +1,5 @@
 // Leaves over document 01's pyramid, where its coefficients stand: legal sizes, levels and their stretches, offspring.
+use rules::GREATEST_SIDE;
 use rules::Level;
 use rules::Size;
 ghost use mathlib.Core.Path.{_≡_};
@@ -11,8 +12,6 @@ ghost use Rattle.shape.specs.Offspring.{offspringList, folded};
 ghost use Rattle.shape.specs.Nodes.{Node};
 
 const LEAST_SIDE: usize = 4;
-
-const GREATEST_SIDE: usize = 512;
 
 const MOST_DECOMPOSITIONS: usize = 5;
 

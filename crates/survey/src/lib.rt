@@ -17,6 +17,9 @@ use rules::Verdict;
 // The longest input that partlist takes.
 pub const LONGEST: usize = 16384;
 
+// The length of what afs_survey answers.
+pub const SURVEY_PLACES: usize = 8;
+
 pub struct Survey {
     pub verdict: Verdict,
     pub header: Header,

@@ -20,10 +20,10 @@ use Rattle.rules.specs.declared.HeaderRead.{HeaderRead}
 use Rattle.rules.specs.declared.HeaderRead.the-variants as header
 use Rattle.rules.specs.declared.Part.{Part}
 use Rattle.rules.specs.Document.Notation.{flat, lowest, zeros}
-use Rattle.rules.specs.Document.Pyramid.{legalSize, area, levels, family, mostMagnitude, magnitude}
+use Rattle.rules.specs.Document.Pyramid.{legalSize, area, family, mostMagnitude, magnitude}
 use Rattle.rules.specs.Document.Passes.{Course, Reader, State, PartName, start, after, from, decoded}
 use Rattle.rules.specs.Document.Layout.{recordOf, bitAt, bodyOf, wholeOf, nameOf, usable, reached}
-use Rattle.rules.specs.Document.Numbers.{refusalNumber, verdictNumber, verdictPlace, readHeader, Ending, tail, fault, Reading, readParts}
+use Rattle.rules.specs.Document.Numbers.{refusalNumber, verdictNumber, verdictPlace, readHeader, Ending, tail, fault, Reading, readParts, topLevel}
 
 -- A call is refused, or accepted with its result. `unless test r x` is x where the test holds, and refused with r where it does not.
 pub data Result (X : Type 0) : Type 0 where
@@ -66,7 +66,7 @@ onEnding (fault r) go = refused r
 -- "Serving takes a record, a level r (1 to N+1) and a plane p (0 to planes). It writes the header and the parts with level >= r and plane
 -- >= p, unaltered." "Serving: 11, the parts, at the very end 5."
 unfoldable pub legalAsk : Header → ℕ → ℕ → Bool
-legalAsk h r p = leb 1 r && leb r (levels (h .size)) && leb p (h .planes)
+legalAsk h r p = leb 1 r && leb r (topLevel h) && leb p (h .planes)
 
 unfoldable pub keptOf : List ℕ → ℕ → ℕ → Part → List ℕ
 keptOf s r p x = cond (leb r (x .level .0) && leb p (x .plane .0)) (wholeOf s x) []
@@ -100,7 +100,7 @@ module _ (h : Header) (s : List ℕ) (there : List PartName) where
   unfoldable pub onward : Part → Progress → Progress
   onward p (unfit at) = unfit at
   onward p (going st v) =
-      cond (usable (levels (h .size)) (h .planes) there (nameOf p))
+      cond (usable (topLevel h) (h .planes) there (nameOf p))
       (used p st (decoded (family (h .size)) (nameOf p) (bitAt (bodyOf s p)) st v))
       (going st v)
 
@@ -118,7 +118,7 @@ abbrev pub levelPlaces : ℕ
 levelPlaces = 6
 
 unfoldable pub reachedPlane : Header → List PartName → ℕ → Plane
-reachedPlane h there k = record { 0 = cond (leb k (levels (h .size))) (reached (levels (h .size)) (h .planes) there k) 0 }
+reachedPlane h there k = record { 0 = cond (leb k (topLevel h)) (reached (topLevel h) (h .planes) there k) 0 }
 
 unfoldable pub reachedPlanes : Header → List PartName → List Plane
 reachedPlanes h there = map (reachedPlane h there) (from 1 levelPlaces)

@@ -86,6 +86,10 @@ readSizes s a =
 unfoldable pub readHeader : List ℕ → HeaderRead
 readHeader s = headNumber 0 (readNumber s 0) (λ v a. cond (eqb v version) (readSizes s a) (header.Refused refusal.Version))
 
+-- the greatest level that a part of this header may have
+abbrev pub topLevel : Header → ℕ
+topLevel h = levels (h .size)
+
 abbrev pub mostBits : Size → ℕ
 mostBits z = 4 * area z
 
@@ -104,7 +108,7 @@ follows before p = ltb (p .plane) (before .plane) || eqb (p .plane) (before .pla
 
 unfoldable pub legalHead : Header → PartName → PartName → ℕ → Bool
 legalHead h before p bits =
-    ltb (p .plane) (h .planes) && leb 1 (p .level) && leb (p .level) (levels (h .size)) && follows before p && leb bits (mostBits (h .size))
+    ltb (p .plane) (h .planes) && leb 1 (p .level) && leb (p .level) (topLevel h) && follows before p && leb bits (mostBits (h .size))
 
 -- "body incomplete (tail); 9"
 unfoldable pub judgedPart : Header → List ℕ → PartName → Part → PartRead

@@ -15,10 +15,10 @@ use Rattle.rules.specs.declared.Header.{Header}
 use Rattle.rules.specs.declared.HeaderRead.{HeaderRead}
 use Rattle.rules.specs.declared.HeaderRead.the-variants as header
 use Rattle.rules.specs.declared.Part.{Part}
-use Rattle.rules.specs.Document.Pyramid.{legalSize, area, levels, family, mostMagnitude}
+use Rattle.rules.specs.Document.Pyramid.{legalSize, area, family, mostMagnitude}
 use Rattle.rules.specs.Document.Passes.{Course, Reader, State, PartName, start, after, decoded}
 use Rattle.rules.specs.Document.Layout.{recordOf, bitAt, bodyOf, nameOf, usable}
-use Rattle.rules.specs.Document.Numbers.{readHeader, Ending, tail, fault, Reading, readParts}
+use Rattle.rules.specs.Document.Numbers.{readHeader, Ending, tail, fault, Reading, readParts, topLevel}
 use Rattle.rules.specs.Document.Calls.{Result, unless, workFor, firstOver, fitted, coding, onHeader, onEnding, legalAsk, servedBytes, Portion, portioned, serving}
 use Rattle.rules.specs.Document.Calls.{Progress, going, unfit, used, onward, decodeParts, Picture, pictured, decodedParts, decoding}
 use Rattle.rules.specs.Laws.Tests.{clash, both-left, both-right, not-test}
@@ -75,16 +75,16 @@ module _ (h : Header) (r p : ℕ) where
   ask-legal : legalAsk h r p ≡ true → LegalAsk h r p
   unfolding legalAsk
   ask-legal e =
-      let a : leb 1 r && leb r (levels (h .size)) ≡ true = both-left _ _ e in
+      let a : leb 1 r && leb r (topLevel h) ≡ true = both-left _ _ e in
       record {
         from1 = leb-true _ _ (both-left _ _ a);
         upTo = leb-true _ _ (both-right (leb 1 r) _ a);
-        plane = leb-true _ _ (both-right (leb 1 r && leb r (levels (h .size))) _ e);
+        plane = leb-true _ _ (both-right (leb 1 r && leb r (topLevel h)) _ e);
       }
 
   legal-ask : LegalAsk h r p → legalAsk h r p ≡ true
   unfolding legalAsk
-  legal-ask l = rw (le-leb 1 r (l .from1), le-leb r (levels (h .size)) (l .upTo), le-leb p (h .planes) (l .plane))
+  legal-ask l = rw (le-leb 1 r (l .from1), le-leb r (topLevel h) (l .upTo), le-leb p (h .planes) (l .plane))
 
 -- A header and parts whose case is known.
 module _ (s : List ℕ) where
@@ -127,7 +127,7 @@ module _ (s : List ℕ) (r p room : ℕ) where
 -- Decoding: the parts one after the other, up to the first that does not fit.
 module _ (h : Header) (s : List ℕ) (there : List PartName) where
   abbrev usable-part : Part → Bool
-  usable-part p = usable (levels (h .size)) (h .planes) there (nameOf p)
+  usable-part p = usable (topLevel h) (h .planes) there (nameOf p)
 
   abbrev course : Part → State → List ℤ → Course Reader
   course p st v = decoded (family (h .size)) (nameOf p) (bitAt (bodyOf s p)) st v

@@ -18,10 +18,10 @@ use Rattle.rules.specs.declared.HeaderRead.the-variants as header
 use Rattle.rules.specs.declared.Part.{Part}
 use Rattle.rules.specs.declared.PartRead.{PartRead}
 use Rattle.rules.specs.declared.PartRead.the-variants as part
-use Rattle.rules.specs.Document.Pyramid.{area, levels, family, mostMagnitude, magnitude, mostPlanes}
+use Rattle.rules.specs.Document.Pyramid.{area, family, mostMagnitude, magnitude, mostPlanes}
 use Rattle.rules.specs.Document.Passes.{State, PartName, start, decoded}
 use Rattle.rules.specs.Document.Layout.{readNumber, version, bytesFor, recordOf, bitAt, bodyOf, nameOf}
-use Rattle.rules.specs.Document.Numbers.{Ending, tail, fault}
+use Rattle.rules.specs.Document.Numbers.{Ending, tail, fault, topLevel}
 use Rattle.rules.specs.Document.Calls.{Result, refused, accepted, workFor, servedBytes, Portion, going, decodeParts, Picture, reachedPlanes}
 use Rattle.rules.specs.Laws.Sizes.{Legal}
 use Rattle.rules.specs.Laws.Parts.{LegalHead}
@@ -44,7 +44,7 @@ pub record FirstOver (most : ℕ) (pyramid : List ℤ) (at : ℕ) : Type 0 where
 -- 11 ASK: "r or p not legal".
 pub record LegalAsk (h : Header) (r p : ℕ) : Type 0 where
   pub from1 : 1 ≤ r
-  pub upTo : r ≤ levels (h .size)
+  pub upTo : r ≤ topLevel h
   pub plane : p ≤ h .planes
 
 -- "Numbers are groups of seven bits, lowest group first; a set top bit says that another byte follows. At most four bytes; shortest form
@@ -167,7 +167,7 @@ pub record FirstUnfit (h : Header) (s : List ℕ) (ps : List Part) (at : ℕ) : 
   pub pyramid : List ℤ
   pub split : ps ≡ seen ++ this ∷ later
   pub before : Fitting h s ps seen lists pyramid
-  pub usable : Usable (levels (h .size)) (h .planes) (map nameOf ps) (nameOf this)
+  pub usable : Usable (topLevel h) (h .planes) (map nameOf ps) (nameOf this)
   pub unfit : decoded (family (h .size)) (nameOf this) (bitAt (bodyOf s this)) lists pyramid .side .taken ≢ this .bits
   pub placed : this .place ≡ at
 

@@ -14,7 +14,7 @@ use Rattle.rules.specs.Document.Notation.{flat}
 use Rattle.rules.specs.Document.Pyramid.{Family, family, levels}
 use Rattle.rules.specs.Document.Passes.{Event, pass, Course, State, after, PartName, truth, coded, decoded}
 use Rattle.rules.specs.Document.Layout.{CodedPart, partBytes, codedParts, bitAt, bodyOf, nameOf, usable}
-use Rattle.rules.specs.Document.Numbers.{headed}
+use Rattle.rules.specs.Document.Numbers.{headed, topLevel}
 use Rattle.rules.specs.Document.Calls.{going, used, onward, decodeParts}
 use Rattle.rules.specs.Laws.Count.{All}
 use Rattle.rules.specs.Laws.Parts.{InOrder, After, follows-after}
@@ -46,7 +46,7 @@ module _ (h : Header) (bytes : List ℕ) (there : List PartName) (mag : ℕ → 
 
   -- One part.
   module _ (place : ℕ) (q : CodedPart) (s : State) (v : List ℤ) where
-    onward-unusable : usable (levels (h .size)) (h .planes) there (q .name) ≡ false → onward h bytes there (partAt place q) (going s v) ≡ going s v
+    onward-unusable : usable (topLevel h) (h .planes) there (q .name) ≡ false → onward h bytes there (partAt place q) (going s v) ≡ going s v
     unfolding onward nameOf partAt headed
     onward-unusable u = rw u
 
@@ -61,7 +61,7 @@ module _ (h : Header) (bytes : List ℕ) (there : List PartName) (mag : ℕ → 
           ap (λ b. bitAt b i) (part-body bytes place q rest stands) ∙ packed-bit (q .bits) i ∙ ap (λ b. getD b i false) same)
           ∙ ap (λ b. course (s (q .name .level)) events (record { taken = length b; pyramid = drawn (q .name .plane) events v })) (sym same)
 
-      onward-usable : usable (levels (h .size)) (h .planes) there (q .name) ≡ true
+      onward-usable : usable (topLevel h) (h .planes) there (q .name) ≡ true
           → onward h bytes there (partAt place q) (going s v)
           ≡ going (after (q .name .level) (followed F mag neg (q .name) s v) s) (followed F mag neg (q .name) s v .side)
       unfolding onward used nameOf partAt headed followed course after
@@ -74,7 +74,7 @@ module _ (h : Header) (bytes : List ℕ) (there : List PartName) (mag : ℕ → 
   -- All parts, R being the planes that the levels reached, and none of the usable parts struck out.
   module _ (R : ℕ → ℕ) (falls : (k : ℕ) → R (suc k) ≤ R k) (keep : PartName → Bool) where
     pub record Arrives (p : PartName) : Type 0 where
-      pub if-usable : usable (levels (h .size)) (h .planes) there p ≡ leb (R (p .level)) (p .plane)
+      pub if-usable : usable (topLevel h) (h .planes) there p ≡ leb (R (p .level)) (p .plane)
       pub then-kept : leb (R (p .level)) (p .plane) ≡ true → keep p ≡ true
 
     abbrev parts : List PartName → State → List CodedPart

@@ -53,3 +53,11 @@ clipped-fits (suc room) (b ∷ bytes) l =
 pub filled-sets : (room : ℕ) (numbers : List ℕ) → length numbers ≤ room → sets (zeros room) 0 numbers ≡ filled room numbers
 filled-sets room numbers l =
     ap (λ (x : List ℕ). sets x 0 numbers) (sym (clipped-nothing room)) ∙ clipped-append room [] numbers ∙ clipped-fits room numbers l
+
+-- More numbers behind those that stand in front.
+pub filled-append : (room : ℕ) (numbers more : List ℕ) → length numbers + length more ≤ room
+    → sets (filled room numbers) (length numbers) more ≡ filled room (numbers ++ more)
+filled-append room numbers more l =
+    ap (λ (x : List ℕ). sets x (length numbers) more) (sym (clipped-fits room numbers (omega arith)))
+    ∙ clipped-append room numbers more
+    ∙ clipped-fits room (numbers ++ more) (omega (arith, length-append numbers more))

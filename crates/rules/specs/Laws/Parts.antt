@@ -13,7 +13,7 @@ use Rattle.rules.specs.Document.Notation.{any, every}
 use Rattle.rules.specs.Document.Pyramid.{levels}
 use Rattle.rules.specs.Document.Passes.{PartName, partsOfPlane, partNames}
 use Rattle.rules.specs.Document.Layout.{sameName, needs}
-use Rattle.rules.specs.Document.Numbers.{mostBits, follows, legalHead}
+use Rattle.rules.specs.Document.Numbers.{mostBits, follows, legalHead, topLevel}
 use Rattle.rules.specs.Laws.Count.{All, all-then, all-append}
 use Rattle.rules.specs.Laws.Tests.{both, both-left, both-right, either, either-right, any-append, every-append}
 
@@ -43,7 +43,7 @@ InOrder before (p ∷ ps) = (follows before p ≡ true) × InOrder p ps
 
 -- what the head of a part must be
 pub record LegalHead (h : Header) (before p : PartName) (bits : ℕ) : Type 0 where
-  pub named : Named (levels (h .size)) (h .planes) p
+  pub named : Named (topLevel h) (h .planes) p
   pub in-order : follows before p ≡ true
   pub bits-most : bits ≤ mostBits (h .size)
 
@@ -212,7 +212,7 @@ unfolding legalHead
 legal-head h before p bits e =
     let n : Bool = ltb (p .plane) (h .planes) in
     let k : Bool = leb 1 (p .level) in
-    let m : Bool = leb (p .level) (levels (h .size)) in
+    let m : Bool = leb (p .level) (topLevel h) in
     let f : Bool = follows before p in
     let a : n && k && m && f ≡ true = both-left (n && k && m && f) _ e in
     let b : n && k && m ≡ true = both-left (n && k && m) _ a in
@@ -233,7 +233,7 @@ head-legal h before p bits l =
     rw (
       lt-ltb (p .plane) (h .planes) (l .named .under),
       le-leb 1 (p .level) (l .named .from1),
-      le-leb (p .level) (levels (h .size)) (l .named .upTo),
+      le-leb (p .level) (topLevel h) (l .named .upTo),
       l .in-order,
       le-leb bits (mostBits (h .size)) (l .bits-most),
     )

@@ -11,10 +11,10 @@ use Rattle.rules.specs.declared.Header.{Header}
 use Rattle.rules.specs.declared.Part.{Part}
 use Rattle.rules.specs.declared.PartRead.the-variants as part
 use Rattle.rules.specs.Document.Notation.{flat}
-use Rattle.rules.specs.Document.Pyramid.{Family, mostPlanes, legalSize, levels}
+use Rattle.rules.specs.Document.Pyramid.{Family, mostPlanes, legalSize}
 use Rattle.rules.specs.Document.Passes.{State, after, PartName, partNames, coded}
 use Rattle.rules.specs.Document.Layout.{headerBytes, CodedPart, partBytes, codedParts, nameOf}
-use Rattle.rules.specs.Document.Numbers.{mostBits, follows, legalHead, readPart, tail, Reading, goOn, readFrom, readParts}
+use Rattle.rules.specs.Document.Numbers.{mostBits, follows, legalHead, readPart, tail, Reading, goOn, readFrom, readParts, topLevel}
 use Rattle.rules.specs.Laws.Count.{All, flat-append}
 unfoldable pub use Rattle.rules.specs.Laws.Tests.{selection}
 use Rattle.rules.specs.Laws.Parts.{at, Named, InOrder, names-in-order, names-named, follows-follows, LegalHead, legal-head, head-legal, legal-behind}
@@ -168,7 +168,7 @@ parts-names place (p ∷ ps) = ap₂ (λ x xs. x ∷ xs) (part-name place p) (pa
 
 -- Parts in order that have legal names and bit counts may stand in a record, and so may any selection of them.
 pub legal-parts : (h : Header) (before : PartName) (ps : List CodedPart) → InOrder before (map (λ p. p .name) ps)
-    → All (Named (levels (h .size)) (h .planes)) (map (λ p. p .name) ps) → All (λ p. length (p .bits) ≤ mostBits (h .size)) ps
+    → All (Named (topLevel h) (h .planes)) (map (λ p. p .name) ps) → All (λ p. length (p .bits) ≤ mostBits (h .size)) ps
     → LegalParts h before ps
 unfolding LegalParts InOrder All
 legal-parts h before [] o n b = tt
@@ -202,12 +202,12 @@ coded-names F mag neg [] s = refl
 coded-names F mag neg (p ∷ ps) s = ap (λ xs. p ∷ xs) (coded-names F mag neg ps (after (p .level) (coded F mag neg p s) s))
 
 pub coded-legal : (h : Header) (F : Family) (mag : ℕ → ℕ) (neg : ℕ → Bool) (s : State)
-    → All (λ p. length (p .bits) ≤ mostBits (h .size)) (codedParts F mag neg (partNames (levels (h .size)) (h .planes)) s)
-    → LegalParts h (beforeAll (h .planes)) (codedParts F mag neg (partNames (levels (h .size)) (h .planes)) s)
+    → All (λ p. length (p .bits) ≤ mostBits (h .size)) (codedParts F mag neg (partNames (topLevel h) (h .planes)) s)
+    → LegalParts h (beforeAll (h .planes)) (codedParts F mag neg (partNames (topLevel h) (h .planes)) s)
 coded-legal h F mag neg s few =
-    let names : List PartName = partNames (levels (h .size)) (h .planes) in
+    let names : List PartName = partNames (topLevel h) (h .planes) in
     let same : map (λ p. p .name) (codedParts F mag neg names s) ≡ names = coded-names F mag neg names s in
     legal-parts h (beforeAll (h .planes)) (codedParts F mag neg names s)
-    (subst (InOrder (beforeAll (h .planes))) (sym same) (names-in-order (levels (h .size)) (h .planes) _ (omega arith)))
-    (subst (All (Named (levels (h .size)) (h .planes))) (sym same) (names-named (levels (h .size)) (h .planes)))
+    (subst (InOrder (beforeAll (h .planes))) (sym same) (names-in-order (topLevel h) (h .planes) _ (omega arith)))
+    (subst (All (Named (topLevel h) (h .planes))) (sym same) (names-named (topLevel h) (h .planes)))
     few

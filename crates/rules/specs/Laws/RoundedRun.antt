@@ -16,7 +16,7 @@ use Rattle.rules.specs.declared.Header.{Header}
 use Rattle.rules.specs.Document.Pyramid.{legalSize, area, levels, levelOf, family, below0, magnitude, negative, mostPlanes}
 use Rattle.rules.specs.Document.Passes.{State, start, from, PartName, partNames, signed}
 use Rattle.rules.specs.Document.Layout.{headerBytes, CodedPart, partsWith, nameOf, reached}
-use Rattle.rules.specs.Document.Numbers.{tail}
+use Rattle.rules.specs.Document.Numbers.{tail, topLevel}
 use Rattle.rules.specs.Document.Calls.{accepted, unless, workFor, onHeader, onEnding, Progress, going, unfit, decodeParts, levelPlaces, reachedPlane, reachedPlanes, planeIn}
 use Rattle.rules.specs.Document.Calls.{pictured, decodedParts, decoding}
 use Rattle.rules.specs.Laws.Count.{sum, one, one-most, is, _∈_, All, Every, all-then, all-every, from-length, from-all, from-once}
@@ -54,15 +54,15 @@ module _ (h : Header) (there : List PartName) where
   unfolding reachedPlanes
   reports-six = map-length (reachedPlane h there) 1 levelPlaces
 
-  reports-level : (k : ℕ) → 1 ≤ k → k ≤ levels (h .size) → levels (h .size) ≤ levelPlaces
-      → planeIn (reachedPlanes h there) (k - 1) ≡ reached (levels (h .size)) (h .planes) there k
+  reports-level : (k : ℕ) → 1 ≤ k → k ≤ topLevel h → topLevel h ≤ levelPlaces
+      → planeIn (reachedPlanes h there) (k - 1) ≡ reached (topLevel h) (h .planes) there k
   unfolding planeIn reachedPlanes reachedPlane
   reports-level k a b c =
       let e : 1 + (k - 1) ≡ k = omega arith in
       ap (λ (x : Plane). x .0) (map-from (reachedPlane h there) (record { 0 = 0 }) 1 levelPlaces (k - 1) (omega arith))
-      ∙ ap (λ (j : ℕ). reachedPlane h there j .0) e ∙ rw (le-leb k (levels (h .size)) b)
+      ∙ ap (λ (j : ℕ). reachedPlane h there j .0) e ∙ rw (le-leb k (topLevel h) b)
 
-  reports-beyond : (k : ℕ) → levels (h .size) < k → planeIn (reachedPlanes h there) (k - 1) ≡ 0
+  reports-beyond : (k : ℕ) → topLevel h < k → planeIn (reachedPlanes h there) (k - 1) ≡ 0
   unfolding planeIn reachedPlanes reachedPlane
   reports-beyond k a = by (decLt (k - 1) levelPlaces)
     where
@@ -70,7 +70,7 @@ module _ (h : Header) (there : List PartName) where
       by (yes l) =
           let e : 1 + (k - 1) ≡ k = omega arith in
           ap (λ (x : Plane). x .0) (map-from (reachedPlane h there) (record { 0 = 0 }) 1 levelPlaces (k - 1) l)
-          ∙ ap (λ (j : ℕ). reachedPlane h there j .0) e ∙ rw (lt-leb k (levels (h .size)) a)
+          ∙ ap (λ (j : ℕ). reachedPlane h there j .0) e ∙ rw (lt-leb k (topLevel h) a)
       by (no l) =
           ap (λ (x : Plane). x .0)
           (List·getD-eq-default (map (reachedPlane h there) (from 1 levelPlaces)) (record { 0 = 0 }) {n = k - 1}

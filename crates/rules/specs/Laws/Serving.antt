@@ -13,12 +13,11 @@ use Rattle.rules.specs.declared.Header.{Header}
 use Rattle.rules.specs.declared.HeaderRead.the-variants as header
 use Rattle.rules.specs.declared.Part.{Part}
 use Rattle.rules.specs.Document.Notation.{flat}
-use Rattle.rules.specs.Document.Pyramid.{levels}
 use Rattle.rules.specs.Document.Passes.{PartName}
 use Rattle.rules.specs.Document.Layout.{wholeOf, nameOf}
 use Rattle.rules.specs.declared.PartRead.{PartRead}
 use Rattle.rules.specs.declared.PartRead.the-variants as part
-use Rattle.rules.specs.Document.Numbers.{tail, Reading, readHeader, readPart, goOn, readFrom, readParts}
+use Rattle.rules.specs.Document.Numbers.{tail, Reading, readHeader, readPart, goOn, readFrom, readParts, topLevel}
 use Rattle.rules.specs.Document.Calls.{accepted, unless, onHeader, onEnding, legalAsk, keptOf, servedBytes, Portion, portioned, serving}
 use Rattle.rules.specs.Laws.Reading.{readHeader-stands, header-within, readPart-stands}
 use Rattle.rules.specs.Laws.Tests.{selection, selection-both, same-test, both, both-left, both-right}
@@ -161,7 +160,7 @@ selection-all h s before place (p ∷ ps) c =
 
 pub asks-all : (h : Header) → legalAsk h 1 0 ≡ true
 unfolding legalAsk
-asks-all h = both _ _ (both _ _ (le-leb 1 1 (omega arith)) (le-leb 1 (levels (h .size)) (omega arith))) (le-leb 0 (h .planes) (omega arith))
+asks-all h = both _ _ (both _ _ (le-leb 1 1 (omega arith)) (le-leb 1 (topLevel h) (omega arith))) (le-leb 0 (h .planes) (omega arith))
 
 serves-all : (s : List ℕ) (h : Header) (k : ℕ) → h .end ≤ length s → readParts h s .ending ≡ tail k
     → servedBytes h s 1 0 (readParts h s .parts) ≡ take (length s - k) s

@@ -16,7 +16,7 @@ use Rattle.rules.specs.Document.Pyramid.{family, area, levels, levelOf, 
 use Rattle.rules.specs.Document.Passes.{Entry, Side, Course, passed, State, after, from, bandLL, rootOf, start, PartName, partNames}
 use Rattle.rules.specs.Document.Passes.{Reader, decoded}
 use Rattle.rules.specs.Document.Layout.{planesIn, partsOf, bitAt, bodyOf, nameOf, usable}
-use Rattle.rules.specs.Document.Numbers.{mostBits}
+use Rattle.rules.specs.Document.Numbers.{mostBits, topLevel}
 use Rattle.rules.specs.Document.Calls.{Progress, going, unfit, used, onward}
 use Rattle.rules.specs.Laws.Count.{sum, one, is, All, all-then, every-all, from-length, from-once}
 use Rattle.rules.specs.Laws.Sizes.{Legal, levelSize, levelSize-fine}
@@ -104,11 +104,11 @@ module _ (z : Size) (Z : Legal z) where
 
 -- Decoding, too, goes from sound lists to sound lists.
 module _ (h : Header) (Z : Legal (h .size)) (bytes : List ℕ) (there : List PartName) where
-  pub onward-sound : (p : Part) → OfLevel (levels (h .size)) (nameOf p) → (g : Progress) → SoundProgress (h .size) g
+  pub onward-sound : (p : Part) → OfLevel (topLevel h) (nameOf p) → (g : Progress) → SoundProgress (h .size) g
       → SoundProgress (h .size) (onward h bytes there p g)
   unfolding onward SoundProgress
   onward-sound p o (unfit at) i = tt
-  onward-sound p o (going s v) i = by (usable (levels (h .size)) (h .planes) there (nameOf p))
+  onward-sound p o (going s v) i = by (usable (topLevel h) (h .planes) there (nameOf p))
     where
       c : Course Reader
       c = decoded (family (h .size)) (nameOf p) (bitAt (bodyOf bytes p)) s v

@@ -7,10 +7,9 @@ use Rattle.rules.specs.declared.Header.{Header}
 use Rattle.rules.specs.declared.Part.{Part}
 use Rattle.rules.specs.declared.PartRead.{PartRead}
 use Rattle.rules.specs.declared.PartRead.the-variants as part
-use Rattle.rules.specs.Document.Pyramid.{levels}
 use Rattle.rules.specs.Document.Passes.{PartName}
 use Rattle.rules.specs.Document.Layout.{nameOf, usable, reached}
-use Rattle.rules.specs.Document.Numbers.{readPart, goOn, readFrom, readParts}
+use Rattle.rules.specs.Document.Numbers.{readPart, goOn, readFrom, readParts, topLevel}
 use Rattle.rules.specs.Laws.Count.{All}
 use Rattle.rules.specs.Laws.Parts.{Named, InOrder, all-middle}
 use Rattle.rules.specs.Laws.OneWalk.{usableNow, reachedNow, one-walk, reached-walk}
@@ -46,7 +45,7 @@ whole-in-order h s before place [] w = tt
 whole-in-order h s before place (p ∷ ps) w = (readPart-stands h s before place p (w .0) .legal .in-order, whole-in-order h s (nameOf p) (p .end) ps (w .1))
 
 pub whole-named : (h : Header) (s : List ℕ) (before : PartName) (place : ℕ) (ps : List Part) → WholeParts h s before place ps
-    → All (Named (levels (h .size)) (h .planes)) (map nameOf ps)
+    → All (Named (topLevel h) (h .planes)) (map nameOf ps)
 unfolding WholeParts All
 whole-named h s before place [] w = tt
 whole-named h s before place (p ∷ ps) w = (readPart-stands h s before place p (w .0) .legal .named, whole-named h s (nameOf p) (p .end) ps (w .1))
@@ -55,7 +54,7 @@ whole-named h s before place (p ∷ ps) w = (readPart-stands h s before place p 
 module _ (h : Header) (s : List ℕ) (before : PartName) (place : ℕ) (seen : List Part) (p : Part) (later : List Part)
     (w : WholeParts h s before place (seen ++ p ∷ later)) where
   abbrev top : ℕ
-  top = levels (h .size)
+  top = topLevel h
 
   names-split : map nameOf (seen ++ p ∷ later) ≡ map nameOf seen ++ nameOf p ∷ map nameOf later
   names-split = map-append nameOf seen (p ∷ later)
@@ -68,14 +67,14 @@ module _ (h : Header) (s : List ℕ) (before : PartName) (place : ℕ) (seen : L
       all-middle (Named top (h .planes)) (map nameOf seen) (nameOf p) (map nameOf later)
       (subst (All (Named top (h .planes))) names-split (whole-named h s before place (seen ++ p ∷ later) w))
 
-  pub usable-read : usable (levels (h .size)) (h .planes) (map nameOf (seen ++ p ∷ later)) (nameOf p)
-      ≡ usableNow (λ k. reached (levels (h .size)) (h .planes) (map nameOf seen) k) (nameOf p)
+  pub usable-read : usable (topLevel h) (h .planes) (map nameOf (seen ++ p ∷ later)) (nameOf p)
+      ≡ usableNow (λ k. reached (topLevel h) (h .planes) (map nameOf seen) k) (nameOf p)
   usable-read =
       ap (λ there. usable top (h .planes) there (nameOf p)) names-split
       ∙ one-walk top (h .planes) before (map nameOf seen) (nameOf p) (map nameOf later) names-ordered name-legal
 
-  pub reached-read : (k : ℕ) → 1 ≤ k → reached (levels (h .size)) (h .planes) (map nameOf (seen ++ (p ∷ []))) k
-      ≡ reachedNow (λ k. reached (levels (h .size)) (h .planes) (map nameOf seen) k) (nameOf p) k
+  pub reached-read : (k : ℕ) → 1 ≤ k → reached (topLevel h) (h .planes) (map nameOf (seen ++ (p ∷ []))) k
+      ≡ reachedNow (λ k. reached (topLevel h) (h .planes) (map nameOf seen) k) (nameOf p) k
   reached-read k f =
       ap (λ there. reached top (h .planes) there k) (map-append nameOf seen (p ∷ []))
       ∙ reached-walk top (h .planes) before (map nameOf seen) (nameOf p) (map nameOf later) names-ordered name-legal k f
