@@ -1,11 +1,11 @@
 // The largest magnitude in D and in L of a coefficient: "found from the offspring and the same node's L", "from the D of each offspring".
-use rules::Level;
 use rules::Size;
+use shape::Depth;
 use shape::Offspring;
 ghost use mathlib.Core.Path.{_≡_};
 ghost use Prim.Native.Nat.{_+_, _-_, _*_, _<_, max};
 ghost use Rattle.rules.specs.Document.Notation.{greatest};
-ghost use Rattle.rules.specs.Document.Pyramid.{greatestSide, magnitude, maxD, maxL};
+ghost use Rattle.rules.specs.Document.Pyramid.{mostArea, magnitude, maxD, maxL};
 ghost use Rattle.shape.specs.Offspring.{offspringList};
 ghost use Rattle.shape.specs.Nodes.{Node};
 
@@ -17,7 +17,7 @@ fn largest_of(a: u32, b: u32, c: u32, d: u32) -> u32
 
 // The largest magnitude in the block of offspring that begins at an index.
 fn max_block(pyramid: &[i32], z: Size, first: usize) -> u32
-    requires { ⌜ first + z .w + 1 < greatestSide * greatestSide ⌝ }
+    requires { ⌜ first + z .w + 1 < mostArea ⌝ }
     ensures { λ r. ⌜ r ≡ greatest (magnitude (now (pyramid .entry))) (offspringList z (Offspring.Block first)) ⌝ }
 {
     let below = first + z.w;
@@ -30,7 +30,7 @@ fn max_block(pyramid: &[i32], z: Size, first: usize) -> u32
 }
 
 // The largest magnitude in D of q, whose level is k. Below level 3 L is empty.
-pub fn max_d(pyramid: &[i32], z: Size, q: usize, k: Level) -> u32
+pub fn max_d(pyramid: &[i32], z: Size, q: usize, k: Depth) -> u32
     requires { ⌜ Node z q (k .0) ⌝ }
     ensures { λ r. ⌜ r ≡ maxD z (magnitude (now (pyramid .entry))) (k .0) q ⌝ }
 {
@@ -47,14 +47,14 @@ pub fn max_d(pyramid: &[i32], z: Size, q: usize, k: Level) -> u32
 }
 
 // The largest magnitude in L of q, whose level is k: its offspring are of level k - 1.
-pub fn max_l(pyramid: &[i32], z: Size, q: usize, k: Level) -> u32
+pub fn max_l(pyramid: &[i32], z: Size, q: usize, k: Depth) -> u32
     requires { ⌜ Node z q (k .0) ⌝ }
     ensures { λ r. ⌜ r ≡ maxL z (magnitude (now (pyramid .entry))) (k .0 - 1) q ⌝ }
 {
     match shape::offspring_in(z, q, k) {
         Offspring::Nothing => 0,
         Offspring::Block(first) => {
-            let down = Level(k.0 - 1);
+            let down = Depth(k.0 - 1);
             let below = first + z.w;
             largest_of(
                 max_d(pyramid, z, first, down),

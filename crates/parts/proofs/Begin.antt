@@ -16,7 +16,7 @@ use borrow.Author.Tests.{le-leb}
 use borrow.Rule.Slice.PartMut.{midOf, putMid, postOf, mid-len, same-len-mid}
 use Rattle.rules.specs.declared.Size.{Size}
 use Rattle.rules.specs.Document.Notation.{flat, ifAny}
-use Rattle.rules.specs.Document.Pyramid.{greatestSide, legalSize, area, levels, offspringOf}
+use Rattle.rules.specs.Document.Pyramid.{greatestSide, mostArea, legalSize, area, levels, offspringOf}
 use Rattle.rules.specs.Document.Passes.{typeA, Lists, from, rows, bandLL, rootOf, start}
 use Rattle.rules.specs.Document.Calls.{levelPlaces, workFor}
 use Rattle.rules.specs.Laws.Count.{All, every-all, ifAny-some, flat-append}
@@ -151,7 +151,7 @@ module _ (z : Size) where
           level = A .band .0 ∙ sym (add-one (z .n));
         }
 
-    pub one-under : p < 2 ^ 18
+    pub one-under : p < 2 ^ 31
     one-under = omega (arith, one-node .inside, area-bound z (A .legal))
 
     pub one-room : f .lip < n
@@ -228,10 +228,10 @@ left-band {z} {n} {s} {f} A =
 pub row-under : (z : Size) (i : ℕ) → legalSize z ≡ true → i < z .h / 2 ^ z .n → i < greatestSide
 row-under z i e h = omega (arith, shr-le (z .h) (z .n), legal z e .height .most)
 
-pub row-end : (z : Size) (i : ℕ) → legalSize z ≡ true → i < greatestSide → i * z .w + z .w / 2 ^ z .n < 2 ^ 20
+pub row-end : (z : Size) (i : ℕ) → legalSize z ≡ true → i < greatestSide → i * z .w + z .w / 2 ^ z .n < 2 ^ 32
 row-end z i e h =
     let Z : Legal z = legal z e in
-    let p : i * z .w ≤ greatestSide * greatestSide = mul-le-mul (le-of-lt h) (Z .width .most) in
+    let p : i * z .w ≤ mostArea = mul-le-mul (le-of-lt h) (Z .width .most) in
     omega (arith, shr-le (z .w) (z .n), Z .width .most)
 
 pub from-none : (p e : ℕ) → e ≤ p → from p (e - p) ≡ []
@@ -246,7 +246,7 @@ rows-none z i e h = let j : e - i ≡ 0 = omega arith in ap (rows z i) j
 pub top-size : (z : Size) {n : ℕ} → n ≡ levelSize z (z .n + 1) → n ≡ levelSize z (levels z)
 top-size z i = i ∙ ap (levelSize z) (add-one (z .n))
 
-pub top-under : (z : Size) {n : ℕ} → legalSize z ≡ true → n ≡ levelSize z (z .n + 1) → (n ≤ area z) × (n < 2 ^ 20)
+pub top-under : (z : Size) {n : ℕ} → legalSize z ≡ true → n ≡ levelSize z (z .n + 1) → (n ≤ area z) × (n < 2 ^ 32)
 top-under z {n} e i =
     let Z : Legal z = legal z e in
     let l : n ≤ area z = omega (arith, top-size z i, levelSize-top z Z, span-most z Z (z .n) (omega arith)) in

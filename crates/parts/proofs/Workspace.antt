@@ -87,13 +87,13 @@ module _ (z : Size) (legality : legalSize z ≡ true) (k : ℕ) (a : 1 ≤ k) (b
   Z : Legal z
   Z = legal z legality
 
-  pub from-fits : (r : ℕ) → r ≡ 4 * levelStart z k → (r + 4 * levelSize z k ≤ workFor z) × (r < 2 ^ 21)
+  pub from-fits : (r : ℕ) → r ≡ 4 * levelStart z k → (r + 4 * levelSize z k ≤ workFor z) × (r < 2 ^ 32)
   from-fits r e = (
     omega (arith, levelSize-end z Z k a b, level-ends z Z k a b),
     omega (arith, levelSize-end z Z k a b, level-ends z Z k a b, area-bound z legality),
   )
 
-  pub to-fits : (r : ℕ) → r ≡ 4 * levelEnd z k → (r ≡ 4 * levelStart z k + 4 * levelSize z k) × (r ≤ workFor z) × (r < 2 ^ 21)
+  pub to-fits : (r : ℕ) → r ≡ 4 * levelEnd z k → (r ≡ 4 * levelStart z k + 4 * levelSize z k) × (r ≤ workFor z) × (r < 2 ^ 32)
   to-fits r e = (
     omega (arith, levelSize-end z Z k a b),
     omega (arith, level-ends z Z k a b),

@@ -29,7 +29,7 @@ pub record Listing (z : Size) (ps : List ℕ) (n : ℕ) (s : List ℕ) (f : Fill
   pub legal : legalSize z ≡ true
   pub band : All (λ p. levelOf z p ≡ levels z) ps
   pub fits : Fits n s f
-  pub size : n < 2 ^ 20
+  pub size : n < 2 ^ 32
   pub coefficients : f .lip + length ps ≤ n
   pub sets : f .visited + f .left + length (flat (rootOf z) ps) ≤ setRoom n
 

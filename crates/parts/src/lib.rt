@@ -20,6 +20,7 @@ use rules::LEVEL_PLACES;
 use rules::Level;
 use rules::Plane;
 use rules::Size;
+use shape::Depth;
 use shape::Offspring;
 use testing::Run;
 use testing::Stand;
@@ -43,7 +44,7 @@ fn list_one(z: Size, s: &mut [u32], n: usize, f: Fill, p: usize) -> Fill
     ensures { λ r. ⌜ Listed z (p ∷ []) n (now (s .entry)) f (now (s .exit)) r ⌝ }
 {
     let r = lists::push_lip(s, n, f, p);
-    match shape::offspring_in(z, p, Level(z.n + 1)) {
+    match shape::offspring_in(z, p, Depth(z.n + 1)) {
         Offspring::Nothing => r,
         Offspring::Block(_) => lists::add_set(s, n, r, Set::TypeA(p)),
     }
@@ -154,14 +155,14 @@ fn with_sets(counts: Counts, k: Level, more: usize) -> Counts
 // Where a level's stretch begins and where it ends.
 fn stretch_from(z: Size, k: Level) -> usize
     requires { ⌜ (legalSize z ≡ true) × (1 ≤ k .0) × (k .0 ≤ levels z) ⌝ }
-    ensures { λ r. ⌜ (r ≡ 4 * levelStart z (k .0)) × (r + 4 * levelSize z (k .0) ≤ workFor z) × (r < 2 ^ 21) ⌝ }
+    ensures { λ r. ⌜ (r ≡ 4 * levelStart z (k .0)) × (r + 4 * levelSize z (k .0) ≤ workFor z) × (r < 2 ^ 32) ⌝ }
 {
     4 * shape::level_start(z, k)
 }
 
 fn stretch_to(z: Size, k: Level) -> usize
     requires { ⌜ (legalSize z ≡ true) × (1 ≤ k .0) × (k .0 ≤ levels z) ⌝ }
-    ensures { λ r. ⌜ (r ≡ 4 * levelStart z (k .0) + 4 * levelSize z (k .0)) × (r ≤ workFor z) × (r < 2 ^ 21) ⌝ }
+    ensures { λ r. ⌜ (r ≡ 4 * levelStart z (k .0) + 4 * levelSize z (k .0)) × (r ≤ workFor z) × (r < 2 ^ 32) ⌝ }
 {
     4 * shape::level_end(z, k)
 }

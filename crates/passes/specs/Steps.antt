@@ -25,7 +25,7 @@ pub record Proper (run : Run) : Type 0 where
   pub plane : run .plane .0 < mostPlanes
   pub coarser : 1 ≤ run .level .0
   pub level : run .level .0 ≤ levels (run .z)
-  pub size : run .n < 2 ^ 20
+  pub size : run .n < 2 ^ 32
   pub from : run .from .at + 4 * run .n < 2 ^ 62
 
 -- Sets were put at the end of LIS; all else is as it was.

@@ -5,7 +5,7 @@ ghost use mathlib.Core.List.{map};
 ghost use Prim.Native.Nat.{_+_, _*_, _^_, _≤_, _<_};
 ghost use lib.ListN.{length};
 ghost use Rattle.rules.specs.Document.Notation.{greatest};
-ghost use Rattle.rules.specs.Document.Pyramid.{greatestSide, offspringOf, magnitude};
+ghost use Rattle.rules.specs.Document.Pyramid.{mostArea, offspringOf, magnitude};
 ghost use Rattle.rules.specs.Document.Passes.{typeA, typeB, set?, members};
 ghost use Rattle.rules.specs.Laws.PassLevels.{Met};
 ghost use Rattle.shape.specs.Offspring.{offspringList};
@@ -17,8 +17,8 @@ use bits::BitPosition;
 use bits::BitRead;
 use lists::Fill;
 use lists::Set;
-use rules::Level;
 use rules::Size;
+use shape::Depth;
 use shape::Offspring;
 use testing::Candidates;
 use testing::Run;
@@ -26,7 +26,7 @@ use testing::Stand;
 
 // The four offspring of the block that begins at an index, as sets of type A at the end of LIS.
 fn add_block(run: Run, s: &mut [u32], f: Fill, first: usize) -> Fill
-    requires { ⌜ Fits (run .n) (now s) f × (run .n < 2 ^ 20) × (f .visited + f .left + 4 ≤ setRoom (run .n)) × (first + run .z .w + 1 < greatestSide * greatestSide) ⌝ }
+    requires { ⌜ Fits (run .n) (now s) f × (run .n < 2 ^ 32) × (f .visited + f .left + 4 ≤ setRoom (run .n)) × (first + run .z .w + 1 < mostArea) ⌝ }
     ensures { λ r. ⌜ Added (map typeA (offspringList (run .z) (Offspring.Block first))) (run .n) (now (s .entry)) f (now (s .exit)) r ⌝ }
 {
     let below = first + run.z.w;
@@ -37,9 +37,9 @@ fn add_block(run: Run, s: &mut [u32], f: Fill, first: usize) -> Fill
 }
 
 // Where the offspring of a coefficient that has some begin.
-fn first_of(z: Size, p: usize, k: Level) -> usize
+fn first_of(z: Size, p: usize, k: Depth) -> usize
     requires { ⌜ Node z p (k .0) × (1 ≤ length (offspringOf z p)) ⌝ }
-    ensures { λ r. ⌜ (offspringList z (Offspring.Block r) ≡ offspringOf z p) × (r + z .w + 1 < greatestSide * greatestSide) ⌝ }
+    ensures { λ r. ⌜ (offspringList z (Offspring.Block r) ≡ offspringOf z p) × (r + z .w + 1 < mostArea) ⌝ }
 {
     match shape::offspring_in(z, p, k) {
         Offspring::Nothing => 0,
@@ -62,7 +62,7 @@ fn open_a(
     ensures { λ r. ⌜ Opened (side run (now (pyramid .entry)) (now (body .entry))) (familyOf run) (typeA p) (run .n) (now (s .entry)) (now (out .entry)) (now (d .entry)) w
         (now (s .exit)) (now (out .exit)) (now (d .exit)) r ⌝ }
 {
-    let first = first_of(run.z, p, Level(run.level.0 + 1));
+    let first = first_of(run.z, p, Depth(run.level.0 + 1));
     let r = testing::test_each(run, pyramid, body, s, w, out, d, Candidates::Four(first), 4);
     if 1 < run.level.0 {
         let fill = lists::add_set(s, run.n, r.fill, Set::TypeB(p));
@@ -77,7 +77,7 @@ fn open_b(run: Run, s: &mut [u32], w: Stand, p: usize) -> Stand
     requires { ⌜ Opening run (typeB p) (now s) w ⌝ }
     ensures { λ r. ⌜ Added (map typeA (offspringOf (run .z) p)) (run .n) (now (s .entry)) (w .fill) (now (s .exit)) (r .fill) × (r .at ≡ w .at) ⌝ }
 {
-    let first = first_of(run.z, p, Level(run.level.0 + 2));
+    let first = first_of(run.z, p, Depth(run.level.0 + 2));
     let fill = add_block(run, s, w.fill, first);
     let at = w.at;
     Stand { fill, at }
@@ -110,8 +110,8 @@ fn largest_in(run: Run, pyramid: &[i32], e: Set) -> u32
     ensures { λ r. ⌜ r ≡ greatest (magnitude (now (pyramid .entry))) (members (familyOf run) (entryOf e)) ⌝ }
 {
     match e {
-        Set::TypeA(p) => largest::max_d(pyramid, run.z, p, Level(run.level.0 + 1)),
-        Set::TypeB(p) => largest::max_l(pyramid, run.z, p, Level(run.level.0 + 2)),
+        Set::TypeA(p) => largest::max_d(pyramid, run.z, p, Depth(run.level.0 + 1)),
+        Set::TypeB(p) => largest::max_l(pyramid, run.z, p, Depth(run.level.0 + 2)),
     }
 }
 

@@ -1,16 +1,15 @@
 -- What the code tests and computes of sizes, levels and offspring, against document 01's definitions.
-use mathlib.Core.Path.{_≡_, ap, sym, _∙_}
-use mathlib.Core.Bool.{Bool, true, false, cond}
-use Prim.Native.Nat.{ℕ, zero, suc, _+_, _-_, _*_, _/_, _%_, _^_, _≤_, _<_}
+use mathlib.Core.Path.{_≡_, sym, _∙_}
+use mathlib.Core.Bool.{Bool, true, false}
+use Prim.Native.Nat.{ℕ, _+_, _*_, _/_, _%_, _^_, _≤_, _<_}
 use native.Mathlib.Nat.{one-mul, mul-le-mul, mod-lt}
-use native.Mathlib.Numerals.{add-one}
 use native.Mathlib.Omega.{arith}
 use lib.Pow.{pow-pos, shl-exact, shr-le}
-use lib.Dec.{ltb, eqb}
-use borrow.Author.Tests.{lt-ltb, le-ltb, le-leb, lt-leb, ne-eqb}
+use lib.Dec.{eqb}
+use borrow.Author.Tests.{le-leb, lt-leb, ne-eqb}
 use Rattle.rules.specs.declared.Size.{Size}
-use Rattle.rules.specs.Document.Pyramid.{leastSide, greatestSide, mostDecompositions, legalSide, legalSize}
-use Rattle.rules.specs.Document.Pyramid.{levels, row, column, within, levelUpTo, levelOf, offspringOf}
+use Rattle.rules.specs.Document.Pyramid.{leastSide, greatestSide, mostArea, mostDecompositions, legalSide, legalSize}
+use Rattle.rules.specs.Document.Pyramid.{levels, row, column, within, offspringOf}
 use Rattle.rules.specs.Laws.Sizes.{span, levelStart, levelEnd, legal, area-bound, levelStart-top, levelSize-end, span-most}
 use Rattle.rules.specs.Laws.Offspring.Level.{within-true}
 use Rattle.shape.specs.declared.Offspring.the-variants.{Nothing, Block}
@@ -54,40 +53,8 @@ module _ (z : Size) where
     unfolding legalSize
     size-second t = rw (le-leb 1 (z .n) l, le-leb (z .n) mostDecompositions h, sym e ∙ t)
 
-module _ (z : Size) (k q : ℕ) where
-  pub within-row : row z q < z .h / 2 ^ k → ltb (column z q) (z .w / 2 ^ k) ≡ within z k q
-  unfolding within
-  within-row h = rw (lt-ltb (row z q) (z .h / 2 ^ k) h)
-
-  pub within-below : z .h / 2 ^ k ≤ row z q → false ≡ within z k q
-  unfolding within
-  within-below h = rw (le-ltb (row z q) (z .h / 2 ^ k) h)
-
-module _ (z : Size) (q : ℕ) where
-  -- the search for a level, coarsest first
-  pub level-begins : levelUpTo z (z .n + 1) q ≡ levelOf z q
-  unfolding levelOf
-  level-begins = ap (λ (k : ℕ). levelUpTo z k q) (add-one (z .n))
-
-  level-step : {b : Bool} (k : ℕ) → 0 < k → b ≡ within z (k - 1) q → levelUpTo z k q ≡ cond b k (levelUpTo z (k - 1) q)
-  unfolding levelUpTo
-  level-step zero h e = absurd (omega arith)
-  level-step (suc k) h e = let i : suc k - 1 ≡ k = omega arith in rw (e, i)
-
-  module _ {b : Bool} (k : ℕ) (h : 0 < k) (e : b ≡ within z (k - 1) q) (going : levelUpTo z k q ≡ levelOf z q) where
-    pub level-found : b ≡ true → k ≡ levelOf z q
-    level-found t = sym (level-step k h e ∙ rw t) ∙ going
-
-    pub level-onward : b ≡ false → levelUpTo z (k - 1) q ≡ levelOf z q
-    level-onward f = sym (level-step k h e ∙ rw f) ∙ going
-
-  pub level-none : (k : ℕ) → k ≤ 0 → levelUpTo z k q ≡ levelOf z q → 0 ≡ levelOf z q
-  unfolding levelUpTo
-  level-none zero h e = e
-  level-none (suc k) h e = absurd (omega arith)
-
 module _ (z : Size) (e : legalSize z ≡ true) where
-  pub span-small : (k : ℕ) → k ≤ z .n → (z .h / 2 ^ k) * (z .w / 2 ^ k) ≤ greatestSide * greatestSide
+  pub span-small : (k : ℕ) → k ≤ z .n → (z .h / 2 ^ k) * (z .w / 2 ^ k) ≤ mostArea
   unfolding span
   span-small k h = omega (arith, span-most z (legal z e) k (omega arith), area-bound z e)
 
@@ -100,7 +67,7 @@ module _ (z : Size) (e : legalSize z ≡ true) where
 pub halved-small : (x n : ℕ) → x ≤ greatestSide → x / 2 ^ n ≤ greatestSide
 halved-small x n h = omega (arith, shr-le x n)
 
-pub first-small : (w top left : ℕ) → w ≤ greatestSide → top < 2 * greatestSide → left < 2 * greatestSide → top * w + left < 2 ^ 20
+pub first-small : (w top left : ℕ) → w ≤ greatestSide → top < 2 * greatestSide → left < 2 * greatestSide → top * w + left < 2 ^ 32
 first-small w top left h t l = let k : top ≤ 2 * greatestSide = omega arith in omega (arith, mul-le-mul k h)
 
 pub folded-small : (i side : ℕ) → i < greatestSide → side ≤ greatestSide → folded i side < 2 * greatestSide

@@ -5,7 +5,7 @@ use Prim.Native.Nat.{ℕ, _+_, _-_, _*_, _≤_, _<_}
 use native.Mathlib.Omega.{arith}
 use borrow.Author.Tests.{lt-ltb}
 use Rattle.rules.specs.declared.Size.{Size}
-use Rattle.rules.specs.Document.Pyramid.{greatestSide, legalSize, area, within, levelOf, offspringOf}
+use Rattle.rules.specs.Document.Pyramid.{mostArea, legalSize, area, within, levelOf, offspringOf}
 use Rattle.rules.specs.Laws.Count.{All, every-all}
 use Rattle.rules.specs.Laws.Sizes.{Legal, legal, area-bound}
 use Rattle.rules.specs.Laws.Offspring.Level.{within-level, level-least}
@@ -56,5 +56,5 @@ module _ {z : Size} {q k : ℕ} (n : Node z q k) where
       let four = subst (All (λ r. Node z r (k - 1))) (sym i) offspring-node in
       record { topLeft = four .0; topRight = four .1 .0; bottomLeft = four .1 .1 .0; bottomRight = four .1 .1 .1 .0 }
 
-pub block-bound : {z : Size} {first k : ℕ} → NodeBlock z first k → first + z .w + 1 < greatestSide * greatestSide
+pub block-bound : {z : Size} {first k : ℕ} → NodeBlock z first k → first + z .w + 1 < mostArea
 block-bound {z} b = omega (arith, b .bottomRight .inside, area-bound z (b .bottomRight .legal))

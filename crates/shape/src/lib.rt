@@ -5,8 +5,8 @@ use rules::Size;
 ghost use mathlib.Core.Path.{_≡_};
 ghost use mathlib.Core.Bool.{true};
 ghost use Prim.Native.Nat.{_*_, _≤_, _<_};
-ghost use Rattle.rules.specs.Document.Pyramid.{greatestSide, mostDecompositions, legalSide, legalSize, area};
-ghost use Rattle.rules.specs.Document.Pyramid.{within, levels, levelOf, offspringOf};
+ghost use Rattle.rules.specs.Document.Pyramid.{greatestSide, mostDecompositions, legalSide, legalSize};
+ghost use Rattle.rules.specs.Document.Pyramid.{within, levels, offspringOf};
 ghost use Rattle.rules.specs.Laws.Sizes.{span, levelStart, levelEnd, levelSize};
 ghost use Rattle.shape.specs.Offspring.{offspringList, folded};
 ghost use Rattle.shape.specs.Nodes.{Node};
@@ -14,6 +14,9 @@ ghost use Rattle.shape.specs.Nodes.{Node};
 const LEAST_SIDE: usize = 4;
 
 const MOST_DECOMPOSITIONS: usize = 5;
+
+// How many times a stretch of the pyramid was halved: where a coefficient lies, whatever level its bits are coded with.
+pub struct Depth(pub usize);
 
 // The offspring of a coefficient: none, or the 2 x 2 block whose top left index is held.
 pub enum Offspring {
@@ -51,35 +54,8 @@ pub fn legal_size(z: Size) -> bool
     }
 }
 
-// Whether q lies in the first H / 2^k rows and W / 2^k columns: its level is over k.
-fn lies_within(z: Size, k: Level, q: usize) -> bool
-    requires { ⌜ (legalSize z ≡ true) × (k .0 ≤ z .n) ⌝ }
-    ensures { λ r. ⌜ r ≡ within z (k .0) q ⌝ }
-{
-    let m = k.0;
-    if q / z.w < z.h >> m {
-        q % z.w < z.w >> m
-    } else {
-        false
-    }
-}
-
-pub fn level_of(z: Size, q: usize) -> Level
-    requires { ⌜ legalSize z ≡ true ⌝ }
-    ensures { λ r. ⌜ r .0 ≡ levelOf z q ⌝ }
-{
-    let mut k = z.n + 1;
-    while 0 < k {
-        if lies_within(z, Level(k - 1), q) {
-            return Level(k);
-        }
-        k -= 1;
-    }
-    Level(0)
-}
-
 // How many coefficients lie in the first H / 2^k rows and W / 2^k columns.
-fn span_of(z: Size, k: Level) -> usize
+fn span_of(z: Size, k: Depth) -> usize
     requires { ⌜ (legalSize z ≡ true) × (k .0 ≤ z .n) ⌝ }
     ensures { λ r. ⌜ r ≡ span z (k .0) ⌝ }
 {
@@ -95,14 +71,14 @@ pub fn level_start(z: Size, k: Level) -> usize
     if z.n < k.0 {
         return 0;
     }
-    span_of(z, k)
+    span_of(z, Depth(k.0))
 }
 
 pub fn level_end(z: Size, k: Level) -> usize
     requires { ⌜ (legalSize z ≡ true) × (1 ≤ k .0) × (k .0 ≤ levels z) ⌝ }
     ensures { λ r. ⌜ r ≡ levelEnd z (k .0) ⌝ }
 {
-    span_of(z, Level(k.0 - 1))
+    span_of(z, Depth(k.0 - 1))
 }
 
 pub fn level_size(z: Size, k: Level) -> usize
@@ -135,8 +111,8 @@ fn offspring_in_band(z: Size, q: usize) -> Offspring
     Offspring::Block(top * z.w + left)
 }
 
-// The offspring of a coefficient whose level is known. Outside the LL band the block at (2i, 2j) begins at index 2q.
-pub fn offspring_in(z: Size, q: usize, k: Level) -> Offspring
+// The offspring of a coefficient whose depth is known. Outside the LL band the block at (2i, 2j) begins at index 2q.
+pub fn offspring_in(z: Size, q: usize, k: Depth) -> Offspring
     requires { ⌜ Node z q (k .0) ⌝ }
     ensures { λ r. ⌜ offspringList z r ≡ offspringOf z q ⌝ }
 {
@@ -147,11 +123,4 @@ pub fn offspring_in(z: Size, q: usize, k: Level) -> Offspring
         return Offspring::Block(2 * q);
     }
     Offspring::Nothing
-}
-
-pub fn offspring_of(z: Size, q: usize) -> Offspring
-    requires { ⌜ (legalSize z ≡ true) × (q < area z) ⌝ }
-    ensures { λ r. ⌜ offspringList z r ≡ offspringOf z q ⌝ }
-{
-    offspring_in(z, q, level_of(z, q))
 }

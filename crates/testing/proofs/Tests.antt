@@ -10,7 +10,7 @@ use Rattle.bits.specs.declared.BitRead.{BitRead}
 use Rattle.rules.specs.Document.Passes.{significant?, negative?, toLip, toLsp, Side, listing}
 use Rattle.rules.specs.Laws.PassSteps.{signNoted, tried, triedAll, tried-insignificant, tried-significant, tried-toLip, tried-toLsp, triedAll-append}
 use Rattle.rules.specs.declared.Size.{Size}
-use Rattle.rules.specs.Document.Pyramid.{greatestSide}
+use Rattle.rules.specs.Document.Pyramid.{mostArea}
 use Rattle.shape.specs.declared.Offspring.the-variants.{Block}
 use Rattle.shape.specs.Offspring.{offspringList}
 use Rattle.lists.specs.declared.Fill.{Fill}
@@ -137,7 +137,7 @@ module _ (run : Run) {from : Candidates} (i : ℕ) (s : List ℕ) where
   chosen-waiting {r} e h = subst (λ x. waiting i 1 (candidates (run .z) x s) ≡ r ∷ []) (sym e) h
 
   module _ {first : ℕ} (e : from ≡ Four first) (h : Choosing run from i s) where
-    pub choosing-four : (i < 4) × (first + run .z .w + 1 < greatestSide * greatestSide)
+    pub choosing-four : (i < 4) × (first + run .z .w + 1 < mostArea)
     choosing-four = subst (λ x. Choosing run x i s) e h
 
     pub chosen-first : i < 2 → waiting i 1 (candidates (run .z) from s) ≡ (first + i) ∷ []

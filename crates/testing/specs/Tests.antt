@@ -6,7 +6,7 @@ use native.Mathlib.Omega.{arith}
 use lib.ListN.{length}
 use lib.IntN.{ℤ}
 use Rattle.rules.specs.declared.Size.{Size}
-use Rattle.rules.specs.Document.Pyramid.{greatestSide, mostPlanes}
+use Rattle.rules.specs.Document.Pyramid.{mostArea, mostPlanes}
 use Rattle.rules.specs.Document.Passes.{Side, Course, listing}
 use Rattle.rules.specs.Laws.PassSteps.{triedAll}
 use Rattle.shape.specs.declared.Offspring.the-variants.{Block}
@@ -32,12 +32,12 @@ candidates z (Four first) s = offspringList z (Block first)
 
 abbrev pub Choosing : Run → Candidates → ℕ → List ℕ → Type 0
 Choosing run Waiting i s = i < length s
-Choosing run (Four first) i s = (i < 4) × (first + run .z .w + 1 < greatestSide * greatestSide)
+Choosing run (Four first) i s = (i < 4) × (first + run .z .w + 1 < mostArea)
 
 -- What the tests of m of them ask for: LIP must be empty where its own entries are tested, as those that stay are put to its front.
 abbrev pub Suited : Run → Candidates → ℕ → Stand → Type 0
 Suited run Waiting m w = w .fill .lip ≤ 0
-Suited run (Four first) m w = (m ≤ 4) × (first + run .z .w + 1 < greatestSide * greatestSide)
+Suited run (Four first) m w = (m ≤ 4) × (first + run .z .w + 1 < mostArea)
 
 pub record Testing (run : Run) (from : Candidates) (m : ℕ) (s : List ℕ) (w : Stand) : Type 0 where
   pub plane : run .plane .0 < mostPlanes

@@ -17,7 +17,7 @@ use Rattle.rules.specs.declared.HeaderRead.the-variants as header
 use Rattle.rules.specs.declared.Part.{Part}
 use Rattle.rules.specs.declared.PartRead.{PartRead}
 use Rattle.rules.specs.declared.PartRead.the-variants as part
-use Rattle.rules.specs.Document.Pyramid.{legalSize, area, levels, mostPlanes}
+use Rattle.rules.specs.Document.Pyramid.{mostArea, legalSize, area, levels, mostPlanes}
 use Rattle.rules.specs.Document.Passes.{PartName}
 use Rattle.rules.specs.Document.Layout.{readNumber, version, bytesFor, padClear, bodyOf, nameOf}
 
@@ -92,6 +92,10 @@ topLevel h = levels (h .size)
 
 abbrev pub mostBits : Size → ℕ
 mostBits z = 4 * area z
+
+-- no part of any record has more bits
+abbrev pub partMost : ℕ
+partMost = 4 * mostArea
 
 -- "Within a part: its three numbers in turn, each being a value, malformed (8) or cut off (tail), the first that isn't a value deciding";
 -- 12, as W2 says, where its last byte is 0

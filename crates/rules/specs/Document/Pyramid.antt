@@ -27,6 +27,10 @@ legalSize z = leb 1 (z .n) && leb (z .n) mostDecompositions && legalSide (z .n) 
 abbrev pub area : Size → ℕ
 area z = z .w * z .h
 
+-- no picture has more coefficients
+abbrev pub mostArea : ℕ
+mostArea = greatestSide * greatestSide
+
 -- "Coefficients are signed 32-bit numbers, row by row, exactly W x H of them, magnitude at most 65,535."
 abbrev pub mostMagnitude : ℕ
 mostMagnitude = 65535

@@ -12,7 +12,7 @@ use Rattle.rules.specs.declared.HeaderRead.the-variants as header
 use Rattle.rules.specs.declared.Part.{Part}
 use Rattle.rules.specs.declared.PartRead.the-variants as part
 use Rattle.rules.specs.Document.Notation.{flat}
-use Rattle.rules.specs.Document.Pyramid.{greatestSide, area, mostPlanes, legalSize, levels}
+use Rattle.rules.specs.Document.Pyramid.{mostArea, area, mostPlanes, legalSize, levels}
 use Rattle.rules.specs.Document.Passes.{PartName}
 use Rattle.rules.specs.Document.Layout.{numberBytes, bytesFor, packed, padClear, version, headerBytes, CodedPart, partBytes, wholeOf, bodyOf, nameOf}
 use Rattle.rules.specs.Document.Numbers.{readHeader, mostBits, legalHead, headed, readPart}
@@ -47,7 +47,7 @@ pub record Small (z : Size) (planes : ℕ) : Type 0 where
 pub legal-small : (z : Size) (planes : ℕ) → legalSize z ≡ true → planes ≤ mostPlanes → Small z planes
 legal-small z planes h l =
     let Z : Legal z = legal z h in
-    let a : area z ≤ greatestSide * greatestSide = area-bound z h in
+    let a : area z ≤ mostArea = area-bound z h in
     record {
       width = omega (arith, Z .width .most);
       height = omega (arith, Z .height .most);

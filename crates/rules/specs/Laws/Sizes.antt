@@ -14,7 +14,7 @@ use lib.Pow.{pow-add, shl-shr, shr-shr, shr-le}
 use lib.Dec.{leb, eqb}
 use borrow.Author.Tests.{leb-true, eqb-true, le-leb, lt-leb, eq-eqb}
 use Rattle.rules.specs.declared.Size.{Size}
-use Rattle.rules.specs.Document.Pyramid.{leastSide, greatestSide, mostDecompositions, legalSide, legalSize, area, levels}
+use Rattle.rules.specs.Document.Pyramid.{leastSide, greatestSide, mostArea, mostDecompositions, legalSide, legalSize, area, levels}
 
 module _ (z : Size) where
   unfoldable pub span : ℕ → ℕ
@@ -86,7 +86,7 @@ size-legal z Z =
       side-legal (z .n) (z .h) (Z .height),
     )
 
-pub area-bound : (z : Size) → legalSize z ≡ true → area z ≤ greatestSide * greatestSide
+pub area-bound : (z : Size) → legalSize z ≡ true → area z ≤ mostArea
 area-bound z e = let Z : Legal z = legal z e in mul-le-mul (Z .width .most) (Z .height .most)
 
 -- half
