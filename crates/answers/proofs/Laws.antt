@@ -9,8 +9,8 @@ use lib.Seq.{sets}
 use Rattle.rules.specs.declared.Plane.{Plane}
 use Rattle.rules.specs.Document.Passes.{from}
 use Rattle.rules.specs.Document.Calls.{filled, levelPlaces, planeIn}
-use Rattle.rules.specs.Laws.Count.{from-length}
-use Rattle.rules.specs.Laws.Output.{filled-sets, filled-append}
+use Rattle.rules.specs.Laws.Counting.Sums.{from-length}
+use Rattle.rules.specs.Laws.Bytes.Output.{filled-sets, filled-append}
 use Rattle.memory.specs.Stores.{sets-append}
 use Rattle.answers.specs.Report.{Reported}
 

@@ -8,9 +8,9 @@ use lib.ListN.{length, take, drop, length-append}
 use lib.Seq.{sets}
 use Rattle.rules.specs.Document.Notation.{flat}
 use Rattle.rules.specs.Document.Layout.{numberBytes, bytesFor, packed}
-use Rattle.rules.specs.Laws.Count.{flat-append}
-use Rattle.rules.specs.Laws.NumberBytes.{numberBytes-last, numberBytes-length}
-use Rattle.rules.specs.Laws.ReadBackBody.{packed-length}
+use Rattle.rules.specs.Laws.Counting.Sums.{flat-append}
+use Rattle.rules.specs.Laws.Bytes.Numbers.{numberBytes-last, numberBytes-length}
+use Rattle.rules.specs.Laws.Bytes.BodyBack.{packed-length}
 use Rattle.memory.specs.Stores.{sets-append}
 use Rattle.coder.specs.Writing.{Wrote, shortHead, madeWay, headOf, Headed}
 use Rattle.coder.proofs.Stores.{sets-beside, sets-covered, stored-again}

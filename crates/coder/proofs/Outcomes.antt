@@ -20,7 +20,7 @@ use Rattle.rules.specs.Document.Notation.{zeros}
 use Rattle.rules.specs.Document.Pyramid.{legalSize, area, mostMagnitude}
 use Rattle.rules.specs.Document.Layout.{recordOf}
 use Rattle.rules.specs.Document.Calls.{Result, refused, unless, workFor, firstOver, fitted, coding, codeOut, codeAnswer, Coding}
-use Rattle.rules.specs.Laws.Output.{filled-sets}
+use Rattle.rules.specs.Laws.Bytes.Output.{filled-sets}
 use Rattle.coder.specs.Writing.{Answered, judgedInput, Given, Stored}
 
 -- Stores keep the length.

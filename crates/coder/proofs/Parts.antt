@@ -15,10 +15,10 @@ use Rattle.parts.specs.declared.Passed.{Passed}
 use Rattle.rules.specs.Document.Pyramid.{legalSize, levels}
 use Rattle.rules.specs.Document.Passes.{State}
 use Rattle.rules.specs.Document.Layout.{packed, bytesFor}
-use Rattle.rules.specs.Laws.Sizes.{legal}
-use Rattle.rules.specs.Laws.StateParts.{OfLevel}
-use Rattle.rules.specs.Laws.Sizes.{area-bound}
-use Rattle.rules.specs.Laws.ReadBackBody.{packed-length}
+use Rattle.rules.specs.Laws.Family.Sizes.{legal}
+use Rattle.rules.specs.Laws.State.Parts.{OfLevel}
+use Rattle.rules.specs.Laws.Family.Sizes.{area-bound}
+use Rattle.rules.specs.Laws.Bytes.BodyBack.{packed-length}
 use Rattle.bits.specs.Written.{writeBits-packed}
 use Rattle.bits.specs.Bits.{writeBits}
 use Rattle.parts.specs.Standing.{named, stateOf, agree-same, ReadyToCode, PartCoded, courseC}

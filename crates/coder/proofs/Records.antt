@@ -13,9 +13,9 @@ use Rattle.rules.specs.Document.Pyramid.{levels, mostMagnitude, mostPlanes, pla
 use Rattle.rules.specs.Document.Passes.{start, PartName, partNames}
 use Rattle.rules.specs.Document.Calls.{levelPlaces}
 use Rattle.rules.specs.Document.Layout.{version, numberBytes, headerBytes, planesIn, partsOf, recordOf}
-use Rattle.rules.specs.Laws.Sizes.{legal}
-use Rattle.rules.specs.Laws.Planes.{planesOf-most, range-greatest}
-use Rattle.rules.specs.Laws.StateRecord.{SoundLists, start-sound}
+use Rattle.rules.specs.Laws.Family.Sizes.{legal}
+use Rattle.rules.specs.Laws.Rounding.Planes.{planesOf-most, range-greatest}
+use Rattle.rules.specs.Laws.State.Record.{SoundLists, start-sound}
 use Rattle.memory.specs.Stores.{sets-append, getD-sets-behind}
 use Rattle.parts.specs.Standing.{Started, agree-same}
 use Rattle.coder.specs.declared.Progress.{Progress}

@@ -14,13 +14,13 @@ use Rattle.rules.specs.Document.Pyramid.{legalSize, area, levels, magnitude, ne
 use Rattle.rules.specs.Document.Passes.{State, PartName, partsOfPlane}
 use Rattle.rules.specs.Document.Layout.{packed, partBytes, codedParts}
 use Rattle.rules.specs.Document.Numbers.{mostBits}
-use Rattle.rules.specs.Laws.Count.{All, from-length}
-use Rattle.rules.specs.Laws.Sizes.{legal, area-bound}
+use Rattle.rules.specs.Laws.Counting.Sums.{All, from-length}
+use Rattle.rules.specs.Laws.Family.Sizes.{legal, area-bound}
 use Rattle.rules.specs.Laws.Offspring.Lawful.{lawful}
-use Rattle.rules.specs.Laws.StateParts.{OfLevel, coded-sound, coded-bits}
-use Rattle.rules.specs.Laws.StateRecord.{SoundLists}
-use Rattle.rules.specs.Laws.NumberBytes.{numberBytes-length}
-use Rattle.rules.specs.Laws.ReadBackBody.{packed-length}
+use Rattle.rules.specs.Laws.State.Parts.{OfLevel, coded-sound, coded-bits}
+use Rattle.rules.specs.Laws.State.Record.{SoundLists}
+use Rattle.rules.specs.Laws.Bytes.Numbers.{numberBytes-length}
+use Rattle.rules.specs.Laws.Bytes.BodyBack.{packed-length}
 use Rattle.memory.specs.Stores.{sets-append, getD-sets-behind}
 use Rattle.coder.specs.Writing.{headOf, Stage, courseOf, bytesOf, bytesOfParts, onward, through, partMost, Going}
 use Rattle.coder.proofs.Heads.{headOf-length}

@@ -12,7 +12,7 @@ use Rattle.rules.specs.declared.Level.{Level}
 use Rattle.rules.specs.Document.Pyramid.{levels, mostPlanes}
 use Rattle.rules.specs.Document.Passes.{PartName, partsOfPlane, partNames}
 use Rattle.rules.specs.Document.Calls.{levelPlaces}
-use Rattle.rules.specs.Laws.Sizes.{legal}
+use Rattle.rules.specs.Laws.Family.Sizes.{legal}
 use Rattle.parts.specs.Standing.{named}
 use Rattle.coder.specs.declared.Progress.{Progress}
 use Rattle.coder.specs.Writing.{Given, Stage, stageOf, bytesOf, onward, through, Going, Due, Reached}

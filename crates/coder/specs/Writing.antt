@@ -19,7 +19,7 @@ use Rattle.rules.specs.Document.Pyramid.{legalSize, area, levels, family, mostM
 use Rattle.rules.specs.Document.Passes.{Course, State, after, PartName, coded}
 use Rattle.rules.specs.Document.Layout.{numberBytes, bytesFor, partBytes, codedParts}
 use Rattle.rules.specs.Document.Calls.{Result, workFor, firstOver, codeOut, codeAnswer}
-use Rattle.rules.specs.Laws.StateRecord.{SoundLists}
+use Rattle.rules.specs.Laws.State.Record.{SoundLists}
 use Rattle.parts.specs.Standing.{stateOf}
 use Rattle.coder.specs.declared.Progress.{Progress}
 

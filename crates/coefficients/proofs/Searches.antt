@@ -16,8 +16,8 @@ use borrow.Author.Tests.{lt-ltb, le-ltb, le-leb, lt-leb, eq-eqb, ne-eqb}
 use Rattle.rules.specs.Document.Notation.{greatest}
 use Rattle.rules.specs.Document.Pyramid.{magnitude, planesOf}
 use Rattle.rules.specs.Document.Calls.{firstOver}
-use Rattle.rules.specs.Laws.Tests.{lowest-found}
-use Rattle.rules.specs.Laws.Planes.{counts-once, planesOf-counts}
+use Rattle.rules.specs.Laws.Counting.Booleans.{lowest-found}
+use Rattle.rules.specs.Laws.Rounding.Planes.{counts-once, planesOf-counts}
 
 max-assoc : (a b c : ℕ) → max (max a b) c ≡ max a (max b c)
 max-assoc a b c = omega arith

@@ -17,8 +17,8 @@ use Rattle.rules.specs.declared.Decoded.{Decoded}
 use Rattle.rules.specs.Document.Pyramid.{area}
 use Rattle.rules.specs.Document.Numbers.{readHeader, readParts}
 use Rattle.rules.specs.Document.Calls.{Result, refused, accepted, unless, workFor, onHeader, Picture, decodedParts, decoding, decodeOut, decodeAnswer, Decoding}
-use Rattle.rules.specs.Laws.Sizes.{Legal, legal}
-use Rattle.rules.specs.Laws.Reading.{HeaderStands, readHeader-stands, header-legal, header-planes, header-within}
+use Rattle.rules.specs.Laws.Family.Sizes.{Legal, legal}
+use Rattle.rules.specs.Laws.Reading.Stands.{HeaderStands, readHeader-stands, header-legal, header-planes, header-within}
 use Rattle.decoder.specs.Walking.{Answered, Refusing, Accepting, Lent}
 
 -- A result is answered as what it is; the memory may have changed since the call, and kept its length.

@@ -18,8 +18,8 @@ use Rattle.rules.specs.Document.Numbers.{topLevel}
 use Rattle.rules.specs.Document.Passes.{PartName, State, Course, Reader, after, decoded}
 use Rattle.rules.specs.Document.Layout.{bitAt, bodyOf, nameOf, usable}
 use Rattle.rules.specs.Document.Calls.{Progress, going, unfit, used, onward}
-use Rattle.rules.specs.Laws.Tests.{clash}
-use Rattle.rules.specs.Laws.OneWalk.{usableNow}
+use Rattle.rules.specs.Laws.Counting.Booleans.{clash}
+use Rattle.rules.specs.Laws.Reading.OneWalk.{usableNow}
 use Rattle.parts.specs.Standing.{Agree, agree-same}
 use Rattle.reached.specs.Planes.{reachedAt}
 use Rattle.decoder.specs.Walking.{Outcome, fitting, gone, usedOn, metOn, Taken}

@@ -25,8 +25,8 @@ use Rattle.rules.specs.Document.Pyramid.{family, mostPlanes}
 use Rattle.rules.specs.Document.Passes.{Course, Reader, after, decoded}
 use Rattle.rules.specs.Document.Layout.{bitAt, bodyOf, nameOf}
 use Rattle.rules.specs.Document.Numbers.{readPart}
-use Rattle.rules.specs.Laws.Reading.{PartStands, readPart-stands}
-use Rattle.rules.specs.Laws.OneWalk.{usableNow}
+use Rattle.rules.specs.Laws.Reading.Stands.{PartStands, readPart-stands}
+use Rattle.rules.specs.Laws.Reading.OneWalk.{usableNow}
 use Rattle.record.specs.Named.{named}
 use Rattle.parts.specs.Standing.{stateOf, Agree, Small, PartDecoded}
 use Rattle.reached.specs.Planes.{reachedAt}

@@ -21,15 +21,16 @@ use Rattle.rules.specs.Document.Pyramid.{area, magnitude, mostPlanes}
 use Rattle.rules.specs.Document.Passes.{PartName, State, start}
 use Rattle.rules.specs.Document.Layout.{nameOf, usable, reached}
 use Rattle.rules.specs.Document.Numbers.{readPart, Ending, tail, fault, Reading, readParts, topLevel}
-use Rattle.rules.specs.Document.Calls.{levelPlaces, refused, accepted, Progress, going, unfit, onward, decodeParts, onEnding, reachedPlanes, pictured, decodedParts}
-use Rattle.rules.specs.Laws.Tests.{clash}
-use Rattle.rules.specs.Laws.Sizes.{legal}
-use Rattle.rules.specs.Laws.Parts.{After, follows-after}
-use Rattle.rules.specs.Laws.OneWalk.{usableNow, reachedNow}
-use Rattle.rules.specs.Laws.Reading.{PartStands, readPart-stands}
-use Rattle.rules.specs.Laws.WholeParts.{WholeParts, parts-whole, usable-read, reached-read}
-use Rattle.rules.specs.Laws.Walk.{partsFrom, readParts-from, partsFrom-part, partsFrom-tail, partsFrom-fault}
-use Rattle.rules.specs.Laws.StateRecord.{SoundLists, SoundProgress, start-sound, onward-sound}
+use Rattle.rules.specs.Document.Calls.{levelPlaces, refused, accepted, Progress, going, unfit, onward, decodeParts, onEnding, reachedPlanes, pictured}
+use Rattle.rules.specs.Document.Calls.{decodedParts}
+use Rattle.rules.specs.Laws.Counting.Booleans.{clash}
+use Rattle.rules.specs.Laws.Family.Sizes.{legal}
+use Rattle.rules.specs.Laws.Reading.Parts.{After, follows-after}
+use Rattle.rules.specs.Laws.Reading.OneWalk.{usableNow, reachedNow}
+use Rattle.rules.specs.Laws.Reading.Stands.{PartStands, readPart-stands}
+use Rattle.rules.specs.Laws.Reading.WholeParts.{WholeParts, parts-whole, usable-read, reached-read}
+use Rattle.rules.specs.Laws.Reading.Walk.{partsFrom, readParts-from, partsFrom-part, partsFrom-tail, partsFrom-fault}
+use Rattle.rules.specs.Laws.State.Record.{SoundLists, SoundProgress, start-sound, onward-sound}
 use Rattle.record.specs.Named.{named}
 use Rattle.parts.specs.Standing.{stateOf, Agree, agree-same, Small}
 use Rattle.decoder.specs.Walking.{Outcome, gone, usedOn, metOn, metPart, Taken, Standing, Turned, Begun, Lent}

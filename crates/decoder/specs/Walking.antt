@@ -26,8 +26,8 @@ use Rattle.rules.specs.Document.Pyramid.{legalSize, area, mostPlanes, family}
 use Rattle.rules.specs.Document.Passes.{State, Course, Reader, start, after, decoded}
 use Rattle.rules.specs.Document.Layout.{bytesFor, bitAt, bodyOf, nameOf}
 use Rattle.rules.specs.Document.Calls.{workFor, levelPlaces, Result, Picture, reachedPlanes, decodeOut, decodeAnswer}
-use Rattle.rules.specs.Laws.OneWalk.{usableNow}
-use Rattle.rules.specs.Laws.StateRecord.{SoundLists}
+use Rattle.rules.specs.Laws.Reading.OneWalk.{usableNow}
+use Rattle.rules.specs.Laws.State.Record.{SoundLists}
 use Rattle.reached.specs.Planes.{reachedAt}
 use Rattle.parts.specs.Standing.{stateOf, Agree, Small, ReadyToDecode}
 

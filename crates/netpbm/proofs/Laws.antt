@@ -11,7 +11,7 @@ use lib.Dec.{leb, eqb}
 use lib.ListN.{length, getD, drop, drop-of-length-le, List·getD-eq-default}
 use lib.Seq.{drop-cons, drop-drop}
 use borrow.Author.Tests.{leb-true, leb-false, le-leb, lt-leb, eqb-true, eq-eqb, ne-eqb}
-use Rattle.rules.specs.Laws.Tests.{clash, both-left, both-right, same-test}
+use Rattle.rules.specs.Laws.Counting.Booleans.{clash, both-left, both-right, same-test}
 use Rattle.pictures.specs.declared.Grey.{Grey}
 use Rattle.pictures.specs.declared.Grey.the-variants.{Picture, NotGrey}
 use Rattle.pictures.specs.Document.Netpbm.{lineEnd, blank, hash, gapByte, digit, begins, afterComment, afterBlanks, afterGap, number, GreyHeader}

@@ -9,8 +9,8 @@ use lib.Seq.{sets}
 use lib.Pow.{pow-mono, pow-add}
 use Rattle.rules.specs.declared.Number.the-variants.{TooManyBytes, CutOff}
 use Rattle.rules.specs.Document.Layout.{groups, numberBytes, numberFrom, readNumber}
-use Rattle.rules.specs.Laws.NumberBytes.{groups-last, groups-next, numberBytes-last, numberBytes-next, numberBytes-length}
-use Rattle.rules.specs.Laws.NumberBytes.{numberFrom-cut, numberFrom-last, numberFrom-next}
+use Rattle.rules.specs.Laws.Bytes.Numbers.{groups-last, groups-next, numberBytes-last, numberBytes-next, numberBytes-length}
+use Rattle.rules.specs.Laws.Bytes.Numbers.{numberFrom-cut, numberFrom-last, numberFrom-next}
 use Rattle.numbers.specs.LastByte.{lastByte}
 
 -- What is left to read of a number that began at `at`: up to `left` bytes, the next one at `place`.

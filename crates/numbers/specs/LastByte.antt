@@ -6,7 +6,7 @@ use lib.Dec.{ltb, eqb}
 use borrow.Author.Tests.{lt-ltb, eq-eqb}
 use Rattle.rules.specs.declared.Number.{Number}
 use Rattle.rules.specs.declared.Number.the-variants.{Value, LongForm}
-use Rattle.rules.specs.Laws.NumberBytes.{shortest-form}
+use Rattle.rules.specs.Laws.Bytes.Numbers.{shortest-form}
 
 -- Of several bytes the last may not be 0.
 abbrev pub lastByte : ℕ → ℕ → ℕ → ℕ → Number

@@ -20,15 +20,15 @@ use Rattle.rules.specs.Document.Pyramid.{family, levels, levelOf, magnitude}
 use Rattle.rules.specs.Document.Passes.{Entry, typeA, typeB, members, inLevel, Lists, State, Side, Course, passed, own, handed, after, from}
 use Rattle.rules.specs.Document.Numbers.{mostBits}
 use Rattle.rules.specs.Document.Calls.{levelPlaces, workFor}
-use Rattle.rules.specs.Laws.Count.{_∈_, sum, is, All, all-of, all-then}
-use Rattle.rules.specs.Laws.Family.{level-some, grandchild}
-use Rattle.rules.specs.Laws.Sizes.{Legal, legal, area-bound, levelStart, levelSize}
+use Rattle.rules.specs.Laws.Counting.Sums.{_∈_, sum, is, All, all-of, all-then}
+use Rattle.rules.specs.Laws.Family.Lawful.{level-some, grandchild}
+use Rattle.rules.specs.Laws.Family.Sizes.{Legal, legal, area-bound, levelStart, levelSize}
 use Rattle.rules.specs.Laws.Offspring.Level.{level-most}
 use Rattle.rules.specs.Laws.Offspring.Lawful.{lawful, descendants-level}
-use Rattle.rules.specs.Laws.PassLevels.{Placed, passed-level1}
-use Rattle.rules.specs.Laws.Slots.{Room, room-slots}
-use Rattle.rules.specs.Laws.StateWeight.{after-own, after-next, after-other}
-use Rattle.rules.specs.Laws.StateRecord.{part-room, moved-room}
+use Rattle.rules.specs.Laws.Pass.Levels.{Placed, passed-level1}
+use Rattle.rules.specs.Laws.Pass.Slots.{Room, room-slots}
+use Rattle.rules.specs.Laws.State.Weight.{after-own, after-next, after-other}
+use Rattle.rules.specs.Laws.State.Record.{part-room, moved-room}
 use Rattle.lists.specs.declared.Fill.{Fill}
 use Rattle.lists.specs.Seg.{seg-length}
 use Rattle.lists.specs.Stretch.{setRoom, listsIn, held, Fits, lists-fit, sets-fit, known-length, todo-length, moved-length}
@@ -39,10 +39,11 @@ use Rattle.parts.specs.declared.Counts.{Counts}
 use Rattle.parts.specs.declared.Passed.{Passed}
 use Rattle.bits.specs.declared.BitPosition.{BitPosition}
 use Rattle.testing.specs.Exchange.{Chan, chan, familyOf, side}
-use Rattle.testing.specs.Tests.{course}
+use Rattle.testing.specs.Finding.{course}
 use Rattle.testing.specs.Growing.{Growth}
 use Rattle.passes.specs.Steps.{hasMember, Queued, Proper, Fresh, listsOf}
-use Rattle.parts.specs.Standing.{stretchOf, countAt, Places, fillOf, withLists, listsAt, stateOf, Ready, ReadyToCode, PartCoded, ReadyToDecode, PartDecoded}
+use Rattle.parts.specs.Standing.{stretchOf, countAt, Places, fillOf, withLists, listsAt, stateOf, Ready, ReadyToCode, PartCoded, ReadyToDecode}
+use Rattle.parts.specs.Standing.{PartDecoded}
 use Rattle.parts.specs.Workspace.{Lending, Lent, movedOut, handedOn, Handing, Handed, runOf, Running, courseIn, PartRun}
 use Rattle.parts.proofs.Workspace.{size-some, size-place}
 use Rattle.parts.proofs.States.{state-in, state-same, handedOn-next, handedOn-other}

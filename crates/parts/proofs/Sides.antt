@@ -18,15 +18,15 @@ use Rattle.rules.specs.Document.Passes.{Question, Event, toLip, toLsp, stays, m
 use Rattle.rules.specs.Document.Passes.{Side, walk, Course, listed, withSide, listing, passed, State, after}
 use Rattle.rules.specs.Document.Passes.{coder, coded, Reader, decoder, decoded}
 use Rattle.rules.specs.Document.Layout.{bitAt}
-use Rattle.rules.specs.Laws.Count.{sum, is, one-most, from-once}
-use Rattle.rules.specs.Laws.Family.{Lawful}
-use Rattle.rules.specs.Laws.PassKept.{kept-pass}
-use Rattle.rules.specs.Laws.PassSteps.{begun}
-use Rattle.rules.specs.Laws.Lists.{listsWeight}
-use Rattle.rules.specs.Laws.StateWeight.{weight-part}
-use Rattle.rules.specs.Laws.Sizes.{legal}
+use Rattle.rules.specs.Laws.Counting.Sums.{sum, is, one-most, from-once}
+use Rattle.rules.specs.Laws.Family.Lawful.{Lawful}
+use Rattle.rules.specs.Laws.Pass.Kept.{kept-pass}
+use Rattle.rules.specs.Laws.Pass.Steps.{begun}
+use Rattle.rules.specs.Laws.Pass.Lists.{listsWeight}
+use Rattle.rules.specs.Laws.State.Weight.{weight-part}
+use Rattle.rules.specs.Laws.Family.Sizes.{legal}
 use Rattle.rules.specs.Laws.Offspring.Lawful.{lawful}
-use Rattle.rules.specs.Laws.StateRecord.{SoundLists}
+use Rattle.rules.specs.Laws.State.Record.{SoundLists}
 use Rattle.testing.specs.declared.Run.{Run}
 use Rattle.parts.specs.declared.Counts.{Counts}
 use Rattle.parts.specs.declared.Passed.{Passed}

@@ -8,7 +8,7 @@ use Rattle.rules.specs.declared.Size.{Size}
 use Rattle.rules.specs.Document.Notation.{flat}
 use Rattle.rules.specs.Document.Pyramid.{legalSize, levels, levelOf}
 use Rattle.rules.specs.Document.Passes.{from, rootOf}
-use Rattle.rules.specs.Laws.Count.{All}
+use Rattle.rules.specs.Laws.Counting.Sums.{All}
 use Rattle.lists.specs.declared.Fill.{Fill}
 use Rattle.lists.specs.Stretch.{setRoom, held, Fits}
 

@@ -17,8 +17,8 @@ use Rattle.rules.specs.Document.Passes.{Lists, State, Course, Reader, PartName,
 use Rattle.rules.specs.Document.Layout.{bitAt}
 use Rattle.rules.specs.Document.Numbers.{mostBits}
 use Rattle.rules.specs.Document.Calls.{levelPlaces, workFor}
-use Rattle.rules.specs.Laws.Sizes.{levelStart, levelSize}
-use Rattle.rules.specs.Laws.StateRecord.{SoundLists}
+use Rattle.rules.specs.Laws.Family.Sizes.{levelStart, levelSize}
+use Rattle.rules.specs.Laws.State.Record.{SoundLists}
 use Rattle.lists.specs.declared.Fill.{Fill}
 use Rattle.lists.specs.Seg.{seg}
 use Rattle.lists.specs.Stretch.{listsIn}

@@ -14,7 +14,7 @@ use Rattle.bits.specs.declared.BitPosition.{BitPosition}
 use Rattle.rules.specs.Document.Pyramid.{legalSize, levels}
 use Rattle.rules.specs.Document.Passes.{Entry, Lists, State, Side, Course, passed, after}
 use Rattle.rules.specs.Document.Calls.{workFor}
-use Rattle.rules.specs.Laws.Sizes.{levelSize}
+use Rattle.rules.specs.Laws.Family.Sizes.{levelSize}
 use Rattle.lists.specs.Stretch.{setRoom, movedFrom, sets, listsIn}
 use Rattle.testing.specs.declared.Run.{Run}
 use Rattle.testing.specs.declared.Stand.{Stand}

@@ -8,7 +8,7 @@ ghost use lib.ListN.{length};
 ghost use Rattle.rules.specs.Document.Pyramid.{legalSize, levels, greatestSide};
 ghost use Rattle.rules.specs.Document.Passes.{bandLL};
 ghost use Rattle.rules.specs.Document.Calls.{levelPlaces, workFor};
-ghost use Rattle.rules.specs.Laws.Sizes.{levelStart, levelSize};
+ghost use Rattle.rules.specs.Laws.Family.Sizes.{levelStart, levelSize};
 ghost use Rattle.testing.specs.Exchange.{side};
 ghost use Rattle.parts.specs.Standing.{countAt, Places, fillOf, withLists, withSets, Started, ReadyToCode, PartCoded, ReadyToDecode, PartDecoded};
 ghost use Rattle.parts.specs.Workspace.{Lending, Lent, HandingOver, HandedOver, Handing, Handed, runOf, Running, PartRun};

@@ -9,19 +9,19 @@ use lib.Pow.{pow-mono}
 use lib.IntN.{ℤ}
 use Rattle.rules.specs.Document.Pyramid.{Family, magnitude}
 use Rattle.rules.specs.Document.Passes.{Entry, Lists, Side, Course, listing, passed, withSide}
-use Rattle.rules.specs.Laws.Family.{Lawful}
-use Rattle.rules.specs.Laws.Sizes.{legal}
+use Rattle.rules.specs.Laws.Family.Lawful.{Lawful}
+use Rattle.rules.specs.Laws.Family.Sizes.{legal}
 use Rattle.rules.specs.Laws.Offspring.Lawful.{lawful}
-use Rattle.rules.specs.Laws.PassKept.{kept-triedAll, kept-visitedAll}
-use Rattle.rules.specs.Laws.PassSteps.{triedAll, visitedAll, visitedAll-none, sharpenedAll, begun, passed-steps, sharpened-lists}
-use Rattle.rules.specs.Laws.Slots.{Room, room-tests, room-held, room-slots}
+use Rattle.rules.specs.Laws.Pass.Kept.{kept-triedAll, kept-visitedAll}
+use Rattle.rules.specs.Laws.Pass.Steps.{triedAll, visitedAll, visitedAll-none, sharpenedAll, begun, passed-steps, sharpened-lists}
+use Rattle.rules.specs.Laws.Pass.Slots.{Room, room-tests, room-held, room-slots}
 use Rattle.lists.specs.declared.Fill.{Fill}
 use Rattle.lists.specs.Stretch.{waiting, known, held, emptied, Fits, sets-fit, todo-length, todo-none, held-fresh, held-waiting, held-known, waiting-length}
 use Rattle.testing.specs.declared.Run.{Run}
 use Rattle.testing.specs.declared.Stand.{Stand}
 use Rattle.testing.specs.declared.Candidates.the-variants.{Waiting}
 use Rattle.testing.specs.Exchange.{Chan, chan, familyOf, side}
-use Rattle.testing.specs.Tests.{courseOf, course, Testing, Tested}
+use Rattle.testing.specs.Finding.{courseOf, course, Testing, Tested}
 use Rattle.testing.specs.Growing.{Growth, growth-kept}
 use Rattle.passes.specs.Steps.{visitsOf, listsOf, Proper, Underway, Visited, Fresh, Ran}
 

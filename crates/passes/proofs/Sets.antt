@@ -15,21 +15,21 @@ use Rattle.rules.specs.Document.Notation.{greatest}
 use Rattle.rules.specs.Document.Pyramid.{Family, area, levelOf, offspringOf, magnitude, maxD, maxL}
 use Rattle.rules.specs.Document.Passes.{Entry, typeA, typeB, set?, stays, members, opened, added, truth, Side, Course, listed, listing, done}
 use Rattle.rules.specs.Document.Calls.{levelPlaces}
-use Rattle.rules.specs.Laws.Count.{All, _∈_, some-in}
-use Rattle.rules.specs.Laws.Family.{Lawful, level-some, offspring-descend, grandchild, grandchild-in}
-use Rattle.rules.specs.Laws.Sizes.{Legal, legal}
+use Rattle.rules.specs.Laws.Counting.Sums.{All, _∈_, some-in}
+use Rattle.rules.specs.Laws.Family.Lawful.{Lawful, level-some, offspring-descend, grandchild, grandchild-in}
+use Rattle.rules.specs.Laws.Family.Sizes.{Legal, legal}
 use Rattle.rules.specs.Laws.Offspring.Level.{level-most}
 use Rattle.rules.specs.Laws.Offspring.Kin.{offspring-level}
 use Rattle.rules.specs.Laws.Offspring.Lawful.{lawful}
-use Rattle.rules.specs.Laws.Offspring.Tests.{inLevel-A, inLevel-B, added-A}
-use Rattle.rules.specs.Laws.Maxima.{maxD-A, maxL-B}
-use Rattle.rules.specs.Laws.PassLevels.{Met, nodeOf, met-settled, settled-offspring, typeA-met}
-use Rattle.rules.specs.Laws.PassSteps.{triedAll, walk-stays, walk-opens}
-use Rattle.rules.specs.Laws.Slots.{Room, room-past, room-open, room-tests, room-slots, room-held}
-use Rattle.rules.specs.Laws.StateRecord.{node-area}
+use Rattle.rules.specs.Laws.Offspring.Sets.{inLevel-A, inLevel-B, added-A}
+use Rattle.rules.specs.Laws.Family.Maxima.{maxD-A, maxL-B}
+use Rattle.rules.specs.Laws.Pass.Levels.{Met, nodeOf, met-settled, settled-offspring, typeA-met}
+use Rattle.rules.specs.Laws.Pass.Steps.{triedAll, walk-stays, walk-opens}
+use Rattle.rules.specs.Laws.Pass.Slots.{Room, room-past, room-open, room-tests, room-slots, room-held}
+use Rattle.rules.specs.Laws.State.Record.{node-area}
 use Rattle.shape.specs.Offspring.{offspringList}
 use Rattle.shape.specs.declared.Offspring.the-variants.{Block}
-use Rattle.rules.specs.Laws.Sizes.{area-bound}
+use Rattle.rules.specs.Laws.Family.Sizes.{area-bound}
 use Rattle.shape.specs.Nodes.{Node}
 use Rattle.bits.specs.declared.BitPosition.{BitPosition}
 use Rattle.bits.specs.declared.BitRead.{BitRead}
@@ -39,7 +39,7 @@ use Rattle.lists.specs.Stretch.{waiting, setRoom, held, past, Fits, SetAdded, S
 use Rattle.testing.specs.declared.Run.{Run}
 use Rattle.testing.specs.declared.Stand.{Stand}
 use Rattle.testing.specs.Exchange.{Chan, chan, familyOf, answer, Replied}
-use Rattle.testing.specs.Tests.{courseOf, course, Tested, tested-none}
+use Rattle.testing.specs.Finding.{courseOf, course, Tested, tested-none}
 use Rattle.passes.specs.Steps.{visitsOf, Proper, Added, Opened, Opening, hasMember, Queued, InHand, Weighed}
 
 -- the four offspring of a block, tested

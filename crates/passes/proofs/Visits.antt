@@ -9,17 +9,17 @@ use lib.ListN.{length}
 use lib.IntN.{ℤ}
 use Rattle.rules.specs.Document.Pyramid.{Family}
 use Rattle.rules.specs.Document.Passes.{Entry, moves, inLevel, Side, Course, listed, listing, done}
-use Rattle.rules.specs.Laws.Family.{Lawful}
-use Rattle.rules.specs.Laws.Sizes.{legal}
+use Rattle.rules.specs.Laws.Family.Lawful.{Lawful}
+use Rattle.rules.specs.Laws.Family.Sizes.{legal}
 use Rattle.rules.specs.Laws.Offspring.Lawful.{lawful}
-use Rattle.rules.specs.Laws.PassSteps.{walk-moves}
-use Rattle.rules.specs.Laws.Slots.{Room, room-past}
+use Rattle.rules.specs.Laws.Pass.Steps.{walk-moves}
+use Rattle.rules.specs.Laws.Pass.Slots.{Room, room-past}
 use Rattle.lists.specs.declared.Fill.{Fill}
 use Rattle.lists.specs.Stretch.{setRoom, held, past, Fits, NextSet, SetMoved}
 use Rattle.testing.specs.declared.Run.{Run}
 use Rattle.testing.specs.declared.Stand.{Stand}
 use Rattle.testing.specs.Exchange.{Chan, chan, familyOf}
-use Rattle.testing.specs.Tests.{courseOf, course}
+use Rattle.testing.specs.Finding.{courseOf, course}
 use Rattle.passes.specs.Steps.{visitsOf, Proper, hasMember, Queued, Underway, InHand, Weighed, Visited}
 
 module _ (run : Run) (P : Proper run) where

@@ -8,15 +8,15 @@ use lib.ListN.{length}
 use lib.IntN.{ℤ}
 use Rattle.rules.specs.Document.Pyramid.{Family, legalSize, levels, mostPlanes}
 use Rattle.rules.specs.Document.Passes.{Entry, typeA, typeB, inLevel, opened, added, Lists, Side, Course, listing, passed}
-use Rattle.rules.specs.Laws.PassSteps.{triedAll, visitedAll}
-use Rattle.rules.specs.Laws.PassLevels.{Met}
-use Rattle.rules.specs.Laws.Slots.{Room}
+use Rattle.rules.specs.Laws.Pass.Steps.{triedAll, visitedAll}
+use Rattle.rules.specs.Laws.Pass.Levels.{Met}
+use Rattle.rules.specs.Laws.Pass.Slots.{Room}
 use Rattle.lists.specs.declared.Fill.{Fill}
 use Rattle.lists.specs.Stretch.{known, held, Fits}
 use Rattle.testing.specs.declared.Run.{Run}
 use Rattle.testing.specs.declared.Stand.{Stand}
 use Rattle.testing.specs.Exchange.{Chan, chan, familyOf}
-use Rattle.testing.specs.Tests.{course}
+use Rattle.testing.specs.Finding.{course}
 use Rattle.testing.specs.Growing.{Growth}
 
 -- What holds of every run.

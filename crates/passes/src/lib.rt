@@ -7,7 +7,7 @@ ghost use lib.ListN.{length};
 ghost use Rattle.rules.specs.Document.Notation.{greatest};
 ghost use Rattle.rules.specs.Document.Pyramid.{mostArea, offspringOf, magnitude};
 ghost use Rattle.rules.specs.Document.Passes.{typeA, typeB, set?, members};
-ghost use Rattle.rules.specs.Laws.PassLevels.{Met};
+ghost use Rattle.rules.specs.Laws.Pass.Levels.{Met};
 ghost use Rattle.shape.specs.Offspring.{offspringList};
 ghost use Rattle.shape.specs.Nodes.{Node};
 ghost use Rattle.lists.specs.Stretch.{setRoom, entryOf, indexOf, Fits};

@@ -16,9 +16,9 @@ use Rattle.rules.specs.Document.Numbers.{topLevel}
 use Rattle.rules.specs.Document.Passes.{PartName, from}
 use Rattle.rules.specs.Document.Layout.{reached}
 use Rattle.rules.specs.Document.Calls.{levelPlaces, planeIn, reachedPlane, reachedPlanes}
-use Rattle.rules.specs.Laws.Sizes.{legal}
-use Rattle.rules.specs.Laws.Usable.{reached-none, reached-beyond}
-use Rattle.rules.specs.Laws.OneWalk.{usableNow, reachedNow}
+use Rattle.rules.specs.Laws.Family.Sizes.{legal}
+use Rattle.rules.specs.Laws.Reading.Usable.{reached-none, reached-beyond}
+use Rattle.rules.specs.Laws.Reading.OneWalk.{usableNow, reachedNow}
 
 -- the plane that level k reached, of planes that stand level 1 first
 abbrev pub reachedAt : List Plane → ℕ → ℕ

@@ -6,7 +6,7 @@ ghost use Prim.Native.Nat.{_-_, _≤_, _<_};
 ghost use lib.ListN.{length, set};
 ghost use Rattle.rules.specs.Document.Pyramid.{legalSize, mostPlanes};
 ghost use Rattle.rules.specs.Document.Calls.{levelPlaces, reachedPlanes};
-ghost use Rattle.rules.specs.Laws.OneWalk.{usableNow};
+ghost use Rattle.rules.specs.Laws.Reading.OneWalk.{usableNow};
 ghost use Rattle.record.specs.Named.{nameBy};
 ghost use Rattle.reached.specs.Planes.{reachedAt};
 use rules::Header;

@@ -27,9 +27,9 @@ use Rattle.rules.specs.Document.Passes.{PartName}
 use Rattle.rules.specs.Document.Layout.{readNumber, version, bytesFor, padClear, bodyOf, nameOf}
 use Rattle.rules.specs.Document.Numbers.{headNumber, judgedHeader, mostBits, partNumber, follows, legalHead, judgedPart, topLevel}
 use Rattle.record.specs.Named.{unreadHeader, unread, wholePart}
-use Rattle.rules.specs.Laws.Sizes.{Legal, legal}
-use Rattle.rules.specs.Laws.Tests.{both-right}
-use Rattle.rules.specs.Laws.Reading.{NumberStands, readNumber-stands}
+use Rattle.rules.specs.Laws.Family.Sizes.{Legal, legal}
+use Rattle.rules.specs.Laws.Counting.Booleans.{both-right}
+use Rattle.rules.specs.Laws.Reading.Stands.{NumberStands, readNumber-stands}
 
 abbrev pub NoValue : Number → Type 0
 NoValue x = OneOf (1 ∷ 2 ∷ 3 ∷ []) (tagOf the-type x)

@@ -1,3 +1,4 @@
 pub mod Cases
 pub mod Document
+pub mod Promises
 pub mod Laws

@@ -25,11 +25,12 @@ use Rattle.rules.specs.Document.Pyramid.{legalSize}
 use Rattle.rules.specs.Document.Passes.{PartName}
 use Rattle.rules.specs.Document.Layout.{wholeOf, nameOf}
 use Rattle.rules.specs.Document.Numbers.{Ending, tail, fault, Reading, readHeader, readPart, readParts, topLevel}
-use Rattle.rules.specs.Document.Calls.{refused, accepted, unless, onHeader, onEnding, legalAsk, keptOf, servedBytes, Portion, portioned, serving, filled, serveOut, serveAnswer, Serving}
-use Rattle.rules.specs.Laws.Reading.{HeaderStands, readHeader-stands, header-legal, header-within, PartStands, readPart-stands, part-further}
-use Rattle.rules.specs.Laws.Walk.{partsFrom, readParts-from, partsFrom-part, partsFrom-tail, partsFrom-fault}
-use Rattle.rules.specs.Laws.Output.{clipped, clipped-nothing, clipped-length, clipped-append, clipped-fits}
-use Rattle.rules.specs.Laws.Selection.{whole-length}
+use Rattle.rules.specs.Document.Calls.{refused, accepted, unless, onHeader, onEnding, legalAsk, keptOf, servedBytes, Portion, portioned, serving}
+use Rattle.rules.specs.Document.Calls.{filled, serveOut, serveAnswer, Serving}
+use Rattle.rules.specs.Laws.Reading.Stands.{HeaderStands, readHeader-stands, header-legal, header-within, PartStands, readPart-stands, part-further}
+use Rattle.rules.specs.Laws.Reading.Walk.{partsFrom, readParts-from, partsFrom-part, partsFrom-tail, partsFrom-fault}
+use Rattle.rules.specs.Laws.Bytes.Output.{clipped, clipped-nothing, clipped-length, clipped-append, clipped-fits}
+use Rattle.rules.specs.Laws.Serving.Selection.{whole-length}
 use Rattle.server.specs.declared.Ended.{Ended}
 use Rattle.server.specs.declared.Ended.the-variants.{Whole, Fault}
 use Rattle.server.specs.Walk.{Refusing, Copies, Kept, Begun, endOf, result, Walked}

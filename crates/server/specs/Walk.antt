@@ -15,7 +15,7 @@ use Rattle.rules.specs.declared.Served.{Served}
 use Rattle.rules.specs.Document.Notation.{zeros}
 use Rattle.rules.specs.Document.Numbers.{Ending, tail, fault, readHeader, readParts}
 use Rattle.rules.specs.Document.Calls.{keptOf, servedBytes}
-use Rattle.rules.specs.Laws.Output.{clipped}
+use Rattle.rules.specs.Laws.Bytes.Output.{clipped}
 use Rattle.server.specs.declared.Ended.{Ended}
 use Rattle.server.specs.declared.Ended.the-variants.{Whole, Fault}
 

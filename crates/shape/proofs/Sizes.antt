@@ -10,7 +10,7 @@ use borrow.Author.Tests.{le-leb, lt-leb, ne-eqb}
 use Rattle.rules.specs.declared.Size.{Size}
 use Rattle.rules.specs.Document.Pyramid.{leastSide, greatestSide, mostArea, mostDecompositions, legalSide, legalSize}
 use Rattle.rules.specs.Document.Pyramid.{levels, row, column, within, offspringOf}
-use Rattle.rules.specs.Laws.Sizes.{span, levelStart, levelEnd, legal, area-bound, levelStart-top, levelSize-end, span-most}
+use Rattle.rules.specs.Laws.Family.Sizes.{span, levelStart, levelEnd, legal, area-bound, levelStart-top, levelSize-end, span-most}
 use Rattle.rules.specs.Laws.Offspring.Level.{within-true}
 use Rattle.shape.specs.declared.Offspring.the-variants.{Nothing, Block}
 use Rattle.shape.specs.Offspring.{offspringList, folded, block-first, offspring-band}

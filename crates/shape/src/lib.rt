@@ -7,7 +7,7 @@ ghost use mathlib.Core.Bool.{true};
 ghost use Prim.Native.Nat.{_*_, _≤_, _<_};
 ghost use Rattle.rules.specs.Document.Pyramid.{greatestSide, mostDecompositions, legalSide, legalSize};
 ghost use Rattle.rules.specs.Document.Pyramid.{within, levels, offspringOf};
-ghost use Rattle.rules.specs.Laws.Sizes.{span, levelStart, levelEnd, levelSize};
+ghost use Rattle.rules.specs.Laws.Family.Sizes.{span, levelStart, levelEnd, levelSize};
 ghost use Rattle.shape.specs.Offspring.{offspringList, folded};
 ghost use Rattle.shape.specs.Nodes.{Node};
 

@@ -17,8 +17,8 @@ use Rattle.rules.specs.Document.Pyramid.{legalSize}
 use Rattle.rules.specs.Document.Passes.{PartName}
 use Rattle.rules.specs.Document.Layout.{nameOf}
 use Rattle.rules.specs.Document.Numbers.{Reading, readHeader, readPart, readParts}
-use Rattle.rules.specs.Laws.Reading.{readHeader-stands, header-legal, header-within, readPart-stands, part-further}
-use Rattle.rules.specs.Laws.Walk.{partsFrom, readParts-from, partsFrom-part, partsFrom-tail, partsFrom-fault}
+use Rattle.rules.specs.Laws.Reading.Stands.{readHeader-stands, header-legal, header-within, readPart-stands, part-further}
+use Rattle.rules.specs.Laws.Reading.Walk.{partsFrom, readParts-from, partsFrom-part, partsFrom-tail, partsFrom-fault}
 use Rattle.survey.specs.declared.Survey.{Survey}
 use Rattle.survey.specs.Surveyed.{refusedWith, endedWith, walkedWith, headedWith, surveyOf, partBehind, partAt}
 

@@ -20,8 +20,8 @@ use Rattle.rules.specs.declared.PartRead.the-variants as part
 use Rattle.rules.specs.Document.Passes.{PartName}
 use Rattle.rules.specs.Document.Numbers.{Ending, tail, fault, readHeader, readParts}
 use Rattle.rules.specs.Document.Calls.{Result, refused, unless, onHeader, onEnding, Portion, portioned, serving, serveAnswer, Serving}
-use Rattle.rules.specs.Laws.Reading.{readPart-stands, part-further}
-use Rattle.rules.specs.Laws.Serving.{asks-all, serving-all}
+use Rattle.rules.specs.Laws.Reading.Stands.{readPart-stands, part-further}
+use Rattle.rules.specs.Laws.Serving.Served.{asks-all, serving-all}
 use Rattle.survey.specs.declared.Survey.{Survey}
 use Rattle.survey.specs.Surveyed.{refusedWith, endedWith, headedWith, surveyOf, longest, listedOf, partBehind, partAt}
 

@@ -1,3 +1,3 @@
 pub mod Leaves
-pub mod Tests
+pub mod Finding
 pub mod Refining

@@ -8,9 +8,9 @@ use lib.IntN.{ℤ}
 use Rattle.bits.specs.declared.BitPosition.{BitPosition}
 use Rattle.bits.specs.declared.BitRead.{BitRead}
 use Rattle.rules.specs.Document.Passes.{bit?, refined, Side}
-use Rattle.rules.specs.Laws.PassSteps.{bitNoted, sharpened, sharpenedAll, sharpenedAll-append}
+use Rattle.rules.specs.Laws.Pass.Steps.{bitNoted, sharpened, sharpenedAll, sharpenedAll-append}
 use Rattle.rules.specs.Document.Pyramid.{magnitude}
-use Rattle.rules.specs.Laws.Count.{sum, is, sum-append}
+use Rattle.rules.specs.Laws.Counting.Sums.{sum, is, sum-append}
 use Rattle.lists.specs.Seg.{seg}
 use Rattle.lists.specs.Stretch.{lspFrom, known, known-add, known-none}
 use Rattle.testing.specs.declared.Run.{Run}

@@ -11,10 +11,10 @@ use lib.Seq.{getD-set-same, getD-set-other, set-out}
 use lib.IntN.{ℤ, pos, negsuc, natAbs}
 use Rattle.rules.specs.Document.Pyramid.{Family, magnitude}
 use Rattle.rules.specs.Document.Passes.{toLsp, refined, Side, listed, listing, signed, grown, written}
-use Rattle.rules.specs.Laws.PassSteps.{signNoted, bitNoted}
-use Rattle.rules.specs.Laws.Count.{sum, is, is-same}
-use Rattle.rules.specs.Laws.PassKept.{Kept}
-use Rattle.rules.specs.Laws.Rounding.{signed-magnitude}
+use Rattle.rules.specs.Laws.Pass.Steps.{signNoted, bitNoted}
+use Rattle.rules.specs.Laws.Counting.Sums.{sum, is, is-same}
+use Rattle.rules.specs.Laws.Pass.Kept.{Kept}
+use Rattle.rules.specs.Laws.Rounding.TowardZero.{signed-magnitude}
 use Rattle.testing.specs.declared.Run.{Run}
 use Rattle.testing.specs.Exchange.{Chan, noted, side, quiet-toLip, quiet-stays, quiet-moves}
 

@@ -3,7 +3,7 @@ use mathlib.Core.Path.{sym, _∙_}
 use native.Mathlib.Omega.{arith}
 use borrow.Author.Needs.{needs}
 use borrow.Author.Tests.{not-true, not-false}
-use Rattle.rules.specs.Laws.Sizes.{area-bound}
+use Rattle.rules.specs.Laws.Family.Sizes.{area-bound}
 use Rattle.coder.proofs.Outcomes.{judged-size, judged-length, judged-work, judged-range, judged-accepted}
 use Rattle.coder.proofs.judged.Statement.{statement}
 use Rattle.coder.proofs.judged.Tie as tie

@@ -1,7 +1,7 @@
 -- `coder::put_head`: the body makes way, then the head is written.
 use native.Mathlib.Omega.{arith}
 use borrow.Author.Needs.{needs}
-use Rattle.rules.specs.Laws.NumberBytes.{numberBytes-length}
+use Rattle.rules.specs.Laws.Bytes.Numbers.{numberBytes-length}
 use Rattle.coder.proofs.Heads.{wrote-near, headed-of}
 use Rattle.coder.proofs.put_head.Statement.{statement}
 use Rattle.coder.proofs.put_head.Tie as tie

@@ -1,7 +1,7 @@
 -- `coder::write_header`: five numbers, one after the other.
 use native.Mathlib.Omega.{arith}
 use borrow.Author.Needs.{needs}
-use Rattle.rules.specs.Laws.Sizes.{legal}
+use Rattle.rules.specs.Laws.Family.Sizes.{legal}
 use Rattle.coder.proofs.Heads.{wrote-none, wrote-more, number-near}
 use Rattle.coder.proofs.write_header.Statement.{statement}
 use Rattle.coder.proofs.write_header.Tie as tie

@@ -2,7 +2,7 @@
 use native.Mathlib.Numerals.{add-one}
 use native.Mathlib.Omega.{arith}
 use borrow.Author.Needs.{needs}
-use Rattle.rules.specs.Laws.Sizes.{legal}
+use Rattle.rules.specs.Laws.Family.Sizes.{legal}
 use Rattle.coder.specs.Writing.{stageOf}
 use Rattle.coder.proofs.Turns.{LevelsLeft, levels-begin, levels-due, levels-turn, levels-end}
 use Rattle.coder.proofs.write_plane.Statement.{statement}

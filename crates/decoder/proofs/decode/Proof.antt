@@ -1,5 +1,6 @@
 use native.Mathlib.Omega.{arith}
-use Rattle.decoder.proofs.LawsAnswer.{header-area, header-lent, decoding-refused, decoding-length, decoding-work, decoding-parts, answered-decoding, refusing-decoding}
+use Rattle.decoder.proofs.LawsAnswer.{header-area, header-lent, decoding-refused, decoding-length, decoding-work, decoding-parts}
+use Rattle.decoder.proofs.LawsAnswer.{answered-decoding, refusing-decoding}
 use borrow.Author.Needs.{needs}
 use Rattle.decoder.proofs.decode.Statement.{statement}
 use Rattle.decoder.proofs.decode.Tie as tie

@@ -2,7 +2,7 @@
 use mathlib.Core.Path.{sym, _∙_}
 use native.Mathlib.Omega.{arith}
 use borrow.Author.Tests.{not-true, not-false}
-use Rattle.rules.specs.Laws.Sizes.{area-bound}
+use Rattle.rules.specs.Laws.Family.Sizes.{area-bound}
 use Rattle.grey.proofs.Judged.{judged-size, judged-length, judged-work, judged-fits}
 use borrow.Author.Needs.{needs}
 use Rattle.grey.proofs.judged_in.Statement.{statement}

@@ -2,7 +2,7 @@
 use mathlib.Core.Path.{refl, ap, _∙_}
 use native.Mathlib.Omega.{arith}
 use Rattle.rules.specs.Document.Notation.{zeros}
-use Rattle.rules.specs.Laws.Sizes.{legal}
+use Rattle.rules.specs.Laws.Family.Sizes.{legal}
 use Rattle.grey.proofs.Taking.{loaded-splitting, loaded-lifted}
 use borrow.Author.Needs.{needs}
 use Rattle.grey.proofs.lift.Statement.{statement}

@@ -3,7 +3,7 @@ use Rattle.grey.proofs.Printing.{joining, joined-numbers}
 use mathlib.Core.Path.{ap, _∙_}
 use native.Mathlib.Omega.{arith}
 use Rattle.rules.specs.Document.Notation.{zeros}
-use Rattle.rules.specs.Laws.Sizes.{area-bound}
+use Rattle.rules.specs.Laws.Family.Sizes.{area-bound}
 use Rattle.grey.proofs.Printing.{pixels-printed}
 use borrow.Author.Needs.{needs}
 use Rattle.grey.proofs.print_pixels.Statement.{statement}

@@ -2,7 +2,7 @@
 use Prim.Native.Nat.{_≤_}
 use native.Mathlib.Omega.{arith}
 use borrow.Author.Needs.{needs}
-use Rattle.rules.specs.Laws.Sizes.{legal}
+use Rattle.rules.specs.Laws.Family.Sizes.{legal}
 use Rattle.lifting.specs.Pictures.{Joining}
 use Rattle.lifting.proofs.BackStages.{BackStage, back-block, back-start, block-joining, turn-asks, turn-next, back-end}
 use Rattle.lifting.proofs.join_pyramid.Statement.{statement}

@@ -1,7 +1,7 @@
 -- `lifting::turn_of`: the sides are small enough.
 use native.Mathlib.Omega.{arith}
 use borrow.Author.Needs.{needs}
-use Rattle.rules.specs.Laws.Sizes.{legal, area-bound}
+use Rattle.rules.specs.Laws.Family.Sizes.{legal, area-bound}
 use Rattle.lifting.proofs.turn_of.Statement.{statement}
 use Rattle.lifting.proofs.turn_of.Tie as tie
 

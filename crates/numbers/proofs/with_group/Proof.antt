@@ -1,7 +1,7 @@
 -- `numbers::with_group` meets its contract.
 use mathlib.Core.Path.{refl}
 use native.Mathlib.Omega.{arith}
-use Rattle.rules.specs.Laws.NumberBytes.{group-below}
+use Rattle.rules.specs.Laws.Bytes.Numbers.{group-below}
 use Rattle.numbers.proofs.with_group.Statement.{statement}
 use Rattle.numbers.proofs.with_group.Tie as tie
 

@@ -1,6 +1,6 @@
 use native.Mathlib.Omega.{arith}
 use mathlib.Core.Path.{refl, ap}
-use Rattle.rules.specs.Laws.Sizes.{legal}
+use Rattle.rules.specs.Laws.Family.Sizes.{legal}
 use Rattle.parts.proofs.States.{handed-none, handing-over, handed-over, next-few, next-more}
 use borrow.Author.Needs.{needs}
 use Rattle.parts.proofs.hand_moved.Statement.{statement}

@@ -3,7 +3,7 @@ use native.Mathlib.Omega.{arith}
 use Prim.Native.Nat.{_-_}
 use lib.ListN.{length}
 use Rattle.rules.specs.Document.Passes.{rows, bandLL}
-use Rattle.rules.specs.Laws.Sizes.{legal}
+use Rattle.rules.specs.Laws.Family.Sizes.{legal}
 use Rattle.parts.proofs.Begin.{Left, left-band, left-first, left-rest, left-none, rows-next, rows-none, row-under}
 use borrow.Author.Needs.{needs}
 use Rattle.parts.proofs.list_band.Statement.{statement}

@@ -1,4 +1,4 @@
-use Rattle.rules.specs.Laws.Sizes.{legal}
+use Rattle.rules.specs.Laws.Family.Sizes.{legal}
 use Rattle.parts.proofs.Begin.{offspring-no, offspring-yes}
 use native.Mathlib.Omega.{arith}
 use Rattle.shape.specs.Offspring.{offspringList}

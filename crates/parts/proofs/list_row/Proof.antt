@@ -1,4 +1,4 @@
-use Rattle.rules.specs.Laws.Sizes.{legal}
+use Rattle.rules.specs.Laws.Family.Sizes.{legal}
 use mathlib.Core.Path.{_≡_, refl}
 use native.Mathlib.Omega.{arith}
 use Prim.Native.Nat.{_-_}

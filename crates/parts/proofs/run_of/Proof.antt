@@ -1,5 +1,5 @@
 use native.Mathlib.Omega.{arith}
-use Rattle.rules.specs.Laws.Sizes.{legal}
+use Rattle.rules.specs.Laws.Family.Sizes.{legal}
 use Rattle.parts.proofs.Parts.{run-is}
 use borrow.Author.Needs.{needs}
 use Rattle.parts.proofs.run_of.Statement.{statement}

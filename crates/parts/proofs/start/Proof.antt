@@ -1,5 +1,5 @@
 use native.Mathlib.Omega.{arith}
-use Rattle.rules.specs.Laws.Sizes.{legal}
+use Rattle.rules.specs.Laws.Family.Sizes.{legal}
 use Rattle.parts.proofs.Begin.{top-size, top-under, top-room, band-listing, started}
 use borrow.Author.Needs.{needs}
 use Rattle.parts.proofs.start.Statement.{statement}

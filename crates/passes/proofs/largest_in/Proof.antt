@@ -1,7 +1,7 @@
 use mathlib.Core.Path.{_∙_, ap, sym, subst}
 use native.Mathlib.Omega.{arith}
 use Rattle.lists.specs.Stretch.{entryOf}
-use Rattle.rules.specs.Laws.PassLevels.{Met}
+use Rattle.rules.specs.Laws.Pass.Levels.{Met}
 use Rattle.rules.specs.Document.Notation.{greatest}
 use Rattle.rules.specs.Document.Pyramid.{magnitude}
 use Rattle.rules.specs.Document.Passes.{members}

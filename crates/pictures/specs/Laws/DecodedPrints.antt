@@ -12,8 +12,8 @@ use Rattle.rules.specs.declared.Size.{Size}
 use Rattle.rules.specs.declared.Refusal.the-variants as refusal
 use Rattle.rules.specs.Document.Pyramid.{legalSize, area}
 use Rattle.rules.specs.Document.Calls.{Result, refused, accepted, unless, workFor, firstOver, Picture, decoding}
-use Rattle.rules.specs.Laws.Planes.{none-over}
-use Rattle.rules.specs.Laws.Magnitudes.{decoded-most}
+use Rattle.rules.specs.Laws.Rounding.Planes.{none-over}
+use Rattle.rules.specs.Laws.Rounding.Magnitudes.{decoded-most}
 use Rattle.pictures.specs.Document.Lifting.{pictureOf}
 use Rattle.pictures.specs.Document.Calls.{mostDecoded, GreyPrint, printOf, printed, greyOut}
 

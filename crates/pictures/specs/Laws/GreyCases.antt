@@ -9,7 +9,7 @@ use lib.Dec.{leb, eqb}
 use lib.ListN.{length, getD, take, drop, length-append}
 use borrow.Author.Tests.{leb-true, leb-false, le-leb, lt-leb, eqb-true, eqb-false, eq-eqb, ne-eqb, not-true}
 use Rattle.rules.specs.Document.Notation.{every}
-use Rattle.rules.specs.Laws.Tests.{clash, both-left, both-right, not-test}
+use Rattle.rules.specs.Laws.Counting.Booleans.{clash, both-left, both-right, not-test}
 use Rattle.pictures.specs.Document.Netpbm.{lineEnd, blank, hash, gapByte, digit, begins, afterComment, afterBlanks, afterGap, Digits, number}
 use Rattle.pictures.specs.Document.Netpbm.{GreyHeader, noHeader, header, isP5, onMagic, onNumber, lastBlank, onEnd, greatestPixel, readGrey}
 use Rattle.pictures.specs.Document.Netpbm.{GreyFile, notGrey, picture, pixelsThere, taken, readFile}

@@ -13,7 +13,7 @@ use borrow.Author.Tests.{le-leb, lt-ltb, le-ltb}
 use Rattle.rules.specs.declared.Size.{Size}
 use Rattle.rules.specs.Document.Notation.{every}
 use Rattle.rules.specs.Document.Pyramid.{area}
-use Rattle.rules.specs.Laws.Tests.{clash, every-append, both}
+use Rattle.rules.specs.Laws.Counting.Booleans.{clash, every-append, both}
 use Rattle.pictures.specs.Document.Netpbm.{lineEnd, blank, hash, gapByte, digit, begins, greatestPixel, readGrey, header, GreyFile, notGrey, picture}
 use Rattle.pictures.specs.Document.Netpbm.{pixelsThere, taken, readFile, digitsUpTo, decimal, greyLines, greyFile}
 use Rattle.pictures.specs.Laws.GreyCauses.{InLine, Gap, no-more, worth, Field, Fields, none, next, End, Magic, GreyCase}

@@ -15,11 +15,11 @@ use Rattle.rules.specs.Document.Numbers.{verdictNumber}
 use Rattle.rules.specs.Document.Layout.{recordOf}
 use Rattle.rules.specs.Document.Calls.{Result, refused, accepted, workFor, filled, coding, codeNumbers, codeAnswer, codePlaces, AfsCode, decodePlaces}
 use Rattle.rules.specs.Document.Calls.{AfsDecode}
-use Rattle.rules.specs.Laws.Results.{number-accepts}
-use Rattle.rules.specs.Laws.Demands.{Codable, Stated, enoughRoom}
-use Rattle.rules.specs.Laws.Exports.{afsCode-codes}
-use Rattle.rules.specs.Laws.RecordRoom.{coding-accepts}
-use Rattle.rules.specs.Laws.MemoryProofs.{from-memory-to-memory}
+use Rattle.rules.specs.Laws.Calls.Results.{number-accepts}
+use Rattle.rules.specs.Promises.Vocabulary.{Codable, Stated, enoughRoom}
+use Rattle.rules.specs.Laws.Calls.Exports.{afsCode-codes}
+use Rattle.rules.specs.Laws.Bytes.Room.{coding-accepts}
+use Rattle.rules.specs.Laws.Calls.Memory.{from-memory-to-memory}
 use Rattle.pictures.specs.declared.GreyRead.{GreyRead}
 use Rattle.pictures.specs.declared.GreyWritten.{GreyWritten}
 use Rattle.pictures.specs.Document.Lifting.{pyramidOf}

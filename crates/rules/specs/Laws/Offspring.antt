@@ -8,4 +8,4 @@ pub mod Lawful
 pub mod Once
 pub mod Start
 pub mod Counts
-pub mod Tests
+pub mod Sets

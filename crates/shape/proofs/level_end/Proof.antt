@@ -1,6 +1,6 @@
 -- `shape::level_end`: where the next finer level begins.
 use borrow.Author.Needs.{needs}
-use Rattle.rules.specs.Laws.Sizes.{levelEnd}
+use Rattle.rules.specs.Laws.Family.Sizes.{levelEnd}
 use Rattle.shape.proofs.level_end.Statement.{statement}
 use Rattle.shape.proofs.level_end.Tie as tie
 

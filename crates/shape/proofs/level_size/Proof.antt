@@ -3,7 +3,7 @@ use mathlib.Core.Path.{ap₂}
 use Prim.Native.Nat.{ℕ, _-_}
 use native.Mathlib.Omega.{arith}
 use borrow.Author.Needs.{needs}
-use Rattle.rules.specs.Laws.Sizes.{levelSize}
+use Rattle.rules.specs.Laws.Family.Sizes.{levelSize}
 use Rattle.shape.proofs.Sizes.{start-before}
 use Rattle.shape.proofs.level_size.Statement.{statement}
 use Rattle.shape.proofs.level_size.Tie as tie

@@ -1,7 +1,7 @@
 -- `shape::level_start`: level N+1 begins at 0, another at its span.
 use mathlib.Core.Path.{sym, _∙_}
 use borrow.Author.Needs.{needs}
-use Rattle.rules.specs.Laws.Sizes.{levelStart-fine}
+use Rattle.rules.specs.Laws.Family.Sizes.{levelStart-fine}
 use Rattle.shape.proofs.Sizes.{start-zero}
 use Rattle.shape.proofs.level_start.Statement.{statement}
 use Rattle.shape.proofs.level_start.Tie as tie

@@ -1,6 +1,6 @@
 -- `shape::offspring_in`: by the level: the LL band, elsewhere, none.
 use native.Mathlib.Omega.{arith}
-use Rattle.rules.specs.Laws.Sizes.{area-bound}
+use Rattle.rules.specs.Laws.Family.Sizes.{area-bound}
 use Rattle.shape.specs.Nodes.{node-band, node-elsewhere, node-finest}
 use Rattle.shape.proofs.offspring_in.Statement.{statement}
 use Rattle.shape.proofs.offspring_in.Tie as tie

@@ -1,7 +1,7 @@
 -- `shape::offspring_in_band`: none for (even, even), else the block at the folded row and column.
 use native.Mathlib.Omega.{arith}
 use Rattle.shape.proofs.Sizes.{halved-small, band-row, column-small, first-small, band-none, band-block}
-use Rattle.rules.specs.Laws.Sizes.{legal}
+use Rattle.rules.specs.Laws.Family.Sizes.{legal}
 use Rattle.shape.proofs.offspring_in_band.Statement.{statement}
 use Rattle.shape.proofs.offspring_in_band.Tie as tie
 

@@ -1,8 +1,8 @@
 -- `shape::span_of`: the product of the halved sides is at most the area.
 use mathlib.Core.Path.{refl}
 use native.Mathlib.Omega.{arith}
-use Rattle.rules.specs.Laws.Sizes.{legal}
-use Rattle.rules.specs.Laws.Sizes.{span}
+use Rattle.rules.specs.Laws.Family.Sizes.{legal}
+use Rattle.rules.specs.Laws.Family.Sizes.{span}
 use Rattle.shape.proofs.Sizes.{span-small}
 use Rattle.shape.proofs.span_of.Statement.{statement}
 use Rattle.shape.proofs.span_of.Tie as tie

@@ -1,5 +1,5 @@
 use mathlib.Core.Path.{refl, sym, _∙_}
-use Rattle.rules.specs.Laws.Reading.{readHeader-stands, header-legal}
+use Rattle.rules.specs.Laws.Reading.Stands.{readHeader-stands, header-legal}
 use Rattle.survey.proofs.Laws.{found-at}
 use borrow.Author.Needs.{needs}
 use Rattle.survey.proofs.part_at.Statement.{statement}

@@ -1,5 +1,5 @@
 use native.Mathlib.Omega.{arith}
-use Rattle.testing.proofs.Tests.{choosing-waiting, chosen-waiting, choosing-four, chosen-first, chosen-below}
+use Rattle.testing.proofs.Finding.{choosing-waiting, chosen-waiting, choosing-four, chosen-first, chosen-below}
 use borrow.Author.Needs.{needs}
 use Rattle.testing.proofs.candidate.Statement.{statement}
 use Rattle.testing.proofs.candidate.Tie as tie

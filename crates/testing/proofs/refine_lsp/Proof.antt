@@ -2,7 +2,7 @@ use mathlib.Core.Path.{_≡_, refl, _∙_}
 use native.Mathlib.Omega.{arith}
 use Prim.Native.Nat.{_+_, _-_, _≤_}
 use lib.ListN.{length}
-use Rattle.rules.specs.Laws.PassSteps.{sharpenedAll}
+use Rattle.rules.specs.Laws.Pass.Steps.{sharpenedAll}
 use Rattle.lists.specs.Stretch.{known}
 use Rattle.testing.specs.Exchange.{chan, side}
 use Rattle.testing.proofs.Refining.{refined-none, refined-next, refining-small, refined-done}

@@ -1,4 +1,4 @@
-use Rattle.testing.proofs.Tests.{tested-insignificant, tested-significant}
+use Rattle.testing.proofs.Finding.{tested-insignificant, tested-significant}
 use mathlib.Core.Path.{refl}
 use borrow.Author.Needs.{needs}
 use Rattle.testing.proofs.test.Statement.{statement}

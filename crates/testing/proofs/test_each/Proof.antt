@@ -4,8 +4,8 @@ use Prim.Native.Nat.{_≤_, _-_}
 use lib.ListN.{length}
 use Rattle.lists.specs.Stretch.{waiting}
 use Rattle.testing.specs.Exchange.{side}
-use Rattle.testing.specs.Tests.{candidates, Tested}
-use Rattle.testing.proofs.Tests.{each-length, each-choosing, each-next, each-none, each-done}
+use Rattle.testing.specs.Finding.{candidates, Tested}
+use Rattle.testing.proofs.Finding.{each-length, each-choosing, each-next, each-none, each-done}
 use borrow.Author.Needs.{needs}
 use Rattle.testing.proofs.test_each.Statement.{statement}
 use Rattle.testing.proofs.test_each.Tie as tie

@@ -2,7 +2,7 @@
 use mathlib.Core.Path.{refl, sym}
 use native.Mathlib.Omega.{arith}
 use borrow.Author.Needs.{needs}
-use Rattle.rules.specs.Laws.ReadBackBody.{bit-past}
+use Rattle.rules.specs.Laws.Bytes.BodyBack.{bit-past}
 use Rattle.rules.specs.Document.Layout.{bitAt}
 use Rattle.bits.proofs.BitPosition.read.Statement.{statement}
 use Rattle.bits.proofs.BitPosition.read.Tie as tie

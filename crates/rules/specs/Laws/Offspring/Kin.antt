@@ -7,10 +7,11 @@ use native.Mathlib.Decide.{decLt, decLe}
 use lib.Pow.{shr-le}
 use Rattle.rules.specs.declared.Size.{Size}
 use Rattle.rules.specs.Document.Pyramid.{area, odd, row, column, levelOf, offspringOf}
-use Rattle.rules.specs.Laws.Count.{sum, is, _∈_, both-yes, both-eq, both-most}
-use Rattle.rules.specs.Laws.Sizes.{Legal, half-twice}
+use Rattle.rules.specs.Laws.Counting.Sums.{sum, is, _∈_, both-yes, both-eq, both-most}
+use Rattle.rules.specs.Laws.Family.Sizes.{Legal, half-twice}
 use Rattle.rules.specs.Laws.Offspring.Level.{Within, level-most, over-within, within-over, outside-level, row-area}
-use Rattle.rules.specs.Laws.Offspring.Block.{apart, apart-lt, apart-low, block-count, halfRows, halfColumns, offspring-band, offspring-inner, offspring-leaf}
+use Rattle.rules.specs.Laws.Offspring.Block.{apart, apart-lt, apart-low, block-count, halfRows, halfColumns, offspring-band, offspring-inner}
+use Rattle.rules.specs.Laws.Offspring.Block.{offspring-leaf}
 
 -- q is an offspring of p, by their rows and columns: p is in the LL band, or in one of the levels 2 to N.
 pub data Kin (z : Size) (p q : ℕ) : Type 0 where

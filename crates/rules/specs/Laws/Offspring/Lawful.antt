@@ -7,10 +7,11 @@ use native.Mathlib.Omega.{arith}
 use lib.ListN.{length}
 use Rattle.rules.specs.declared.Size.{Size}
 use Rattle.rules.specs.Document.Notation.{flat}
-use Rattle.rules.specs.Document.Pyramid.{family, area, odd, row, column, within, levelOf, block, offspringLL, offspringAt, offspringOf, generations, descendantsOf}
-use Rattle.rules.specs.Laws.Count.{_∈_, All, in-some, some-in, none-in, all-then, all-append, all-flat, every-all, all-every, flat-same}
-use Rattle.rules.specs.Laws.Family.{Lawful}
-use Rattle.rules.specs.Laws.Sizes.{Legal}
+use Rattle.rules.specs.Document.Pyramid.{family, area, odd, row, column, within, levelOf, block, offspringLL, offspringAt, offspringOf}
+use Rattle.rules.specs.Document.Pyramid.{generations, descendantsOf}
+use Rattle.rules.specs.Laws.Counting.Sums.{_∈_, All, in-some, some-in, none-in, all-then, all-append, all-flat, every-all, all-every, flat-same}
+use Rattle.rules.specs.Laws.Family.Lawful.{Lawful}
+use Rattle.rules.specs.Laws.Family.Sizes.{Legal}
 use Rattle.rules.specs.Laws.Offspring.Level.{level-most, level-least}
 use Rattle.rules.specs.Laws.Offspring.Block.{offspring-inner}
 use Rattle.rules.specs.Laws.Offspring.Kin.{offspring-area, offspring-level}

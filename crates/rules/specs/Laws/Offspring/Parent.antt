@@ -9,11 +9,13 @@ use lib.Dec.{eqb}
 use borrow.Author.Tests.{eq-eqb, ne-eqb}
 use Rattle.rules.specs.declared.Size.{Size}
 use Rattle.rules.specs.Document.Pyramid.{area, odd, index, row, column, levelOf, offspringOf}
-use Rattle.rules.specs.Laws.Count.{sum, is, is-count}
-use Rattle.rules.specs.Laws.Sizes.{Legal}
+use Rattle.rules.specs.Laws.Counting.Sums.{sum, is, is-count}
+use Rattle.rules.specs.Laws.Family.Sizes.{Legal}
 use Rattle.rules.specs.Laws.Offspring.Level.{Within, level-most, over-within, within-over, outside-level, column-lt, row-lt, level-area}
-use Rattle.rules.specs.Laws.Offspring.Block.{apart, together, together-lt, together-odd, apart-together, together-apart, row-index, column-index, index-place, halfRows, halfColumns}
-use Rattle.rules.specs.Laws.Offspring.Kin.{Kin, band, inner, rows-2, columns-2, rows-4, columns-4, band-row, band-column, halves, kin-offspring, offspring-kin, kin-level}
+use Rattle.rules.specs.Laws.Offspring.Block.{apart, together, together-lt, together-odd, apart-together, together-apart, row-index}
+use Rattle.rules.specs.Laws.Offspring.Block.{column-index, index-place, halfRows, halfColumns}
+use Rattle.rules.specs.Laws.Offspring.Kin.{Kin, band, inner, rows-2, columns-2, rows-4, columns-4, band-row, band-column, halves, kin-offspring}
+use Rattle.rules.specs.Laws.Offspring.Kin.{offspring-kin, kin-level}
 
 unfoldable pub parent : Size → ℕ → ℕ
 parent z q =

@@ -10,8 +10,9 @@ use Rattle.rules.specs.declared.Size.{Size}
 use Rattle.rules.specs.Document.Notation.{flat}
 use Rattle.rules.specs.Document.Pyramid.{family, area, levels, offspringOf, descendantsOf}
 use Rattle.rules.specs.Document.Passes.{typeA, members, from, bandLL, rootOf, start}
-use Rattle.rules.specs.Laws.Count.{All, sum, is, sum-append, sum-flat, sum-pointwise, sum-one, sum-ifAny, sum-once, all-of, all-append, all-flat, every-all, from-length}
-use Rattle.rules.specs.Laws.Sizes.{Legal, span}
+use Rattle.rules.specs.Laws.Counting.Sums.{All, sum, is, sum-append, sum-flat, sum-pointwise, sum-one, sum-ifAny, sum-once, all-of, all-append}
+use Rattle.rules.specs.Laws.Counting.Sums.{all-flat, every-all, from-length}
+use Rattle.rules.specs.Laws.Family.Sizes.{Legal, span}
 use Rattle.rules.specs.Laws.Offspring.Level.{level-area}
 use Rattle.rules.specs.Laws.Offspring.Grid.{band-sum}
 use Rattle.rules.specs.Laws.Offspring.Lawful.{descendants-area, lawful}
