@@ -16,8 +16,10 @@ use Rattle.rules.specs.declared.HeaderRead.the-variants as header
 use Rattle.rules.specs.declared.Decoded.{Decoded}
 use Rattle.rules.specs.Document.Pyramid.{area}
 use Rattle.rules.specs.Document.Numbers.{readHeader, readParts}
-use Rattle.rules.specs.Document.Calls.{Result, refused, accepted, unless, workFor, onHeader, Picture, decodedParts, decoding, decodeOut, decodeAnswer, Decoding}
-use Rattle.rules.specs.Laws.Family.Sizes.{Legal, legal}
+use Rattle.rules.specs.Document.Calls.{Result, refused, accepted, unless, workFor, onHeader, Picture, decodedParts, decoding, decodeOut, decodeAnswer}
+use Rattle.rules.specs.Document.Calls.{Decoding}
+use Rattle.rules.specs.Laws.Family.Sizes.{legal}
+use Rattle.rules.specs.Promises.Vocabulary.{Legal}
 use Rattle.rules.specs.Laws.Reading.Stands.{HeaderStands, readHeader-stands, header-legal, header-planes, header-within}
 use Rattle.decoder.specs.Walking.{Answered, Refusing, Accepting, Lent}
 

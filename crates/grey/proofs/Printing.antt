@@ -18,7 +18,8 @@ use Rattle.rules.specs.declared.Verdict.the-variants.{Accepted, Refused}
 use Rattle.rules.specs.Document.Notation.{zeros}
 use Rattle.rules.specs.Document.Pyramid.{legalSize, area, row, column, magnitude}
 use Rattle.rules.specs.Document.Calls.{Result, refused, accepted, unless, firstOver, filled}
-use Rattle.rules.specs.Laws.Family.Sizes.{Legal, legal}
+use Rattle.rules.specs.Laws.Family.Sizes.{legal}
+use Rattle.rules.specs.Promises.Vocabulary.{Legal}
 use Rattle.rules.specs.Laws.Rounding.Planes.{under-first}
 use Rattle.rules.specs.Laws.Bytes.Output.{clipped, clipped-nothing, clipped-append, clipped-fits}
 use Rattle.rules.specs.Laws.Offspring.Level.{column-lt, row-lt}

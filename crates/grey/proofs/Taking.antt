@@ -18,7 +18,8 @@ use Rattle.rules.specs.declared.Verdict.{Verdict}
 use Rattle.rules.specs.declared.Verdict.the-variants.{Accepted, Refused}
 use Rattle.rules.specs.Document.Pyramid.{legalSize, area, row, column}
 use Rattle.rules.specs.Document.Calls.{Result, refused, accepted, unless, workFor}
-use Rattle.rules.specs.Laws.Family.Sizes.{Legal, legal}
+use Rattle.rules.specs.Laws.Family.Sizes.{legal}
+use Rattle.rules.specs.Promises.Vocabulary.{Legal}
 use Rattle.rules.specs.Laws.Offspring.Level.{column-lt, row-lt}
 use Rattle.rules.specs.Laws.Offspring.Block.{index-place}
 use Rattle.pictures.specs.declared.Grey.{Grey}

@@ -13,7 +13,8 @@ use lib.ListN.{length, getD}
 use lib.Pow.{shr-le}
 use Rattle.rules.specs.declared.Size.{Size}
 use Rattle.rules.specs.Document.Pyramid.{magnitude, mostDecompositions}
-use Rattle.rules.specs.Laws.Family.Sizes.{Legal, legal, side-some, side-falls}
+use Rattle.rules.specs.Laws.Family.Sizes.{legal, side-some, side-falls}
+use Rattle.rules.specs.Promises.Vocabulary.{Legal}
 use Rattle.pictures.specs.Document.Lifting.{Line, Grid, even, odd, joined, turnBack}
 use Rattle.pictures.specs.Laws.Tones.{bias, toned, sub-below, sub-least, toned-even, toned-odd}
 use Rattle.pictures.specs.Laws.Turns.{Most, turnBack-outside, returned, returned-next, returned-back}

@@ -15,7 +15,8 @@ use lib.Pow.{shr-le}
 use borrow.Author.Tests.{lt-ltb, le-ltb}
 use Rattle.rules.specs.declared.Size.{Size}
 use Rattle.rules.specs.Document.Pyramid.{area, mostDecompositions}
-use Rattle.rules.specs.Laws.Family.Sizes.{Legal, legal, side-some}
+use Rattle.rules.specs.Laws.Family.Sizes.{legal, side-some}
+use Rattle.rules.specs.Promises.Vocabulary.{Legal}
 use Rattle.pictures.specs.Document.Lifting.{Line, Grid, high, low, split, columnsSplit, turn, forward}
 use Rattle.pictures.specs.Laws.Tones.{bias, toned, sub-below, sub-least, toned-high, toned-low}
 use Rattle.pictures.specs.Laws.Reversible.{by-block, rows-outside, columns-outside}

@@ -20,7 +20,8 @@ use Rattle.rules.specs.Document.Pyramid.{greatestSide, mostArea, legalSize, are
 use Rattle.rules.specs.Document.Passes.{typeA, Lists, from, rows, bandLL, rootOf, start}
 use Rattle.rules.specs.Document.Calls.{levelPlaces, workFor}
 use Rattle.rules.specs.Laws.Counting.Sums.{All, every-all, ifAny-some, flat-append}
-use Rattle.rules.specs.Laws.Family.Sizes.{Legal, legal, area-bound, span-most, levelStart, levelStart-top, levelSize, levelSize-top}
+use Rattle.rules.specs.Laws.Family.Sizes.{legal, area-bound, span-most, levelStart, levelStart-top, levelSize, levelSize-top}
+use Rattle.rules.specs.Promises.Vocabulary.{Legal}
 use Rattle.rules.specs.Laws.Pass.Slots.{room-slots}
 use Rattle.rules.specs.Laws.State.Record.{start-sound, part-room}
 use Rattle.rules.specs.Laws.Offspring.Level.{level-area}

@@ -22,7 +22,8 @@ use Rattle.rules.specs.Document.Numbers.{mostBits}
 use Rattle.rules.specs.Document.Calls.{levelPlaces, workFor}
 use Rattle.rules.specs.Laws.Counting.Sums.{_∈_, sum, is, All, all-of, all-then}
 use Rattle.rules.specs.Laws.Family.Lawful.{level-some, grandchild}
-use Rattle.rules.specs.Laws.Family.Sizes.{Legal, legal, area-bound, levelStart, levelSize}
+use Rattle.rules.specs.Laws.Family.Sizes.{legal, area-bound, levelStart, levelSize}
+use Rattle.rules.specs.Promises.Vocabulary.{Legal}
 use Rattle.rules.specs.Laws.Offspring.Level.{level-most}
 use Rattle.rules.specs.Laws.Offspring.Lawful.{lawful, descendants-level}
 use Rattle.rules.specs.Laws.Pass.Levels.{Placed, passed-level1}

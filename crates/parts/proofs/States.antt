@@ -14,7 +14,8 @@ use Rattle.rules.specs.declared.Level.{Level}
 use Rattle.rules.specs.Document.Pyramid.{levels}
 use Rattle.rules.specs.Document.Calls.{levelPlaces, workFor}
 use Rattle.rules.specs.Document.Passes.{Entry, Lists, State}
-use Rattle.rules.specs.Laws.Family.Sizes.{Legal, legal, area-bound, levelSize}
+use Rattle.rules.specs.Laws.Family.Sizes.{legal, area-bound, levelSize}
+use Rattle.rules.specs.Promises.Vocabulary.{Legal}
 use Rattle.lists.specs.Stretch.{sets-few, listsIn, sets-none}
 use Rattle.parts.specs.declared.Counts.{Counts}
 use Rattle.parts.specs.Standing.{stretchOf, countAt, withSets, nothing, listsAt, stateOf}

@@ -15,8 +15,9 @@ use Rattle.rules.specs.declared.Level.{Level}
 use Rattle.rules.specs.Document.Pyramid.{legalSize, area, levels}
 use Rattle.rules.specs.Document.Passes.{Side}
 use Rattle.rules.specs.Document.Calls.{workFor}
-use Rattle.rules.specs.Laws.Family.Sizes.{Legal, legal, area-bound, span, levelStart, levelEnd, levelSize, levelSize-end, levelSize-fine, levelSize-top}
+use Rattle.rules.specs.Laws.Family.Sizes.{legal, area-bound, span, levelStart, levelEnd, levelSize, levelSize-end, levelSize-fine, levelSize-top}
 use Rattle.rules.specs.Laws.Family.Sizes.{levelEnd-next, levelEnd-start, levelStart-fine, span-some, span-most, span-quarter}
+use Rattle.rules.specs.Promises.Vocabulary.{Legal}
 use Rattle.lists.specs.Seg.{seg, seg-seg, seg-inside}
 use Rattle.lists.specs.Stretch.{HandedOn, listsIn, movedFrom, sets}
 use Rattle.testing.specs.declared.Run.{Run}

@@ -17,7 +17,8 @@ use Rattle.rules.specs.Document.Passes.{Entry, typeA, typeB, set?, stays, membe
 use Rattle.rules.specs.Document.Calls.{levelPlaces}
 use Rattle.rules.specs.Laws.Counting.Sums.{All, _∈_, some-in}
 use Rattle.rules.specs.Laws.Family.Lawful.{Lawful, level-some, offspring-descend, grandchild, grandchild-in}
-use Rattle.rules.specs.Laws.Family.Sizes.{Legal, legal}
+use Rattle.rules.specs.Laws.Family.Sizes.{legal, area-bound}
+use Rattle.rules.specs.Promises.Vocabulary.{Legal}
 use Rattle.rules.specs.Laws.Offspring.Level.{level-most}
 use Rattle.rules.specs.Laws.Offspring.Kin.{offspring-level}
 use Rattle.rules.specs.Laws.Offspring.Lawful.{lawful}
@@ -29,7 +30,6 @@ use Rattle.rules.specs.Laws.Pass.Slots.{Room, room-past, room-open, room-tests,
 use Rattle.rules.specs.Laws.State.Record.{node-area}
 use Rattle.shape.specs.Offspring.{offspringList}
 use Rattle.shape.specs.declared.Offspring.the-variants.{Block}
-use Rattle.rules.specs.Laws.Family.Sizes.{area-bound}
 use Rattle.shape.specs.Nodes.{Node}
 use Rattle.bits.specs.declared.BitPosition.{BitPosition}
 use Rattle.bits.specs.declared.BitRead.{BitRead}

@@ -1,4 +1,3 @@
-pub mod Cases
 pub mod Document
 pub mod Promises
 pub mod Laws

@@ -7,7 +7,8 @@ use borrow.Author.Tests.{lt-ltb}
 use Rattle.rules.specs.declared.Size.{Size}
 use Rattle.rules.specs.Document.Pyramid.{mostArea, legalSize, area, within, levelOf, offspringOf}
 use Rattle.rules.specs.Laws.Counting.Sums.{All, every-all}
-use Rattle.rules.specs.Laws.Family.Sizes.{Legal, legal, area-bound}
+use Rattle.rules.specs.Laws.Family.Sizes.{legal, area-bound}
+use Rattle.rules.specs.Promises.Vocabulary.{Legal}
 use Rattle.rules.specs.Laws.Offspring.Level.{within-level, level-least}
 use Rattle.rules.specs.Laws.Offspring.Block.{offspring-inner, offspring-leaf}
 use Rattle.rules.specs.Laws.Offspring.Kin.{offspring-area, offspring-level}

@@ -12,7 +12,7 @@ use Rattle.rules.specs.declared.Verdict.the-variants.{Accepted}
 use Rattle.rules.specs.Document.Pyramid.{area}
 use Rattle.rules.specs.Document.Numbers.{verdictNumber, readParts}
 use Rattle.rules.specs.Document.Calls.{workFor, onHeader, unless, decodedParts, decoding, filled, returned, reported}
-use Rattle.rules.specs.Cases.{thirty, without12, opensExample, opensPyramid, opensBytes, opensRecord, opensReading}
+use Rattle.rules.specs.Promises.Cases.{thirty, without12, opensExample, opensPyramid, opensBytes, opensRecord, opensReading}
 use Rattle.survey.specs.AsServing.{survey-header}
 use Rattle.survey.specs.Surveyed.{surveyOf, surveyNumbers, surveyPlaces, AfsSurvey}
 

@@ -11,7 +11,8 @@ use lib.Pow.{pow-pos, shr-le, shr-shr, field}
 use borrow.Author.Tests.{lt-ltb}
 use Rattle.rules.specs.declared.Size.{Size}
 use Rattle.rules.specs.Document.Pyramid.{area, index, row, column, magnitude, levels, levelOf}
-use Rattle.rules.specs.Laws.Family.Sizes.{Side, Legal, side-falls, side-some}
+use Rattle.rules.specs.Laws.Family.Sizes.{side-falls, side-some}
+use Rattle.rules.specs.Promises.Vocabulary.{Side, Legal}
 use Rattle.rules.specs.Laws.Offspring.Level.{Within, within-over, outside-level, level-most, row-lt, column-lt}
 use Rattle.rules.specs.Laws.Offspring.Block.{row-index, column-index}
 use Rattle.pictures.specs.Document.Lifting.{Grid, turnBack, back, gridOf, listOf, pictureOf}

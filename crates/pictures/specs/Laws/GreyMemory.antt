@@ -19,7 +19,7 @@ use Rattle.rules.specs.Laws.Calls.Results.{number-accepts}
 use Rattle.rules.specs.Promises.Vocabulary.{Codable, Stated, enoughRoom}
 use Rattle.rules.specs.Laws.Calls.Exports.{afsCode-codes}
 use Rattle.rules.specs.Laws.Bytes.Room.{coding-accepts}
-use Rattle.rules.specs.Laws.Calls.Memory.{from-memory-to-memory}
+use Rattle.rules.specs.Promises.Memory.{from-memory-to-memory}
 use Rattle.pictures.specs.declared.GreyRead.{GreyRead}
 use Rattle.pictures.specs.declared.GreyWritten.{GreyWritten}
 use Rattle.pictures.specs.Document.Lifting.{pyramidOf}

@@ -19,12 +19,13 @@ use Rattle.rules.specs.Document.Pyramid.{legalSize, area}
 use Rattle.rules.specs.Document.Numbers.{verdictNumber}
 use Rattle.rules.specs.Document.Calls.{Result, refused, accepted, unless, workFor, firstOver, filled, returned, reported, lentOut}
 use Rattle.rules.specs.Laws.Counting.Booleans.{not-test}
-use Rattle.rules.specs.Laws.Family.Sizes.{Legal, legal, size-legal}
+use Rattle.rules.specs.Laws.Family.Sizes.{legal, size-legal}
+use Rattle.rules.specs.Promises.Vocabulary.{Legal, among, Exactly}
 use Rattle.rules.specs.Laws.Rounding.Planes.{under-first, first-over, none-over, over-first}
 use Rattle.rules.specs.Laws.Calls.Results.{unless-case}
 use Rattle.rules.specs.Laws.Reading.PartCases.{failed}
 use Rattle.rules.specs.Promises.Refusals.{InRange, FirstOver}
-use Rattle.rules.specs.Laws.Calls.Refused.{among, Exactly, verdictOf, exactly}
+use Rattle.rules.specs.Laws.Calls.Refused.{verdictOf, exactly}
 use Rattle.pictures.specs.declared.GreyRead.{GreyRead}
 use Rattle.pictures.specs.declared.GreyWritten.{GreyWritten}
 use Rattle.pictures.specs.Document.Lifting.{pyramidOf, pictureOf}

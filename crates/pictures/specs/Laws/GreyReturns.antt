@@ -15,12 +15,12 @@ use Rattle.rules.specs.Document.Pyramid.{legalSize, area, mostMagnitude}
 use Rattle.rules.specs.Document.Layout.{recordOf}
 use Rattle.rules.specs.Document.Calls.{accepted, unless, workFor, firstOver, coding, Picture, decoding}
 use Rattle.rules.specs.Laws.Calls.Results.{unless-accepted, accepted-same}
-use Rattle.rules.specs.Laws.Family.Sizes.{Legal, legal}
+use Rattle.rules.specs.Laws.Family.Sizes.{legal}
+use Rattle.rules.specs.Promises.Vocabulary.{Legal, Codable}
 use Rattle.rules.specs.Promises.Refusals.{InRange}
 use Rattle.rules.specs.Laws.Calls.Arrived.{this-count, codable-coded}
 use Rattle.rules.specs.Laws.Calls.Whole.{demand2-whole}
 use Rattle.rules.specs.Laws.Rounding.Planes.{none-over, under-first}
-use Rattle.rules.specs.Promises.Vocabulary.{Codable}
 use Rattle.pictures.specs.Document.Lifting.{pyramidOf, pictureOf}
 use Rattle.pictures.specs.Document.Netpbm.{greatestPixel, GreyFile, notGrey, picture, readFile, greyFile}
 use Rattle.pictures.specs.Document.Calls.{GreyPyramid, onPicture, lifted, greyIn, clip, outside, clippedIn, mostDecoded, GreyPrint, printOf}

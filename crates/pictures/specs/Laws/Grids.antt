@@ -13,7 +13,7 @@ use Rattle.rules.specs.declared.Size.{Size}
 use Rattle.rules.specs.Document.Pyramid.{area, row, column}
 use Rattle.rules.specs.Document.Passes.{from}
 use Rattle.rules.specs.Laws.Counting.Sums.{from-length}
-use Rattle.rules.specs.Laws.Family.Sizes.{Legal}
+use Rattle.rules.specs.Promises.Vocabulary.{Legal}
 use Rattle.rules.specs.Laws.Offspring.Level.{column-lt, row-lt}
 use Rattle.rules.specs.Laws.Offspring.Block.{row-index, column-index, index-place}
 use Rattle.pictures.specs.Document.Lifting.{Line, Grid, split, joined, alongRows, alongColumns, columnsSplit, rowsJoined}

@@ -6,7 +6,7 @@ use native.Mathlib.Omega.{arith}
 use lib.Dec.{ltb}
 use borrow.Author.Tests.{lt-ltb}
 use Rattle.rules.specs.declared.Size.{Size}
-use Rattle.rules.specs.Laws.Family.Sizes.{Legal}
+use Rattle.rules.specs.Promises.Vocabulary.{Legal}
 use Rattle.pictures.specs.Document.Lifting.{Grid, joined, rowsJoined, turnBack}
 use Rattle.pictures.specs.Laws.Reversible.{rows-inside, columns-inside, even-rows, even-columns}
 use Rattle.pictures.specs.Laws.Growth.{roomy, joinedMost}

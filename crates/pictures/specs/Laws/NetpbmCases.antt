@@ -6,7 +6,7 @@ use Prim.Native.Char.{code}
 use Prim.Native.String as string
 use lib.ListN.{take, replicate}
 use Rattle.rules.specs.Document.Passes.{from}
-use Rattle.rules.specs.Cases.{four}
+use Rattle.rules.specs.Promises.Cases.{four}
 use Rattle.pictures.specs.Document.Netpbm.{lineEnd, blank, gapByte, digit, begins, afterComment, afterBlanks, afterGap, number, isP5, onMagic, onNumber}
 use Rattle.pictures.specs.Document.Netpbm.{lastBlank, onEnd, readGrey, GreyFile, notGrey, picture, pixelsThere, taken, readFile}
 use Rattle.pictures.specs.Document.Netpbm.{digitsUpTo, decimal, greyLines, greyFile}

@@ -13,9 +13,9 @@ use Rattle.rules.specs.Document.Pyramid.{legalSize, area, levels, magnitude}
 use Rattle.rules.specs.Document.Passes.{PartName}
 use Rattle.rules.specs.Document.Layout.{planesIn, partsOf}
 use Rattle.rules.specs.Document.Calls.{Result, accepted, unless, workFor, firstOver, Picture, planeIn, decoding}
-use Rattle.rules.specs.Laws.Family.Sizes.{Legal, legal, size-legal}
+use Rattle.rules.specs.Laws.Family.Sizes.{legal, size-legal}
+use Rattle.rules.specs.Promises.Vocabulary.{Legal, Stated, kept, arrived}
 use Rattle.rules.specs.Laws.Rounding.Planes.{none-over}
-use Rattle.rules.specs.Promises.Vocabulary.{Stated, kept, arrived}
 use Rattle.pictures.specs.Document.Lifting.{pyramidOf, pictureOf}
 use Rattle.pictures.specs.Document.Netpbm.{picture, readFile, greyFile}
 use Rattle.pictures.specs.Document.Calls.{GreyPyramid, clip, mostDecoded, printOf, printed, greyIn, greyOut}

@@ -12,8 +12,8 @@ use Rattle.rules.specs.Document.Pyramid.{legalSize, area, levels, magnitude}
 use Rattle.rules.specs.Document.Passes.{PartName}
 use Rattle.rules.specs.Document.Layout.{planesIn, partsOf}
 use Rattle.rules.specs.Document.Calls.{Result, accepted, Picture, planeIn, decoding}
-use Rattle.rules.specs.Laws.Family.Sizes.{Legal, legal}
-use Rattle.rules.specs.Promises.Vocabulary.{Codable, Stated, Rounded, kept, arrived}
+use Rattle.rules.specs.Laws.Family.Sizes.{legal}
+use Rattle.rules.specs.Promises.Vocabulary.{Legal, Codable, Stated, Rounded, kept, arrived}
 use Rattle.rules.specs.Laws.Calls.Arrived.{this-count, demand3, printed-near}
 use Rattle.pictures.specs.Document.Lifting.{pyramidOf, pictureOf}
 use Rattle.pictures.specs.Laws.Grids.{picture-length, pixels-return}

@@ -8,10 +8,10 @@ use Prim.Native.Nat.{ℕ, _≤_, _<_}
 use native.Mathlib.Omega.{arith}
 use Rattle.rules.specs.declared.Size.{Size}
 use Rattle.rules.specs.Document.Pyramid.{legalSize, area, row, column, mostMagnitude, magnitude}
-use Rattle.rules.specs.Laws.Family.Sizes.{Legal, legal}
+use Rattle.rules.specs.Laws.Family.Sizes.{legal}
+use Rattle.rules.specs.Promises.Vocabulary.{Legal, Codable}
 use Rattle.rules.specs.Laws.Offspring.Level.{column-lt, row-lt}
 use Rattle.rules.specs.Laws.Rounding.Planes.{none-over}
-use Rattle.rules.specs.Promises.Vocabulary.{Codable}
 use Rattle.pictures.specs.Document.Lifting.{forward, greyOf, pyramidOf}
 use Rattle.pictures.specs.Laws.Grids.{list-at, pyramid-length}
 use Rattle.pictures.specs.Laws.Turns.{mostPixel, Pixels, grey-most, grown, forward-most}

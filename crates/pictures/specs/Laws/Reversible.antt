@@ -9,7 +9,7 @@ use lib.IntN.{ℤ, pos, _+ℤ_, _-ℤ_, +ℤ-negℤ-cancel, -ℤ-+ℤ-cancel}
 use borrow.Author.Tests.{ltb-true, lt-ltb, le-ltb, eq-eqb, ne-eqb}
 use Rattle.rules.specs.declared.Size.{Size}
 use Rattle.rules.specs.Laws.Counting.Booleans.{not-test, both-left, both-right}
-use Rattle.rules.specs.Laws.Family.Sizes.{Legal}
+use Rattle.rules.specs.Promises.Vocabulary.{Legal}
 use Rattle.pictures.specs.Document.Lifting.{Line, Grid, half, quarter, high, low, split, even, odd, joined}
 use Rattle.pictures.specs.Document.Lifting.{alongRows, alongColumns, columnsSplit, rowsSplit, columnsJoined, rowsJoined}
 use Rattle.pictures.specs.Document.Lifting.{turn, turnBack, forward, back}

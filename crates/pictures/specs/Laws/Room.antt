@@ -5,7 +5,7 @@ use Prim.Native.Nat.{ℕ, suc, _+_, _*_, _/_, _^_, _≤_}
 use native.Mathlib.Omega.{arith}
 use native.Mathlib.Nat.{div-one}
 use Rattle.rules.specs.declared.Size.{Size}
-use Rattle.rules.specs.Laws.Family.Sizes.{Legal}
+use Rattle.rules.specs.Promises.Vocabulary.{Legal}
 use Rattle.pictures.specs.Document.Lifting.{Grid, columnsSplit, rowsJoined, forward, back}
 use Rattle.pictures.specs.Laws.Reversible.{even-rows, even-columns}
 use Rattle.pictures.specs.Laws.Turns.{Most, mostPixel, grown, grown-more, columns-split-most, forward-low, forward-most}

@@ -11,7 +11,8 @@ use lib.IntN.{natAbs}
 use lib.Pow.{shr-le}
 use Rattle.rules.specs.declared.Size.{Size}
 use Rattle.rules.specs.Document.Pyramid.{area}
-use Rattle.rules.specs.Laws.Family.Sizes.{Legal, side-falls}
+use Rattle.rules.specs.Laws.Family.Sizes.{side-falls}
+use Rattle.rules.specs.Promises.Vocabulary.{Legal}
 use Rattle.pictures.specs.Document.Lifting.{Grid, split, joined, columnsSplit, rowsSplit, rowsJoined, turn, turnBack, forward, back, greyOf}
 use Rattle.pictures.specs.Laws.Reversible.{by-block, rows-inside, rows-outside, columns-inside, columns-outside, even-rows, even-columns}
 use Rattle.pictures.specs.Laws.Growth.{roomy, lowMost, split-low-most, split-most, joinedMost, joined-most}

@@ -1,106 +1,28 @@
 -- From memory to memory: demands 2 and 3, said of what the calls leave in the memory lent to them and of nothing else. The record is what stands
 -- in the coder's output, its first answer′[2] bytes; what arrives of it is made from these bytes; and what is promised is said of the output, the
--- answer and the workspace that decoding leaves. Statements only; MemoryProofs has their proofs.
-use mathlib.Core.Path.{_≡_}
-use mathlib.Core.List.{List, [], _++_, map}
-use mathlib.Core.Bool.{Bool, false, cond}
-use Prim.Native.Nat.{ℕ, _+_, _-_, _≤_, _<_}
-use lib.ListN.{length, getD, take}
-use lib.IntN.{ℤ, pos}
+-- answer and the workspace that decoding leaves. Vocabulary has the words: Selected, Recorded, Serves, Decodes.
+use mathlib.Core.Path.{_≡_, refl}
+use mathlib.Core.List.{List}
+use Prim.Native.Nat.{ℕ, _≤_}
+use lib.ListN.{take, getD, length}
+use lib.IntN.{ℤ}
 use Rattle.rules.specs.declared.Size.{Size}
 use Rattle.rules.specs.declared.Verdict.the-variants.{Accepted}
 use Rattle.rules.specs.declared.Coded.{Coded}
 use Rattle.rules.specs.declared.Served.{Served}
 use Rattle.rules.specs.declared.Decoded.{Decoded}
-use Rattle.rules.specs.declared.Header.{Header}
-use Rattle.rules.specs.declared.HeaderRead.the-variants as header
-use Rattle.rules.specs.declared.Part.{Part}
-use Rattle.rules.specs.Document.Notation.{flat, zeros}
-use Rattle.rules.specs.Document.Pyramid.{area, levels, levelOf, magnitude, negative}
-use Rattle.rules.specs.Document.Passes.{PartName, partNames, signed}
-use Rattle.rules.specs.Document.Layout.{CodedPart, partsWith, recordWith, planesIn, earlierPlanesIn, bodyOf, wholeOf, nameOf, reached}
-use Rattle.rules.specs.Document.Numbers.{verdictNumber, verdictPlace, readHeader, readParts}
-use Rattle.rules.specs.Document.Calls.{Coding, Serving, Decoding, AfsCode, AfsServe, AfsDecode, workFor, codePlaces, servePlaces, decodePlaces, planeIn}
-use Rattle.rules.specs.Laws.Reading.Parts.{at, Named, present}
-use Rattle.rules.specs.Laws.Bytes.BodyBack.{bitsFrom}
-use Rattle.rules.specs.Laws.Bytes.PartBack.{headerOf}
-use Rattle.rules.specs.Promises.Vocabulary.{Codable, PlaneCount, Stated, enoughRoom, names, kept, asked, wholeIn, tailIn, towardZero, Near}
-
--- WHAT ARRIVES
-
--- The parts that stand in some bytes, as document 01 reads them behind a header: name and bits of each. And the bytes of a part that a test keeps.
-unfoldable pub partsIn : Header → List ℕ → List CodedPart
-partsIn h bytes = map (λ p. record { name = nameOf p; bits = bitsFrom (bodyOf bytes p) 0 (p .bits) }) (readParts h bytes .parts)
-
-unfoldable pub keptIn : (PartName → Bool) → List ℕ → Part → List ℕ
-keptIn keep bytes p = cond (keep (nameOf p)) (wholeOf bytes p) []
-
--- s is a selection of the parts of the record that stands in `bytes`, cut somewhere: the header, and behind it, in order and unaltered, those
--- parts that some test keeps; of all this the header and some number of bytes more.
-pub record Selected (bytes s : List ℕ) : Type 0 where
-  pub head : Header
-  pub read : readHeader bytes ≡ header.Header head
-  pub keep : PartName → Bool
-  pub more : ℕ
-  pub made : s ≡ take (head .end + more) (take (head .end) bytes ++ flat (keptIn keep bytes) (readParts head bytes .parts))
-
-module _ {bytes s : List ℕ} (x : Selected bytes s) where
-  -- the parts that arrived whole, and how many bytes there are of one that was cut
-  abbrev pub wholeParts : List CodedPart
-  wholeParts = wholeIn (x .more) (kept (x .keep) (partsIn (x .head) bytes))
-
-  abbrev pub cutBytes : ℕ
-  cutBytes = tailIn (x .more) (kept (x .keep) (partsIn (x .head) bytes))
-
--- WHAT IS PROMISED
-
--- Of coding: in these bytes stands the record of the pyramid for so many planes, bit for bit; its header can be read, and behind it every part of
--- every plane and level. The planes are those that the coder counts, or as many as the earlier count gave.
-pub record Recorded (z : Size) (planes : ℕ) (pyramid : List ℤ) (bytes : List ℕ) : Type 0 where
-  pub codable : Codable z pyramid
-  pub count : PlaneCount pyramid planes
-  pub its-bytes : bytes ≡ recordWith z planes pyramid
-  pub its-header : readHeader bytes ≡ header.Header (headerOf z planes)
-  pub its-parts : partsIn (headerOf z planes) bytes ≡ partsWith z planes pyramid
-  pub every-part : names (partsIn (headerOf z planes) bytes) ≡ partNames (levels z) planes
-
--- Of serving s for level r and plane p, where s was itself a selection x of what stands in `bytes`: what is served is one too, of just the parts
--- that arrived whole and were asked for, none of them cut; and the tail that is told is what s had of a part that was cut.
-pub record Serves {bytes s : List ℕ} (x : Selected bytes s) (r p : ℕ) (served : List ℕ) (tail : ℕ) : Type 0 where
-  pub again : Selected bytes served
-  pub parts : wholeParts again ≡ kept (asked r p) (wholeParts x)
-  pub uncut : cutBytes again ≡ 0
-  pub told : tail ≡ cutBytes x
-
--- Of decoding, where the parts `there` arrived whole and `cut` bytes of one more. It came back with a number and a place, and told a tail and, for
--- each level k, `plane k`; out′ and work′ are the output and the workspace that it left.
-pub record Decodes (z : Size) (planes : ℕ) (pyramid : List ℤ) (there : List PartName) (cut : ℕ) (number place tail : ℕ) (plane : ℕ → ℕ) (out′ : List ℤ)
-    (work work′ : List ℕ) : Type 0 where
-  -- It is accepted.
-  pub accepts : number ≡ 0
-  pub nowhere : place ≡ 0
-  -- Every coefficient is written: the recorded one's sign, and its magnitude rounded toward zero to a multiple of 2^m, m being the plane that is
-  -- told for its level.
-  pub sized : length out′ ≡ area z
-  pub values : (q : ℕ) → q < area z → getD out′ q (pos 0) ≡ signed (negative pyramid q) (towardZero (plane (levelOf z q)) (magnitude pyramid q))
-  -- So what is printed is less than 2^m away from what was recorded, of no greater magnitude, and of the same sign unless it is 0.
-  pub near : (q : ℕ) → q < area z → Near (plane (levelOf z q)) (getD out′ q (pos 0)) (getD pyramid q (pos 0))
-  -- That m is the lowest plane whose part of the level is usable, the number of planes if none is; beyond level N + 1 it is 0.
-  pub reports : (k : ℕ) → 1 ≤ k → k ≤ levels z → plane k ≡ reached (levels z) planes there k
-  pub beyond : (k : ℕ) → levels z < k → plane k ≡ 0
-  -- So what was lost shows: a part (n, k) of the record that did not arrive whole makes the plane told for level k greater than n, and that of
-  -- every finer level too.
-  pub shows : (n k : ℕ) → Named (levels z) planes (at n k) → present there (at n k) ≡ false → (j : ℕ) → 1 ≤ j → j ≤ k → n < plane j
-  -- The tail is what arrived of the part that was cut, and the workspace is all 0.
-  pub tails : tail ≡ cut
-  pub clears : work′ ≡ zeros (length work)
-
--- The planes that an export tells, level 1 first, behind number, place and tail; and those that the routine tells.
-abbrev pub planesTold : List ℕ → ℕ → ℕ
-planesTold told k = getD told (3 + (k - 1)) 0
-
-abbrev pub planesAnswered : Decoded → ℕ → ℕ
-planesAnswered told k = planeIn (told .reached) (k - 1)
+use Rattle.rules.specs.Document.Notation.{zeros}
+use Rattle.rules.specs.Document.Pyramid.{levels}
+use Rattle.rules.specs.Document.Layout.{planesIn, earlierPlanesIn, recordWith}
+use Rattle.rules.specs.Document.Numbers.{verdictNumber, verdictPlace}
+use Rattle.rules.specs.Document.Calls.{AfsCode, workFor, codePlaces, AfsDecode, decodePlaces, AfsServe, servePlaces, Coding, Decoding, Serving}
+use Rattle.rules.specs.Promises.Vocabulary.{Recorded, Codable, enoughRoom, Selected, Stated, Decodes, names, wholeParts, cutBytes, planesTold, Serves}
+use Rattle.rules.specs.Promises.Vocabulary.{planesAnswered}
+use Rattle.rules.specs.Laws.Bytes.Room.{coding-accepts}
+use Rattle.rules.specs.Laws.Calls.Arrived.{earlier-count}
+use Rattle.rules.specs.Laws.Calls.Memory.{afsCode-recorded, afsCode-accepts, afsDecode-prints, recorded, afsServe-selects, afsServe-accepts}
+use Rattle.rules.specs.Laws.Calls.Memory.{selected-again, afsDecode-again, afsDecode-whole, coding-recorded, coding-wrote, decoding-decodes}
+use Rattle.rules.specs.Laws.Calls.Memory.{serving-serves, serving-wrote, serving-accepts, decoding-again, decoding-whole}
 
 -- THE THEOREM, `from-memory-to-memory`, for any pyramid and size and for buffers whatever they held. That coding and serving came back with
 -- number 0 is all that is supposed of them; of decoding not even that, but buffers of the stated sizes.
@@ -155,6 +77,23 @@ pub record FromMemoryToMemory : Type 0 where
       → decodePlaces ≤ length told
       → (number ≡ 0) × (print′ ≡ pyramid) × (told′ ≡ zeros (length told)) × (scratch′ ≡ zeros (length scratch))
 
+pub from-memory-to-memory : FromMemoryToMemory
+from-memory-to-memory =
+    record {
+      coded = λ c. afsCode-recorded c;
+      codes = λ c k room enough places. afsCode-accepts c k room enough places;
+      decoded = λ c x d sizes places. afsDecode-prints (afsCode-recorded c .0) x d sizes places;
+      earlier = λ c. recorded c (earlier-count c) refl;
+      stored = λ w x d sizes places. afsDecode-prints w x d sizes places;
+      served = λ c x v. afsServe-selects v (afsCode-recorded c .0) x;
+      serves = λ c x v a b few room places. afsServe-accepts v (afsCode-recorded c .0) x a b few room places;
+      selected = λ c x y. selected-again (afsCode-recorded c .0) x y;
+      served-decoded = λ c x v y d sizes places.
+          let w = afsCode-recorded c .0 in afsDecode-again w (afsServe-selects v w x .0 .again) y d sizes places;
+      stored-whole = λ w d sizes places. afsDecode-whole w d sizes places;
+      whole = λ c d sizes places. afsDecode-whole (afsCode-recorded c .0) d sizes places;
+    }
+
 -- The same of the routines, `from-routine-to-routine`.
 pub record FromRoutineToRoutine : Type 0 where
   pub coded : {pyramid : List ℤ} {z : Size} {out work : List ℕ} {answer : Coded} {out′ work′ : List ℕ} → Coding pyramid z out work answer out′ work′
@@ -187,3 +126,16 @@ pub record FromRoutineToRoutine : Type 0 where
       → Decoding (take (answer .length) out′) print scratch told print′ scratch′ → Stated z (length print) (length scratch)
       → (told .verdict ≡ Accepted) × (print′ ≡ pyramid) × (told .tail ≡ 0) × ((k : ℕ) → planesAnswered told k ≡ 0)
       × (scratch′ ≡ zeros (length scratch))
+
+pub from-routine-to-routine : FromRoutineToRoutine
+from-routine-to-routine =
+    record {
+      coded = λ c e. (coding-recorded c e, coding-wrote c e .1);
+      codes = λ c k room enough. coding-accepts c k room enough;
+      decoded = λ c e x d sizes. decoding-decodes (coding-recorded c e) x d sizes;
+      served = λ c e x v a. (serving-serves v a (coding-recorded c e) x, serving-wrote v a .1);
+      serves = λ c e x v a b few room. serving-accepts v (coding-recorded c e) x a b few room;
+      selected = λ c e x y. selected-again (coding-recorded c e) x y;
+      served-decoded = λ c e x v a y d sizes. let w = coding-recorded c e in decoding-again w (serving-serves v a w x .again) y d sizes;
+      whole = λ c e d sizes. decoding-whole (coding-recorded c e) d sizes;
+    }

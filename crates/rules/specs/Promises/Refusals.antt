@@ -23,9 +23,7 @@ use Rattle.rules.specs.Document.Passes.{State, PartName, start, decoded}
 use Rattle.rules.specs.Document.Layout.{readNumber, version, bytesFor, recordOf, bitAt, bodyOf, nameOf}
 use Rattle.rules.specs.Document.Numbers.{Ending, tail, fault, topLevel}
 use Rattle.rules.specs.Document.Calls.{Result, refused, accepted, workFor, servedBytes, Portion, going, decodeParts, Picture, reachedPlanes}
-use Rattle.rules.specs.Laws.Family.Sizes.{Legal}
-use Rattle.rules.specs.Laws.Reading.Parts.{LegalHead}
-use Rattle.rules.specs.Laws.Reading.Usable.{Usable}
+use Rattle.rules.specs.Promises.Vocabulary.{Legal, LegalHead, Usable}
 
 -- 1 SIZE of a header: "W, H, N or planes not legal".
 pub record LegalHeader (z : Size) (planes : ℕ) : Type 0 where

@@ -1,6 +1,6 @@
 -- A body reads back: the bits that were packed, then 0.
 use mathlib.Core.Path.{_≡_, refl, ap, sym, _∙_}
-use mathlib.Core.List.{List, [], _∷_}
+use mathlib.Core.List.{List}
 use mathlib.Core.Bool.{Bool, true, false, not}
 use Prim.Native.Nat.{ℕ, zero, suc, _+_, _-_, _*_, _/_, _%_, _^_, _≤_, _<_}
 use native.Mathlib.Omega.{arith}
@@ -11,12 +11,8 @@ use lib.ListN.{length, getD, List·getD-eq-default}
 use lib.Pow.{field, mod-mod-pow, low, high}
 use borrow.Author.Tests.{not-true}
 use Rattle.rules.specs.Document.Layout.{bytesFor, bitNumber, eightBits, packFrom, packed, bitAt, clearFrom, padClear}
+use Rattle.rules.specs.Promises.Vocabulary.{bitsFrom}
 use Rattle.rules.specs.Laws.Counting.Booleans.{both-left, both-right}
-
--- the first bits of a body
-unfoldable pub bitsFrom : List ℕ → ℕ → ℕ → List Bool
-bitsFrom body i zero = []
-bitsFrom body i (suc m) = bitAt body i ∷ bitsFrom body (suc i) m
 
 -- A digit of the low part is not changed by what stands above it.
 low-digit : (hi lo m j : ℕ) → lo < 2 ^ m → j < m → (hi * 2 ^ m + lo) / 2 ^ j % 2 ≡ lo / 2 ^ j % 2

@@ -11,7 +11,8 @@ use Rattle.rules.specs.declared.Number.the-variants.{Value, CutOff}
 use Rattle.rules.specs.Document.Notation.{flat}
 use Rattle.rules.specs.Document.Layout.{groups, numberBytes, numberFrom, readNumber}
 use Rattle.rules.specs.Laws.Counting.Sums.{All}
-use Rattle.rules.specs.Laws.Bytes.Numbers.{tooLarge, groups-last, groups-next, by-groups, numberFrom-cut, numberFrom-last, numberFrom-next, shortest-form}
+use Rattle.rules.specs.Laws.Bytes.Numbers.{tooLarge, groups-last, groups-next, by-groups, numberFrom-cut, numberFrom-last, numberFrom-next}
+use Rattle.rules.specs.Laws.Bytes.Numbers.{shortest-form}
 use Rattle.rules.specs.Promises.Refusals.{Numbers, none, next}
 
 -- What is left of s from a place on: its first element, and what is behind.

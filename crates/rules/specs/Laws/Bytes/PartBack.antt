@@ -9,32 +9,21 @@ use lib.Seq.{length-take-le, take-at}
 use Rattle.rules.specs.declared.Size.{Size}
 use Rattle.rules.specs.declared.Header.{Header}
 use Rattle.rules.specs.declared.HeaderRead.the-variants as header
-use Rattle.rules.specs.declared.Part.{Part}
 use Rattle.rules.specs.declared.PartRead.the-variants as part
 use Rattle.rules.specs.Document.Notation.{flat}
 use Rattle.rules.specs.Document.Pyramid.{mostArea, area, mostPlanes, legalSize, levels}
 use Rattle.rules.specs.Document.Passes.{PartName}
 use Rattle.rules.specs.Document.Layout.{numberBytes, bytesFor, packed, padClear, version, headerBytes, CodedPart, partBytes, wholeOf, bodyOf, nameOf}
 use Rattle.rules.specs.Document.Numbers.{readHeader, mostBits, legalHead, headed, readPart}
-use Rattle.rules.specs.Laws.Family.Sizes.{Legal, legal, area-bound}
-use Rattle.rules.specs.Laws.Reading.Parts.{LegalHead, legal-head}
+use Rattle.rules.specs.Promises.Vocabulary.{headerOf, headBytes, partAt, Legal, LegalHead}
+use Rattle.rules.specs.Laws.Family.Sizes.{legal, area-bound}
+use Rattle.rules.specs.Laws.Reading.Parts.{legal-head}
 use Rattle.rules.specs.Laws.Bytes.Numbers.{tooLarge, numberBytes-length}
 use Rattle.rules.specs.Laws.Bytes.NumberBack.{left-behind, AllSmall, numbers-read, Cut, inside, behind, numbers-cut}
 use Rattle.rules.specs.Laws.Counting.Sums.{All}
 use Rattle.rules.specs.Promises.Refusals.{Numbers, LEGAL, HeadRead, PartCase, TAIL-head, TAIL-body, WHOLE}
 use Rattle.rules.specs.Laws.Reading.PartCases.{header-is, pad-none, part-is}
 use Rattle.rules.specs.Laws.Bytes.BodyBack.{packed-length, packed-clear}
-
--- The header that is written for a size and a number of planes.
-abbrev pub headerOf : Size → ℕ → Header
-headerOf z planes = record { size = z; planes = planes; end = length (headerBytes z planes) }
-
--- The head of a part, and the part as it is read at a place.
-abbrev pub headBytes : CodedPart → List ℕ
-headBytes p = flat numberBytes (p .name .plane ∷ p .name .level ∷ length (p .bits) ∷ [])
-
-unfoldable pub partAt : ℕ → CodedPart → Part
-partAt place p = headed place (p .name .plane) (p .name .level) (length (p .bits)) (place + length (headBytes p))
 
 -- Every number of a record with that header has four bytes at most.
 pub record Small (z : Size) (planes : ℕ) : Type 0 where

@@ -15,22 +15,12 @@ use Rattle.rules.specs.Document.Pyramid.{Family, mostPlanes, legalSize}
 use Rattle.rules.specs.Document.Passes.{State, after, PartName, partNames, coded}
 use Rattle.rules.specs.Document.Layout.{headerBytes, CodedPart, partBytes, codedParts, nameOf}
 use Rattle.rules.specs.Document.Numbers.{mostBits, follows, legalHead, readPart, tail, Reading, goOn, readFrom, readParts, topLevel}
+use Rattle.rules.specs.Promises.Vocabulary.{recordBytes, partsAt, selection, at, Named, LegalHead, headerOf, partAt}
 use Rattle.rules.specs.Laws.Counting.Sums.{All, flat-append}
-unfoldable pub use Rattle.rules.specs.Laws.Counting.Booleans.{selection}
-use Rattle.rules.specs.Laws.Reading.Parts.{at, Named, InOrder, names-in-order, names-named, follows-follows, LegalHead, legal-head, head-legal}
-use Rattle.rules.specs.Laws.Reading.Parts.{legal-behind}
+use Rattle.rules.specs.Laws.Reading.Parts.{InOrder, names-in-order, names-named, follows-follows, legal-head, head-legal, legal-behind}
 use Rattle.rules.specs.Laws.Bytes.NumberBack.{left-none, left-behind}
 use Rattle.rules.specs.Laws.Reading.Walk.{readPart-past}
-use Rattle.rules.specs.Laws.Bytes.PartBack.{headerOf, partAt, Small, legal-small, part-some, next-stands, part-name, part-end, reads-part, reads-part-cut}
-
--- The bytes of a header and parts behind it.
-abbrev pub recordBytes : Size → ℕ → List CodedPart → List ℕ
-recordBytes z planes ps = headerBytes z planes ++ flat partBytes ps
-
--- Parts one behind the other, as they are read from a place on.
-unfoldable pub partsAt : ℕ → List CodedPart → List Part
-partsAt place [] = []
-partsAt place (p ∷ ps) = partAt place p ∷ partsAt (place + length (partBytes p)) ps
+use Rattle.rules.specs.Laws.Bytes.PartBack.{Small, legal-small, part-some, next-stands, part-name, part-end, reads-part, reads-part-cut}
 
 -- Parts that may stand in a record, in order, the first after `before`; and the name of the last. A record's first part comes after this:
 abbrev pub beforeAll : ℕ → PartName

@@ -20,8 +20,9 @@ use Rattle.rules.specs.Document.Layout.{numberBytes, version, headerByte
 use Rattle.rules.specs.Document.Numbers.{verdictNumber}
 use Rattle.rules.specs.Document.Calls.{Result, accepted, workFor, coding, codeAnswer, Coding, codePlaces, AfsCode}
 use Rattle.rules.specs.Laws.Counting.Sums.{sum, All, all-then, all-both, map-all, sum-append, sum-map, sum-plus, sum-times, sum-le, sum-one, all-of}
-use Rattle.rules.specs.Laws.Family.Sizes.{Legal, legal, size-legal, area-bound, levelStart, levelSize, span-whole, levelStart-fine}
-use Rattle.rules.specs.Laws.Family.Sizes.{levelEnd-start, levelSize-end}
+use Rattle.rules.specs.Laws.Family.Sizes.{legal, size-legal, area-bound, levelStart, levelSize, span-whole, levelStart-fine, levelEnd-start}
+use Rattle.rules.specs.Laws.Family.Sizes.{levelSize-end}
+use Rattle.rules.specs.Promises.Vocabulary.{Legal, Named, Codable, enoughRoom}
 use Rattle.rules.specs.Laws.Rounding.Planes.{none-over}
 use Rattle.rules.specs.Promises.Refusals.{CodingCase, SIZE, LENGTH, WORK, RANGE, ROOM, CODED}
 use Rattle.rules.specs.Laws.Calls.Cases.{coding-case}
@@ -29,11 +30,10 @@ use Rattle.rules.specs.Laws.Calls.Exports.{afsCode-codes}
 use Rattle.rules.specs.Laws.Offspring.Lawful.{lawful}
 use Rattle.rules.specs.Laws.Offspring.Counts.{level-count}
 use Rattle.rules.specs.Laws.Bytes.Numbers.{numberBytes-one, numberBytes-two, numberBytes-three}
-use Rattle.rules.specs.Laws.Reading.Parts.{Named, names-named}
+use Rattle.rules.specs.Laws.Reading.Parts.{names-named}
 use Rattle.rules.specs.Laws.State.Parts.{partNames-levels, codedParts-taken}
 use Rattle.rules.specs.Laws.State.Record.{start-sound, partsOf-bits}
 use Rattle.rules.specs.Laws.Bytes.PartBack.{part-length}
-use Rattle.rules.specs.Promises.Vocabulary.{Codable, enoughRoom}
 use Rattle.rules.specs.Laws.Calls.Arrived.{this-count, codable-coded}
 use Rattle.rules.specs.Laws.Calls.Whole.{demand2-names}
 

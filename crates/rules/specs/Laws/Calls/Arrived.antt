@@ -1,6 +1,5 @@
--- Demand 3. Of the record that the coder writes, whatever parts arrive, by serving or by loss, the last of them cut perhaps: decoding with
--- buffers of the stated sizes accepts, gives each coefficient its sign and its magnitude rounded toward zero to a multiple of 2^m, zero where
--- that gives zero, and reports that m for each level, 0 beyond level N + 1. `Rounded`, in Demands, says this field by field.
+-- Demand 3, for Promises/Three: what coding accepts, that either count of planes is enough, and that whatever arrives of such a record decodes
+-- to the recorded pyramid, rounded.
 use mathlib.Core.Path.{_≡_, ap, sym, _∙_, subst}
 use mathlib.Core.List.{List}
 use mathlib.Core.Bool.{Bool, _&&_}
@@ -25,11 +24,11 @@ use Rattle.rules.specs.Laws.Calls.Cases.{coding-is}
 use Rattle.rules.specs.Laws.Rounding.Planes.{planesOf-above, planesOf-most, earlierPlanesOf-above, earlierPlanesOf-most, magnitude-most, under-first}
 use Rattle.rules.specs.Laws.Rounding.Planes.{range-greatest}
 use Rattle.rules.specs.Laws.Calls.Results.{unless-accepted, accepted-same}
-use Rattle.rules.specs.Laws.Bytes.PartBack.{headerOf}
-use Rattle.rules.specs.Laws.Bytes.RecordBack.{recordBytes, beforeAll}
-use Rattle.rules.specs.Promises.Vocabulary.{Codable, Stated, PlaneCount, names, kept, asked, wholeIn, tailIn, arrived, Rounded, Near}
+use Rattle.rules.specs.Promises.Vocabulary.{headerOf, recordBytes, Codable, Stated, PlaneCount, names, kept, asked, wholeIn, tailIn, arrived, Rounded}
+use Rattle.rules.specs.Promises.Vocabulary.{Near, ReadsAs}
+use Rattle.rules.specs.Laws.Bytes.RecordBack.{beforeAll}
 use Rattle.rules.specs.Laws.Rounding.TowardZero.{rounded-near}
-use Rattle.rules.specs.Laws.Rounding.Arrival.{ReadsAs, record-reads, arrived-reads, arrived-selection, legal-order}
+use Rattle.rules.specs.Laws.Rounding.Arrival.{record-reads, arrived-reads, arrived-selection, legal-order}
 use Rattle.rules.specs.Laws.Rounding.Run.{rounded-read, coder-legal, kept-legal, rounded-arrived}
 use Rattle.rules.specs.Laws.Serving.Parts.{served-read}
 

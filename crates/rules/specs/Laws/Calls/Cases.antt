@@ -23,7 +23,8 @@ use Rattle.rules.specs.Document.Calls.{Result, unless, workFor, firstOve
 use Rattle.rules.specs.Document.Calls.{portioned, serving}
 use Rattle.rules.specs.Document.Calls.{Progress, going, unfit, used, onward, decodeParts, Picture, pictured, decodedParts, decoding}
 use Rattle.rules.specs.Laws.Counting.Booleans.{clash, both-left, both-right, not-test}
-use Rattle.rules.specs.Laws.Family.Sizes.{Legal, legal, size-legal}
+use Rattle.rules.specs.Laws.Family.Sizes.{legal, size-legal}
+use Rattle.rules.specs.Promises.Vocabulary.{Legal}
 use Rattle.rules.specs.Laws.Reading.Usable.{usable-every, every-usable}
 use Rattle.rules.specs.Laws.Rounding.Planes.{under-first, first-over, none-over, over-first}
 use Rattle.rules.specs.Laws.Reading.Stands.{readHeader-stands, header-within}

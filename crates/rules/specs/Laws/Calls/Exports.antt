@@ -1,4 +1,4 @@
--- Demand 1 for the exports: what an export leaves is what its routine leaves, with the routine's answer written to the slice lent for it.
+-- Demand 1 for the exports, for Promises/One: what an export leaves is what its routine leaves, with the routine's answer written to the slice lent for it.
 use mathlib.Core.Path.{_≡_, refl, _∙_}
 use mathlib.Core.List.{List, _++_}
 use mathlib.Core.Bool.{true, false}

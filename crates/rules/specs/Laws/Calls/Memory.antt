@@ -1,4 +1,4 @@
--- Proofs of what Memory promises. Each call is led back to `coding`, `serving` or `decoding`, an export by way of its routine; what arrived reads as
+-- For Promises/Memory, a law for each field. Each call is led back to `coding`, `serving` or `decoding`, an export by way of its routine; what arrived reads as
 -- the parts that are whole in it; and then demands 2 and 3 say the rest.
 use mathlib.Core.Path.{_≡_, refl, ap, ap₂, sym, _∙_, subst, subst₂}
 use mathlib.Core.List.{List, [], _∷_, _++_, map}
@@ -38,19 +38,17 @@ use Rattle.rules.specs.Laws.Calls.Exports.{afsCode-short, afsCode-codes,
 use Rattle.rules.specs.Laws.Bytes.Room.{coding-accepts}
 use Rattle.rules.specs.Laws.Calls.Results.{number-accepts}
 use Rattle.rules.specs.Laws.Counting.Booleans.{selection-both}
-use Rattle.rules.specs.Laws.Reading.Parts.{at}
-use Rattle.rules.specs.Laws.Bytes.BodyBack.{bitsFrom, packed-length, packed-clear, packed-bit, first-length, body-bit}
-use Rattle.rules.specs.Laws.Bytes.PartBack.{headerOf, partAt, part-body}
-use Rattle.rules.specs.Laws.Bytes.RecordBack.{selection, recordBytes, beforeAll, parts-map}
-use Rattle.rules.specs.Promises.Vocabulary.{Codable, PlaneCount, Stated, enoughRoom, names, kept, asked, wholeIn, tailIn, arrived, towardZero, Rounded}
-use Rattle.rules.specs.Laws.Rounding.Arrival.{ReadsAs, header-read, parts-stand, AllThere, CutIn, all-or-cut, arrived-reads, arrived-selection}
-use Rattle.rules.specs.Laws.Rounding.Arrival.{legal-order}
+use Rattle.rules.specs.Laws.Bytes.BodyBack.{packed-length, packed-clear, packed-bit, first-length, body-bit}
+use Rattle.rules.specs.Promises.Vocabulary.{bitsFrom, headerOf, partAt, selection, recordBytes, Codable, PlaneCount, Stated, enoughRoom, names, kept}
+use Rattle.rules.specs.Promises.Vocabulary.{asked, wholeIn, tailIn, arrived, towardZero, Rounded, ReadsAs, partsIn, keptIn, Selected, wholeParts}
+use Rattle.rules.specs.Promises.Vocabulary.{cutBytes, Recorded, Serves, Decodes, planesTold, planesAnswered}
+use Rattle.rules.specs.Laws.Bytes.PartBack.{part-body}
+use Rattle.rules.specs.Laws.Bytes.RecordBack.{beforeAll, parts-map}
+use Rattle.rules.specs.Laws.Rounding.Arrival.{header-read, parts-stand, AllThere, CutIn, all-or-cut, arrived-reads, arrived-selection, legal-order}
 use Rattle.rules.specs.Laws.Rounding.Run.{blank-same, kept-legal}
 use Rattle.rules.specs.Laws.Serving.Parts.{kept-wholes, serves-read, served-read}
-use Rattle.rules.specs.Laws.Calls.Arrived.{coding-codable, this-count, earlier-count, demand3, printed-near}
+use Rattle.rules.specs.Laws.Calls.Arrived.{coding-codable, this-count, demand3, printed-near}
 use Rattle.rules.specs.Laws.Calls.Whole.{demand2-names, demand2-record, demand2-whole}
-use Rattle.rules.specs.Promises.Memory.{partsIn, keptIn, Selected, wholeParts, cutBytes, Recorded, Serves, Decodes, planesTold, planesAnswered}
-use Rattle.rules.specs.Promises.Memory.{FromMemoryToMemory, FromRoutineToRoutine}
 
 -- The parts that are read in bytes are the parts that were written there.
 bits-back : (bits : List Bool) → bitsFrom (packed bits) 0 (length bits) ≡ bits
@@ -127,7 +125,7 @@ served-stands room (accepted x) e =
     let s = record-stands (x .bytes) room in (ap (λ bytes. accepted (record { bytes = bytes; tail = x .tail })) (sym (s .0)), s .1)
 
 -- A record of any number of planes that is enough.
-recorded : {z : Size} {planes : ℕ} {pyramid : List ℤ} {bytes : List ℕ} → Codable z pyramid → PlaneCount pyramid planes
+pub recorded : {z : Size} {planes : ℕ} {pyramid : List ℤ} {bytes : List ℕ} → Codable z pyramid → PlaneCount pyramid planes
     → bytes ≡ recordWith z planes pyramid → Recorded z planes pyramid bytes
 recorded {z} {planes} {pyramid} {bytes} c count e =
     let r : ReadsAs z planes (partsWith z planes pyramid) 0 bytes
@@ -143,13 +141,13 @@ recorded {z} {planes} {pyramid} {bytes} c count e =
 
 module _ {pyramid : List ℤ} {z : Size} {out work : List ℕ} {answer : Coded} {out′ work′ : List ℕ} (x : Coding pyramid z out work answer out′ work′)
     (e : answer .verdict ≡ Accepted) where
-  coding-wrote : (coding pyramid z (length out) (length work) ≡ accepted (take (answer .length) out′)) × (answer .length ≤ length out′)
+  pub coding-wrote : (coding pyramid z (length out) (length work) ≡ accepted (take (answer .length) out′)) × (answer .length ≤ length out′)
   coding-wrote =
       let y : Result (List ℕ) = coding pyramid z (length out) (length work) in
       subst₂ (λ (a : Coded) o. (y ≡ accepted (take (a .length) o)) × (a .length ≤ length o)) (sym (x .answers)) (sym (x .writes))
       (coded-stands (length out) y (ap (λ a. a .verdict) (sym (x .answers)) ∙ e))
 
-  coding-recorded : Recorded z (planesIn pyramid) pyramid (take (answer .length) out′)
+  pub coding-recorded : Recorded z (planesIn pyramid) pyramid (take (answer .length) out′)
   unfolding recordOf
   coding-recorded =
       let w : Codable z pyramid × (take (answer .length) out′ ≡ recordOf z pyramid)
@@ -184,7 +182,7 @@ module _ {z : Size} {planes : ℕ} {pyramid : List ℤ} {bytes : List ℕ} (w : 
         (arrived-reads z planes some (c .legal-size) (w .count .few) (kept-legal z (c .legal-size) planes pyramid (x .keep)) (x .more)))
 
     -- A selection of it is one of the record.
-    selected-again : {t : List ℕ} (y : Selected s t)
+    pub selected-again : {t : List ℕ} (y : Selected s t)
         → (again : Selected bytes t) × (wholeParts again ≡ wholeParts y) × (cutBytes again ≡ cutBytes y)
     selected-again {t} y =
         let left : (left : PartName → Bool) × (kept left (partsWith z planes pyramid) ≡ wholeIn (x .more) some)
@@ -231,7 +229,7 @@ module _ {s : List ℕ} {r p : ℕ} {out : List ℕ} {answer : Served} {out′ :
   abbrev portion : Portion
   portion = record { bytes = take (answer .length) out′; tail = answer .tail }
 
-  serving-wrote : (serving s r p (length out) ≡ accepted portion) × (answer .length ≤ length out′)
+  pub serving-wrote : (serving s r p (length out) ≡ accepted portion) × (answer .length ≤ length out′)
   serving-wrote =
       let y : Result Portion = serving s r p (length out) in
       subst₂ (λ (a : Served) o. (y ≡ accepted (record { bytes = take (a .length) o; tail = a .tail })) × (a .length ≤ length o))
@@ -260,7 +258,7 @@ module _ {s : List ℕ} {r p : ℕ} {out : List ℕ} {answer : Served} {out′ :
               ap (λ y. y .bytes) (sym serving-is) ∙ sym all ∙ sym (made-arrived (selected-reads w x) (asked r p) (length (flat partBytes ask)));
         }
 
-    serving-serves : Serves x r p (take (answer .length) out′) (answer .tail)
+    pub serving-serves : Serves x r p (take (answer .length) out′) (answer .tail)
     unfolding served-selected
     serving-serves =
         let again = selected-again w x served-selected in
@@ -286,7 +284,7 @@ kept-fewer keep (p ∷ ps) = by (keep (p .name)) (kept-fewer keep ps)
 
 module _ {s : List ℕ} {r p : ℕ} {out : List ℕ} {answer : Served} {out′ : List ℕ} (v : Serving s r p out answer out′) {z : Size} {planes : ℕ} {pyramid : List ℤ}
     {bytes : List ℕ} (w : Recorded z planes pyramid bytes) (x : Selected bytes s) where
-  serving-accepts : 1 ≤ r → r ≤ levels z → p ≤ planes → length s ≤ length out → answer .verdict ≡ Accepted
+  pub serving-accepts : 1 ≤ r → r ≤ levels z → p ≤ planes → length s ≤ length out → answer .verdict ≡ Accepted
   unfolding serveAnswer legalAsk unless portioned
   serving-accepts a b few room =
       let ask : List CodedPart = kept (asked r p) (wholeParts x) in
@@ -329,7 +327,7 @@ module _ {z : Size} {planes : ℕ} {pyramid : List ℤ} {bytes : List ℕ} (w : 
     unfolding decodeOut
     decoding-printed = d .writes ∙ ap (decodeOut (length out)) (rounded .accepts)
 
-    decoding-decodes : Decodes z planes pyramid (names (wholeParts x)) (cutBytes x) (verdictNumber (answer .verdict)) (verdictPlace (answer .verdict))
+    pub decoding-decodes : Decodes z planes pyramid (names (wholeParts x)) (cutBytes x) (verdictNumber (answer .verdict)) (verdictPlace (answer .verdict))
         (answer .tail) (planesAnswered answer) out′ work work′
     decoding-decodes =
         subst₂ (λ (a : Decoded) o. Decodes z planes pyramid (names (wholeParts x)) (cutBytes x) (verdictNumber (a .verdict)) (verdictPlace (a .verdict))
@@ -355,7 +353,7 @@ module _ {z : Size} {planes : ℕ} {pyramid : List ℤ} {bytes : List ℕ} (w : 
 
 -- The exports: each does what its routine does, and its answer stands in the slice lent for it.
 module _ {pyramid : List ℤ} {z : Size} {out work answer out′ work′ answer′ : List ℕ} (x : AfsCode pyramid z out work answer 0 out′ work′ answer′) where
-  afsCode-recorded : Recorded z (planesIn pyramid) pyramid (take (getD answer′ 2 0) out′) × (getD answer′ 2 0 ≤ length out′)
+  pub afsCode-recorded : Recorded z (planesIn pyramid) pyramid (take (getD answer′ 2 0) out′) × (getD answer′ 2 0 ≤ length out′)
   unfolding codeNumbers
   afsCode-recorded = by (decLe codePlaces (length answer))
     where
@@ -369,7 +367,7 @@ module _ {pyramid : List ℤ} {z : Size} {out work answer out′ work′ answer�
 
 module _ {s : List ℕ} {r p : ℕ} {out answer out′ answer′ : List ℕ} (v : AfsServe s r p out answer 0 out′ answer′) {z : Size} {planes : ℕ} {pyramid : List ℤ}
     {bytes : List ℕ} (w : Recorded z planes pyramid bytes) (x : Selected bytes s) where
-  afsServe-selects : Serves x r p (take (getD answer′ 2 0) out′) (getD answer′ 3 0) × (getD answer′ 2 0 ≤ length out′)
+  pub afsServe-selects : Serves x r p (take (getD answer′ 2 0) out′) (getD answer′ 3 0) × (getD answer′ 2 0 ≤ length out′)
   unfolding serveNumbers
   afsServe-selects = by (decLe servePlaces (length answer))
     where
@@ -407,7 +405,7 @@ told-plane a more i past = by (decLt i levelPlaces)
 module _ {z : Size} {planes : ℕ} {pyramid : List ℤ} {bytes : List ℕ} (w : Recorded z planes pyramid bytes) {s : List ℕ} (x : Selected bytes s) {out : List ℤ}
     {work answer : List ℕ} {number : ℕ} {out′ : List ℤ} {work′ answer′ : List ℕ} (d : AfsDecode s out work answer number out′ work′ answer′)
     (sizes : Stated z (length out) (length work)) (places : decodePlaces ≤ length answer) where
-  afsDecode-prints : Decodes z planes pyramid (names (wholeParts x)) (cutBytes x) number (getD answer′ 1 0) (getD answer′ 2 0) (planesTold answer′)
+  pub afsDecode-prints : Decodes z planes pyramid (names (wholeParts x)) (cutBytes x) number (getD answer′ 1 0) (getD answer′ 2 0) (planesTold answer′)
       out′ work work′
   unfolding decodeNumbers
   afsDecode-prints =
@@ -430,7 +428,7 @@ module _ {z : Size} {planes : ℕ} {pyramid : List ℤ} {bytes s t : List ℕ} (
   holds-again : (P : List PartName → ℕ → Type 0) → ((u : Selected bytes t) → P (names (wholeParts u)) (cutBytes u)) → P (names (wholeParts y)) (cutBytes y)
   holds-again P each = let again = selected-again w x y in subst₂ (λ ps n. P (names ps) n) (again .1) (again .2) (each (again .0))
 
-  decoding-again : {out : List ℤ} {work : List ℕ} {answer : Decoded} {out′ : List ℤ} {work′ : List ℕ} → Decoding t out work answer out′ work′
+  pub decoding-again : {out : List ℤ} {work : List ℕ} {answer : Decoded} {out′ : List ℤ} {work′ : List ℕ} → Decoding t out work answer out′ work′
       → Stated z (length out) (length work)
       → Decodes z planes pyramid (names (wholeParts y)) (cutBytes y) (verdictNumber (answer .verdict)) (verdictPlace (answer .verdict)) (answer .tail)
       (planesAnswered answer) out′ work work′
@@ -439,7 +437,7 @@ module _ {z : Size} {planes : ℕ} {pyramid : List ℤ} {bytes s t : List ℕ} (
       Decodes z planes pyramid ps n (verdictNumber (a .verdict)) (verdictPlace (a .verdict)) (a .tail) (planesAnswered a) out′ work work′) (λ u.
       decoding-decodes w u d sizes)
 
-  afsDecode-again : {out : List ℤ} {work answer : List ℕ} {number : ℕ} {out′ : List ℤ} {work′ answer′ : List ℕ}
+  pub afsDecode-again : {out : List ℤ} {work answer : List ℕ} {number : ℕ} {out′ : List ℤ} {work′ answer′ : List ℕ}
       → AfsDecode t out work answer number out′ work′ answer′ → Stated z (length out) (length work) → decodePlaces ≤ length answer
       → Decodes z planes pyramid (names (wholeParts y)) (cutBytes y) number (getD answer′ 1 0) (getD answer′ 2 0) (planesTold answer′) out′ work work′
   afsDecode-again {work = work} {number = number} {out′ = out′} {work′ = work′} {answer′ = answer′} d sizes places =
@@ -471,6 +469,12 @@ module _ {z : Size} {planes : ℕ} {pyramid : List ℤ} {bytes : List ℕ} (w : 
   unfolding planeIn blank-answer no-planes
   whole-planes k = ap (λ a. planesAnswered a k) whole-answered ∙ ap (λ (p : Plane). p .0) (blank-same (record { 0 = 0 }) levelPlaces (k - 1))
 
+  pub decoding-whole : (answer .verdict ≡ Accepted) × (out′ ≡ pyramid) × (answer .tail ≡ 0) × ((k : ℕ) → planesAnswered answer k ≡ 0)
+      × (work′ ≡ zeros (length work))
+  unfolding blank-answer
+  decoding-whole =
+      (ap (λ a. a .verdict) whole-answered, whole-printed, ap (λ a. a .tail) whole-answered, whole-planes, d .clears)
+
 module _ {z : Size} {planes : ℕ} {pyramid : List ℤ} {bytes : List ℕ} (w : Recorded z planes pyramid bytes) {out : List ℤ} {work answer : List ℕ} {number : ℕ}
     {out′ : List ℤ} {work′ answer′ : List ℕ} (d : AfsDecode bytes out work answer number out′ work′ answer′)
     (sizes : Stated z (length out) (length work)) (places : decodePlaces ≤ length answer) where
@@ -478,7 +482,7 @@ module _ {z : Size} {planes : ℕ} {pyramid : List ℤ} {bytes : List ℕ} (w : 
   unfolding decodeNumbers blank-answer no-planes planeIn from
   blank-numbers = refl
 
-  afsDecode-whole : (number ≡ 0) × (out′ ≡ pyramid) × (answer′ ≡ zeros (length answer)) × (work′ ≡ zeros (length work))
+  pub afsDecode-whole : (number ≡ 0) × (out′ ≡ pyramid) × (answer′ ≡ zeros (length answer)) × (work′ ≡ zeros (length work))
   unfolding blank-answer
   afsDecode-whole =
       let a = afsDecode-decodes d places in
@@ -491,48 +495,14 @@ module _ {z : Size} {planes : ℕ} {pyramid : List ℤ} {bytes : List ℕ} (w : 
         d .clears,
       )
 
-afsCode-accepts : {pyramid : List ℤ} {z : Size} {out work answer : List ℕ} {number : ℕ} {out′ work′ answer′ : List ℕ}
+pub afsCode-accepts : {pyramid : List ℤ} {z : Size} {out work answer : List ℕ} {number : ℕ} {out′ work′ answer′ : List ℕ}
     → AfsCode pyramid z out work answer number out′ work′ answer′ → Codable z pyramid → enoughRoom z ≤ length out → workFor z ≤ length work
     → codePlaces ≤ length answer → number ≡ 0
 afsCode-accepts x c room enough places =
     let a = afsCode-codes x places in a .2 ∙ ap verdictNumber (coding-accepts (a .1) c room enough)
 
-afsServe-accepts : {s : List ℕ} {r p : ℕ} {out answer : List ℕ} {number : ℕ} {out′ answer′ : List ℕ} → AfsServe s r p out answer number out′ answer′
+pub afsServe-accepts : {s : List ℕ} {r p : ℕ} {out answer : List ℕ} {number : ℕ} {out′ answer′ : List ℕ} → AfsServe s r p out answer number out′ answer′
     → {z : Size} {planes : ℕ} {pyramid : List ℤ} {bytes : List ℕ} → Recorded z planes pyramid bytes → Selected bytes s → 1 ≤ r → r ≤ levels z → p ≤ planes
     → length s ≤ length out → servePlaces ≤ length answer → number ≡ 0
 afsServe-accepts v w x a b few room places =
     let c = afsServe-serves v places in c .2 ∙ ap verdictNumber (serving-accepts (c .1) w x a b few room)
-
-pub from-memory-to-memory : FromMemoryToMemory
-from-memory-to-memory =
-    record {
-      coded = λ c. afsCode-recorded c;
-      codes = λ c k room enough places. afsCode-accepts c k room enough places;
-      decoded = λ c x d sizes places. afsDecode-prints (afsCode-recorded c .0) x d sizes places;
-      earlier = λ c. recorded c (earlier-count c) refl;
-      stored = λ w x d sizes places. afsDecode-prints w x d sizes places;
-      served = λ c x v. afsServe-selects v (afsCode-recorded c .0) x;
-      serves = λ c x v a b few room places. afsServe-accepts v (afsCode-recorded c .0) x a b few room places;
-      selected = λ c x y. selected-again (afsCode-recorded c .0) x y;
-      served-decoded = λ c x v y d sizes places.
-          let w = afsCode-recorded c .0 in afsDecode-again w (afsServe-selects v w x .0 .again) y d sizes places;
-      stored-whole = λ w d sizes places. afsDecode-whole w d sizes places;
-      whole = λ c d sizes places. afsDecode-whole (afsCode-recorded c .0) d sizes places;
-    }
-
-pub from-routine-to-routine : FromRoutineToRoutine
-unfolding blank-answer
-from-routine-to-routine =
-    record {
-      coded = λ c e. (coding-recorded c e, coding-wrote c e .1);
-      codes = λ c k room enough. coding-accepts c k room enough;
-      decoded = λ c e x d sizes. decoding-decodes (coding-recorded c e) x d sizes;
-      served = λ c e x v a. (serving-serves v a (coding-recorded c e) x, serving-wrote v a .1);
-      serves = λ c e x v a b few room. serving-accepts v (coding-recorded c e) x a b few room;
-      selected = λ c e x y. selected-again (coding-recorded c e) x y;
-      served-decoded = λ c e x v a y d sizes. let w = coding-recorded c e in decoding-again w (serving-serves v a w x .again) y d sizes;
-      whole = λ c e d sizes.
-          let w = coding-recorded c e in
-          let a = whole-answered w d sizes in
-          (ap (λ b. b .verdict) a, whole-printed w d sizes, ap (λ b. b .tail) a, whole-planes w d sizes, d .clears);
-    }

@@ -1,9 +1,8 @@
--- Demand 1: a call comes back with a number and place exactly where the case of that refusal holds for it (Causes has the cases, one a row of
--- document 01's table), with 0 exactly where it is accepted; and what it leaves in the memory lent to it is what document 01 says.
+-- Demand 1, for Promises/One: number and place tell refusals apart, each routine gives its own numbers only, and so a call whose result has its
+-- case, and no other's, comes back with a number and a place exactly where that case holds.
 use mathlib.Core.Path.{_≡_, refl, ap, ap₂, sym, _∙_, subst}
 use mathlib.Core.List.{List, [], _∷_, _++_}
-use mathlib.Core.Bool.{true, cond}
-use mathlib.Core.Logic.{_↔_}
+use mathlib.Core.Bool.{cond}
 use Prim.Native.Nat.{ℕ, _-_}
 use native.Mathlib.Omega.{arith}
 use lib.Dec.{eqb}
@@ -26,35 +25,12 @@ use Rattle.rules.specs.Document.Passes.{PartName}
 use Rattle.rules.specs.Document.Numbers.{refusalNumber, refusalPlace, verdictNumber, verdictPlace, fault}
 use Rattle.rules.specs.Document.Calls.{Result, refused, accepted, coding, Portion, serving, levelPlaces, Picture, decoding, filled}
 use Rattle.rules.specs.Document.Calls.{codeOut, codeAnswer, serveOut, serveAnswer, decodeOut, decodeAnswer, Coding, Serving, Decoding}
+use Rattle.rules.specs.Promises.Vocabulary.{among, codingNumbers, servingNumbers, decodingNumbers, Exactly}
 use Rattle.rules.specs.Promises.Refusals.{HeaderCase, HEAD, LONGFORM, VERSION, HEAD-later, LONGFORM-later, SIZE, PartCase, PART-malformed, PART, PAD}
-use Rattle.rules.specs.Promises.Refusals.{Walk, MORE, FAULT}
-use Rattle.rules.specs.Promises.Refusals.{CodingCase, LENGTH, WORK, RANGE, ROOM, CODED, ServingCase, HEADER, ASK, PARTS, SERVED, DecodingCase}
-use Rattle.rules.specs.Promises.Refusals.{FIT, DECODED}
+use Rattle.rules.specs.Promises.Refusals.{Walk, MORE, FAULT, CodingCase, LENGTH, WORK, RANGE, ROOM, CODED, ServingCase, HEADER, ASK, PARTS, SERVED}
+use Rattle.rules.specs.Promises.Refusals.{DecodingCase, FIT, DECODED}
 use Rattle.rules.specs.Laws.Calls.Results.{refusal-some}
 use Rattle.rules.specs.Laws.Calls.Cases.{coding-case, coding-is, serving-case, serving-is, decoding-case, decoding-is}
-
--- The numbers that each routine may give.
-abbrev pub among : List ℕ → ℕ → Type 0
-among own n = any (eqb n) own ≡ true
-
-abbrev pub codingNumbers : List ℕ
-codingNumbers = 0 ∷ 1 ∷ 2 ∷ 3 ∷ 4 ∷ 5 ∷ []
-
-abbrev pub servingNumbers : List ℕ
-servingNumbers = 0 ∷ 1 ∷ 5 ∷ 6 ∷ 7 ∷ 8 ∷ 9 ∷ 11 ∷ 12 ∷ []
-
-abbrev pub decodingNumbers : List ℕ
-decodingNumbers = 0 ∷ 1 ∷ 2 ∷ 3 ∷ 6 ∷ 7 ∷ 8 ∷ 9 ∷ 10 ∷ 12 ∷ []
-
--- What is promised of a verdict, where each result has its case: the numbers the call may give are `own`; a refusal leaves Refusing, and
--- acceptance of x leaves Accepting x.
-pub record Exactly {X : Type 0} (Case : Result X → Type 0) (own : List ℕ) (verdict : Verdict) (Refusing : Type 0)
-    (Accepting : X → Type 0) : Type 0 where
-  pub refuses : (r : Refusal) → ((verdictNumber verdict ≡ refusalNumber r) × (verdictPlace verdict ≡ refusalPlace r)) ↔ Case (refused r)
-  pub accepts : ((verdictNumber verdict ≡ 0) × (verdictPlace verdict ≡ 0)) ↔ ((x : X) × Case (accepted x))
-  pub gives : among own (verdictNumber verdict)
-  pub refusing : (r : Refusal) → Case (refused r) → Refusing
-  pub accepting : (x : X) → Case (accepted x) → Accepting x
 
 -- Number and place tell refusals apart: of those with this place it is the one with this number.
 withNumber : ℕ → List Refusal → Refusal

@@ -40,7 +40,8 @@ module _ {X : Type 0} where
   unless-accepted true r y x e = (refl, e)
   unless-accepted false r y x e = absurd (let z : _≡_ {A = ℕ} 0 1 = cc in omega arith)
 
-  pub onHeader-accepted : (y : HeaderRead) (go : Header → Result X) (x : X) → onHeader y go ≡ accepted x → (h : Header) × (y ≡ header.Header h) × (go h ≡ accepted x)
+  pub onHeader-accepted : (y : HeaderRead) (go : Header → Result X) (x : X) → onHeader y go ≡ accepted x
+      → (h : Header) × (y ≡ header.Header h) × (go h ≡ accepted x)
   unfolding onHeader
   onHeader-accepted (header.Header h) go x e = (h, refl, e)
   onHeader-accepted (header.Refused r) go x e = absurd (let z : _≡_ {A = ℕ} 0 1 = cc in omega arith)

@@ -1,5 +1,5 @@
--- Demand 2. The coder's record has every part, those of 0 bits too; serving writes the header and exactly the parts with level ≥ r and plane
--- ≥ p, unaltered; a whole record decodes to the pyramid.
+-- Demand 2, for Promises/Two: the coder's record has every part, what is served of it, and that with every part there every level reaches plane 0,
+-- so that a whole record decodes to the pyramid.
 use mathlib.Core.Path.{_≡_, refl, ap, sym, _∙_, subst}
 use mathlib.Core.List.{List, [], _∷_, _++_, append-assoc}
 use mathlib.Core.Bool.{Bool, true}
@@ -20,13 +20,13 @@ use Rattle.rules.specs.Document.Layout.{partsWith, recordWith, earlierPl
 use Rattle.rules.specs.Document.Calls.{accepted, unless, legalAsk, portioned, serving, levelPlaces, planeIn, decoding}
 use Rattle.rules.specs.Laws.Counting.Booleans.{both, either-right}
 use Rattle.rules.specs.Laws.Counting.Sums.{all-of}
-use Rattle.rules.specs.Laws.Reading.Parts.{at, Named, present, name-same, present-append, every-name}
+use Rattle.rules.specs.Laws.Reading.Parts.{name-same, present-append, every-name}
+use Rattle.rules.specs.Promises.Vocabulary.{at, Named, present, headerOf, recordBytes, Codable, Stated, PlaneCount, names, kept, asked, wholeIn, tailIn}
+use Rattle.rules.specs.Promises.Vocabulary.{arrived, Rounded, ReadsAs}
 use Rattle.rules.specs.Laws.Reading.Usable.{every-usable, usable-reached, reached-within}
-use Rattle.rules.specs.Laws.Bytes.PartBack.{headerOf}
-use Rattle.rules.specs.Laws.Bytes.RecordBack.{recordBytes, coded-names}
-use Rattle.rules.specs.Promises.Vocabulary.{Codable, Stated, PlaneCount, names, kept, asked, wholeIn, tailIn, arrived, Rounded}
+use Rattle.rules.specs.Laws.Bytes.RecordBack.{coded-names}
 use Rattle.rules.specs.Laws.Rounding.TowardZero.{toward-all, signed-itself}
-use Rattle.rules.specs.Laws.Rounding.Arrival.{ReadsAs, record-reads, arrived-reads, selection-all}
+use Rattle.rules.specs.Laws.Rounding.Arrival.{record-reads, arrived-reads, selection-all}
 use Rattle.rules.specs.Laws.Rounding.Run.{coder-legal, kept-legal}
 use Rattle.rules.specs.Laws.Serving.Parts.{serves-read}
 use Rattle.rules.specs.Laws.Calls.Arrived.{this-count, earlier-count, demand3-selection}

@@ -1,4 +1,4 @@
--- Tests: what it tells that one holds, and when two agree.
+-- Tests, which give true or false: what it tells that one holds, when two agree, and what is selected by one.
 use mathlib.Core.Path.{_≡_, refl, ap, sym, _∙_}
 use mathlib.Core.List.{List, [], _∷_, _++_}
 use mathlib.Core.Bool.{Bool, true, false, cond, _&&_, _||_, true≢false, and-assoc, or-assoc}
@@ -6,11 +6,7 @@ use mathlib.Core.Logic.{_⊎_, inl, inr}
 use Prim.Native.Nat.{ℕ, zero, suc, _≤_, _<_}
 use native.Mathlib.Omega.{arith}
 use Rattle.rules.specs.Document.Notation.{any, every, lowest}
-
--- those that pass a test, in order
-unfoldable pub selection : {X : Type 0} → (X → Bool) → List X → List X
-selection t [] = []
-selection t (x ∷ xs) = cond (t x) (x ∷ selection t xs) (selection t xs)
+use Rattle.rules.specs.Promises.Vocabulary.{selection}
 
 -- one selection after another
 pub selection-both : {X : Type 0} (t u : X → Bool) (xs : List X) → selection (λ x. t x && u x) xs ≡ selection u (selection t xs)

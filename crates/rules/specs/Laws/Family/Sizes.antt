@@ -1,4 +1,4 @@
--- Sizes: what a legal one has, and n_k, how many coefficients level k has.
+-- Sizes: that the test of a legal one is the statement Legal, and n_k, how many coefficients level k has.
 --
 --   span z k          coefficients in the first H / 2^k rows and W / 2^k columns
 --   levelStart z k    coefficients of the levels over k: where level k starts when they are laid out coarsest first
@@ -15,6 +15,7 @@ use lib.Dec.{leb, eqb}
 use borrow.Author.Tests.{leb-true, eqb-true, le-leb, lt-leb, eq-eqb}
 use Rattle.rules.specs.declared.Size.{Size}
 use Rattle.rules.specs.Document.Pyramid.{leastSide, greatestSide, mostArea, mostDecompositions, legalSide, legalSize, area, levels}
+use Rattle.rules.specs.Promises.Vocabulary.{Side, Legal}
 
 module _ (z : Size) where
   unfoldable pub span : ℕ → ℕ
@@ -28,20 +29,6 @@ module _ (z : Size) where
 
   unfoldable pub levelSize : ℕ → ℕ
   levelSize k = levelEnd k - levelStart k
-
--- "Width W and height H are 4 to 512, both multiples of 2^(N+1); N, the decomposition count, is 1 to 5." So a side halves exactly, down to
--- the LL band and once more.
-pub record Side (n x : ℕ) : Type 0 where
-  pub least : leastSide ≤ x
-  pub most : x ≤ greatestSide
-  pub multiple : x % 2 ^ (n + 1) ≡ 0
-  pub half : (k : ℕ) → k ≤ n → x / 2 ^ k ≡ 2 * (x / 2 ^ suc k)
-
-pub record Legal (z : Size) : Type 0 where
-  pub some : 1 ≤ z .n
-  pub few : z .n ≤ mostDecompositions
-  pub width : Side (z .n) (z .w)
-  pub height : Side (z .n) (z .h)
 
 -- legalSize
 module _ (n x : ℕ) (e : x % 2 ^ (n + 1) ≡ 0) where

@@ -17,7 +17,7 @@ use borrow.Author.Tests.{eqb-true, eqb-false, eq-eqb, ne-eqb, lt-ltb, le-ltb}
 use Rattle.rules.specs.declared.Size.{Size}
 use Rattle.rules.specs.Document.Pyramid.{odd, index, row, column, within, levelOf, block, offspringLL, offspringAt, offspringOf}
 use Rattle.rules.specs.Laws.Counting.Sums.{sum, is, is-yes, is-no, is-count, both-yes, both-eq, both-most}
-use Rattle.rules.specs.Laws.Family.Sizes.{Legal}
+use Rattle.rules.specs.Promises.Vocabulary.{Legal}
 use Rattle.rules.specs.Laws.Offspring.Level.{within-level}
 
 unfoldable pub apart : ℕ → ℕ → ℕ

@@ -12,7 +12,8 @@ use Rattle.rules.specs.declared.Size.{Size}
 use Rattle.rules.specs.Document.Pyramid.{area, levels, levelOf}
 use Rattle.rules.specs.Document.Passes.{from}
 use Rattle.rules.specs.Laws.Counting.Sums.{sum, one, is, All, sum-plus, sum-pointwise, sum-zero, sum-one, sum-most, is-yes, is-no, all-of, all-then}
-use Rattle.rules.specs.Laws.Family.Sizes.{Legal, span, levelStart, levelEnd, levelSize, levelStart-fine}
+use Rattle.rules.specs.Laws.Family.Sizes.{span, levelStart, levelEnd, levelSize, levelStart-fine}
+use Rattle.rules.specs.Promises.Vocabulary.{Legal}
 use Rattle.rules.specs.Laws.Offspring.Level.{level-most, within-level, level-area}
 use Rattle.rules.specs.Laws.Offspring.Grid.{within-count}
 

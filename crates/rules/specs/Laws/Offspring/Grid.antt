@@ -10,7 +10,8 @@ use Rattle.rules.specs.declared.Size.{Size}
 use Rattle.rules.specs.Document.Pyramid.{area, index, row, column, within, levelOf}
 use Rattle.rules.specs.Document.Passes.{from, rows, bandLL}
 use Rattle.rules.specs.Laws.Counting.Sums.{sum, one, is, sum-append, sum-pointwise, one-and, from-add, from-once}
-use Rattle.rules.specs.Laws.Family.Sizes.{Legal, span}
+use Rattle.rules.specs.Laws.Family.Sizes.{span}
+use Rattle.rules.specs.Promises.Vocabulary.{Legal}
 use Rattle.rules.specs.Laws.Offspring.Level.{within-level, column-lt}
 use Rattle.rules.specs.Laws.Offspring.Block.{row-index, column-index, index-place, is-index}
 

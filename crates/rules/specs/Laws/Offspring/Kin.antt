@@ -8,7 +8,8 @@ use lib.Pow.{shr-le}
 use Rattle.rules.specs.declared.Size.{Size}
 use Rattle.rules.specs.Document.Pyramid.{area, odd, row, column, levelOf, offspringOf}
 use Rattle.rules.specs.Laws.Counting.Sums.{sum, is, _∈_, both-yes, both-eq, both-most}
-use Rattle.rules.specs.Laws.Family.Sizes.{Legal, half-twice}
+use Rattle.rules.specs.Laws.Family.Sizes.{half-twice}
+use Rattle.rules.specs.Promises.Vocabulary.{Legal}
 use Rattle.rules.specs.Laws.Offspring.Level.{Within, level-most, over-within, within-over, outside-level, row-area}
 use Rattle.rules.specs.Laws.Offspring.Block.{apart, apart-lt, apart-low, block-count, halfRows, halfColumns, offspring-band, offspring-inner}
 use Rattle.rules.specs.Laws.Offspring.Block.{offspring-leaf}

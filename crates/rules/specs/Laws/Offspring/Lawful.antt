@@ -11,7 +11,7 @@ use Rattle.rules.specs.Document.Pyramid.{family, area, odd, row, column,
 use Rattle.rules.specs.Document.Pyramid.{generations, descendantsOf}
 use Rattle.rules.specs.Laws.Counting.Sums.{_∈_, All, in-some, some-in, none-in, all-then, all-append, all-flat, every-all, all-every, flat-same}
 use Rattle.rules.specs.Laws.Family.Lawful.{Lawful}
-use Rattle.rules.specs.Laws.Family.Sizes.{Legal}
+use Rattle.rules.specs.Promises.Vocabulary.{Legal}
 use Rattle.rules.specs.Laws.Offspring.Level.{level-most, level-least}
 use Rattle.rules.specs.Laws.Offspring.Block.{offspring-inner}
 use Rattle.rules.specs.Laws.Offspring.Kin.{offspring-area, offspring-level}

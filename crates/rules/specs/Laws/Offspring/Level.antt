@@ -9,7 +9,8 @@ use lib.Dec.{ltb}
 use borrow.Author.Tests.{ltb-true, lt-ltb, le-ltb}
 use Rattle.rules.specs.declared.Size.{Size}
 use Rattle.rules.specs.Document.Pyramid.{area, row, column, within, levelUpTo, levels, levelOf}
-use Rattle.rules.specs.Laws.Family.Sizes.{Legal, side-falls}
+use Rattle.rules.specs.Laws.Family.Sizes.{side-falls}
+use Rattle.rules.specs.Promises.Vocabulary.{Legal}
 
 -- In the first H / 2^k rows and W / 2^k columns.
 abbrev pub Within : Size → ℕ → ℕ → Type 0

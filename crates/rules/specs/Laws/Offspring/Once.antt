@@ -10,7 +10,7 @@ use Rattle.rules.specs.Document.Notation.{flat}
 use Rattle.rules.specs.Document.Pyramid.{area, levels, levelOf, offspringOf, generations, descendantsOf}
 use Rattle.rules.specs.Document.Passes.{bandLL}
 use Rattle.rules.specs.Laws.Counting.Sums.{sum, one, is, Every, sum-append, sum-flat, sum-plus, sum-same, sum-pointwise, sum-zero, all-of, every-all}
-use Rattle.rules.specs.Laws.Family.Sizes.{Legal}
+use Rattle.rules.specs.Promises.Vocabulary.{Legal}
 use Rattle.rules.specs.Laws.Offspring.Level.{level-most}
 use Rattle.rules.specs.Laws.Offspring.Kin.{offspring-level}
 use Rattle.rules.specs.Laws.Offspring.Parent.{parent, parent-only, parent-level, parent-area}

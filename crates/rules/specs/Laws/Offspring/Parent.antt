@@ -10,7 +10,7 @@ use borrow.Author.Tests.{eq-eqb, ne-eqb}
 use Rattle.rules.specs.declared.Size.{Size}
 use Rattle.rules.specs.Document.Pyramid.{area, odd, index, row, column, levelOf, offspringOf}
 use Rattle.rules.specs.Laws.Counting.Sums.{sum, is, is-count}
-use Rattle.rules.specs.Laws.Family.Sizes.{Legal}
+use Rattle.rules.specs.Promises.Vocabulary.{Legal}
 use Rattle.rules.specs.Laws.Offspring.Level.{Within, level-most, over-within, within-over, outside-level, column-lt, row-lt, level-area}
 use Rattle.rules.specs.Laws.Offspring.Block.{apart, together, together-lt, together-odd, apart-together, together-apart, row-index}
 use Rattle.rules.specs.Laws.Offspring.Block.{column-index, index-place, halfRows, halfColumns}

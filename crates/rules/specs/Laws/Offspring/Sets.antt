@@ -14,7 +14,7 @@ use Rattle.rules.specs.Document.Pyramid.{family, odd, row, column, level
 use Rattle.rules.specs.Document.Passes.{typeA, typeB, members, inLevel, added, rootOf}
 use Rattle.rules.specs.Laws.Counting.Sums.{_∈_, in-flat, in-some, some-in, none-in, ifAny-some}
 use Rattle.rules.specs.Laws.Family.Lawful.{level-test, level-some, offspring-descend, further-descend, grandchild}
-use Rattle.rules.specs.Laws.Family.Sizes.{Legal}
+use Rattle.rules.specs.Promises.Vocabulary.{Legal}
 use Rattle.rules.specs.Laws.Offspring.Block.{blockLL, offspring-band}
 use Rattle.rules.specs.Laws.Offspring.Kin.{offspring-level}
 use Rattle.rules.specs.Laws.Offspring.Lawful.{descendants-level, offspring-further, lawful}

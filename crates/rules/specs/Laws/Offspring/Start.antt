@@ -12,7 +12,8 @@ use Rattle.rules.specs.Document.Pyramid.{family, area, levels, offspring
 use Rattle.rules.specs.Document.Passes.{typeA, members, from, bandLL, rootOf, start}
 use Rattle.rules.specs.Laws.Counting.Sums.{All, sum, is, sum-append, sum-flat, sum-pointwise, sum-one, sum-ifAny, sum-once, all-of, all-append}
 use Rattle.rules.specs.Laws.Counting.Sums.{all-flat, every-all, from-length}
-use Rattle.rules.specs.Laws.Family.Sizes.{Legal, span}
+use Rattle.rules.specs.Laws.Family.Sizes.{span}
+use Rattle.rules.specs.Promises.Vocabulary.{Legal}
 use Rattle.rules.specs.Laws.Offspring.Level.{level-area}
 use Rattle.rules.specs.Laws.Offspring.Grid.{band-sum}
 use Rattle.rules.specs.Laws.Offspring.Lawful.{descendants-area, lawful}

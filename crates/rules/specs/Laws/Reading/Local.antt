@@ -14,6 +14,7 @@ use Rattle.rules.specs.declared.PartRead.the-variants as part
 use Rattle.rules.specs.Document.Layout.{bitAt, readNumber, bytesFor, bodyOf, nameOf}
 use Rattle.rules.specs.Document.Passes.{PartName}
 use Rattle.rules.specs.Document.Numbers.{readHeader, legalHead, readPart}
+use Rattle.rules.specs.Promises.Vocabulary.{movedTo}
 use Rattle.rules.specs.Laws.Reading.Parts.{legal-head}
 use Rattle.rules.specs.Promises.Refusals.{groupsWorth, NumberCase, VALUE, Numbers, none, next, HeaderCase, LEGAL, PartCase, WHOLE}
 use Rattle.rules.specs.Laws.Reading.NumberCases.{number-case, number-is}
@@ -98,11 +99,6 @@ same-stretch s a t b n e l =
     (λ i j.
     let k : i < n = omega arith in
     getD-take n (drop b t) i 0 k ∙ getD-drop b t i 0 ∙ e .bytes i k ∙ sym (getD-take n (drop a s) i 0 k ∙ getD-drop a s i 0))
-
--- A part at another place.
-unfoldable pub movedTo : ℕ → Part → Part
-movedTo b p =
-    record { plane = p .plane; level = p .level; bits = p .bits; place = b; body = b + (p .body - p .place); end = b + (p .end - p .place) }
 
 module _ (s : List ℕ) (t : List ℕ) (b : ℕ) (p : Part) (m : Same s (p .place) t b (p .end - p .place)) (in-order : p .place ≤ p .body)
     (ends : p .end ≡ p .body + bytesFor (p .bits)) (inside : p .end ≤ length s) where

@@ -14,9 +14,9 @@ use Rattle.rules.specs.Document.Passes.{PartName}
 use Rattle.rules.specs.Document.Layout.{sameName, usable, reached}
 use Rattle.rules.specs.Laws.Counting.Sums.{All}
 use Rattle.rules.specs.Laws.Counting.Booleans.{same-test, not-test, both, both-left, both-right, either, either-right, lowest-same}
-use Rattle.rules.specs.Laws.Reading.Parts.{at, Named, present, After, InOrder, same-name, name-same, present-append, absent, order-behind, order-front}
-use Rattle.rules.specs.Laws.Reading.Usable.{Usable, usable-every, every-usable, usable-there, usable-rises, reached-within, usable-reached}
-use Rattle.rules.specs.Laws.Reading.Usable.{reached-usable}
+use Rattle.rules.specs.Laws.Reading.Parts.{After, InOrder, same-name, name-same, present-append, absent, order-behind, order-front}
+use Rattle.rules.specs.Promises.Vocabulary.{at, Named, present, Usable}
+use Rattle.rules.specs.Laws.Reading.Usable.{usable-every, every-usable, usable-there, usable-rises, reached-within, usable-reached, reached-usable}
 
 -- With R the planes reached by the parts that came by: a part is usable if its level had reached the plane above, and the next coarser level
 -- its own plane; and the planes reached with it.

@@ -10,26 +10,12 @@ use lib.Dec.{leb, ltb, eqb}
 use borrow.Author.Tests.{leb-true, le-leb, ltb-true, lt-ltb, eqb-true, eq-eqb}
 use Rattle.rules.specs.declared.Header.{Header}
 use Rattle.rules.specs.Document.Notation.{any, every}
-use Rattle.rules.specs.Document.Pyramid.{levels}
 use Rattle.rules.specs.Document.Passes.{PartName, partsOfPlane, partNames}
 use Rattle.rules.specs.Document.Layout.{sameName, needs}
 use Rattle.rules.specs.Document.Numbers.{mostBits, follows, legalHead, topLevel}
+use Rattle.rules.specs.Promises.Vocabulary.{at, Named, present, LegalHead}
 use Rattle.rules.specs.Laws.Counting.Sums.{All, all-then, all-append}
 use Rattle.rules.specs.Laws.Counting.Booleans.{both, both-left, both-right, either, either-right, any-append, every-append}
-
--- part (n, k)
-abbrev pub at : ℕ → ℕ → PartName
-at n k = record { plane = n; level = k }
-
--- A part that a record of so many levels and planes may have.
-pub record Named (top planes : ℕ) (p : PartName) : Type 0 where
-  pub under : p .plane < planes
-  pub from1 : 1 ≤ p .level
-  pub upTo : p .level ≤ top
-
--- a part of that name is among those there
-unfoldable pub present : List PartName → PartName → Bool
-present there p = any (sameName p) there
 
 -- b comes after a in the order of parts
 pub record After (a b : PartName) : Type 0 where
@@ -40,12 +26,6 @@ pub record After (a b : PartName) : Type 0 where
 unfoldable pub InOrder : PartName → List PartName → Type 0
 InOrder before [] = Unit {0}
 InOrder before (p ∷ ps) = (follows before p ≡ true) × InOrder p ps
-
--- what the head of a part must be
-pub record LegalHead (h : Header) (before p : PartName) (bits : ℕ) : Type 0 where
-  pub named : Named (topLevel h) (h .planes) p
-  pub in-order : follows before p ≡ true
-  pub bits-most : bits ≤ mostBits (h .size)
 
 -- names
 pub same-name : (p q : PartName) → sameName p q ≡ true → p ≡ q

@@ -17,7 +17,7 @@ use Rattle.rules.specs.Document.Passes.{PartName}
 use Rattle.rules.specs.Document.Layout.{readNumber, version, bytesFor, padClear, bodyOf, nameOf}
 use Rattle.rules.specs.Document.Numbers.{readHeader, readPart}
 use Rattle.rules.specs.Laws.Counting.Booleans.{both-left, both-right}
-use Rattle.rules.specs.Laws.Reading.Parts.{LegalHead}
+use Rattle.rules.specs.Promises.Vocabulary.{LegalHead}
 use Rattle.rules.specs.Promises.Refusals.{NumberCase, VALUE, Numbers, none, next, HeaderCase, LEGAL, PartCase, WHOLE}
 use Rattle.rules.specs.Laws.Reading.NumberCases.{number-case}
 use Rattle.rules.specs.Laws.Reading.PartCases.{passed, legal-judged, header-case, pad-set, part-case}

@@ -1,4 +1,4 @@
--- Usable parts and reached planes: document 01's definition as a statement, and what follows from it.
+-- Usable parts and reached planes: that document 01's definition is the statement Usable, and what follows from it.
 use mathlib.Core.Path.{_≡_, refl, sym, _∙_}
 use mathlib.Core.List.{List, []}
 use mathlib.Core.Bool.{Bool, true, false, not, _||_, true≢false}
@@ -10,12 +10,9 @@ use borrow.Author.Tests.{leb-true, le-leb}
 use Rattle.rules.specs.Document.Notation.{any, lowest}
 use Rattle.rules.specs.Document.Passes.{PartName}
 use Rattle.rules.specs.Document.Layout.{sameName, needs, usable, reached}
+use Rattle.rules.specs.Promises.Vocabulary.{Usable, at, Named, present}
 use Rattle.rules.specs.Laws.Counting.Booleans.{same-test, lowest-within, lowest-passes, lowest-least}
-use Rattle.rules.specs.Laws.Reading.Parts.{at, Named, present, needs-above, above-needs, every-name, name-every}
-
--- "Part (n, k) is usable if every part (n', k') with n' >= n and k' >= k is present whole."
-abbrev pub Usable : ℕ → ℕ → List PartName → PartName → Type 0
-Usable top planes there p = (q : PartName) → Named top planes q → p .plane ≤ q .plane → p .level ≤ q .level → present there q ≡ true
+use Rattle.rules.specs.Laws.Reading.Parts.{needs-above, above-needs, every-name, name-every}
 
 module _ (top planes : ℕ) (there : List PartName) where
   pub usable-every : (p : PartName) → usable top planes there p ≡ true → Usable top planes there p

@@ -41,7 +41,8 @@ readFrom-enough (suc m) zero h s before place a b = rw (readPart-past h s before
 readFrom-enough (suc m) (suc n) h s before place a b =
     go (readPart h s before place) refl (λ p l. readFrom-enough m n h s (nameOf p) (p .end) (omega arith) (omega arith))
   where
-    go : (x : PartRead) → readPart h s before place ≡ x → ((p : Part) → place < p .end → readFrom m h s (nameOf p) (p .end) ≡ readFrom n h s (nameOf p) (p .end))
+    go : (x : PartRead) → readPart h s before place ≡ x
+        → ((p : Part) → place < p .end → readFrom m h s (nameOf p) (p .end) ≡ readFrom n h s (nameOf p) (p .end))
         → goOn s place x (λ p. readFrom m h s (nameOf p) (p .end)) ≡ goOn s place x (λ p. readFrom n h s (nameOf p) (p .end))
     go (part.Part p) e r =
         let t = readPart-stands h s before place p e in

@@ -11,7 +11,8 @@ use Rattle.rules.specs.Document.Passes.{PartName}
 use Rattle.rules.specs.Document.Layout.{nameOf, usable, reached}
 use Rattle.rules.specs.Document.Numbers.{readPart, goOn, readFrom, readParts, topLevel}
 use Rattle.rules.specs.Laws.Counting.Sums.{All}
-use Rattle.rules.specs.Laws.Reading.Parts.{Named, InOrder, all-middle}
+use Rattle.rules.specs.Laws.Reading.Parts.{InOrder, all-middle}
+use Rattle.rules.specs.Promises.Vocabulary.{Named}
 use Rattle.rules.specs.Laws.Reading.OneWalk.{usableNow, reachedNow, one-walk, reached-walk}
 use Rattle.rules.specs.Laws.Reading.Stands.{readPart-stands}
 

@@ -17,12 +17,12 @@ use Rattle.rules.specs.Document.Pyramid.{mostPlanes, legalSize}
 use Rattle.rules.specs.Document.Passes.{PartName}
 use Rattle.rules.specs.Document.Layout.{headerBytes, CodedPart, partBytes}
 use Rattle.rules.specs.Document.Numbers.{readHeader, follows, tail, readParts}
+use Rattle.rules.specs.Promises.Vocabulary.{ReadsAs, names, kept, wholeIn, tailIn, arrived, headerOf, recordBytes, partsAt, selection}
 use Rattle.rules.specs.Laws.Counting.Booleans.{not-test, selection-both}
 use Rattle.rules.specs.Laws.Counting.Sums.{All, all-then, map-all}
 use Rattle.rules.specs.Laws.Reading.Parts.{InOrder, After, follows-after, after-follows, order-front, order-behind, legal-head}
-use Rattle.rules.specs.Promises.Vocabulary.{names, kept, wholeIn, tailIn, arrived}
-use Rattle.rules.specs.Laws.Bytes.PartBack.{headerOf, reads-header}
-use Rattle.rules.specs.Laws.Bytes.RecordBack.{recordBytes, partsAt, beforeAll, LegalParts, selection, reads-record, reads-cut-record}
+use Rattle.rules.specs.Laws.Bytes.PartBack.{reads-header}
+use Rattle.rules.specs.Laws.Bytes.RecordBack.{beforeAll, LegalParts, reads-record, reads-cut-record}
 
 -- The two cases: all is there, or the part q is cut and nothing comes behind it.
 pub record AllThere (n : ℕ) (ps : List CodedPart) : Type 0 where
@@ -64,12 +64,6 @@ all-or-cut n (p ∷ ps) = by (leb (length (partBytes p)) n) refl (all-or-cut (n 
         })
     by false e r =
         inr (record { q = p; later = ps; parts = rw e; short = rw e (leb-false (length (partBytes p)) n e); bytes = rw e (omega arith) })
-
--- Bytes that read as the parts ps behind a header, and a tail of so many bytes.
-pub record ReadsAs (z : Size) (planes : ℕ) (ps : List CodedPart) (cut : ℕ) (bytes : List ℕ) : Type 0 where
-  pub rest : List ℕ
-  pub stand : bytes ≡ headerBytes z planes ++ (flat partBytes ps ++ rest)
-  pub parts-read : readParts (headerOf z planes) bytes ≡ record { parts = partsAt (length (headerBytes z planes)) ps; ending = tail cut }
 
 module _ {z : Size} {planes : ℕ} {ps : List CodedPart} {cut : ℕ} {bytes : List ℕ} (r : ReadsAs z planes ps cut bytes) where
   pub header-read : legalSize z ≡ true → planes ≤ mostPlanes → readHeader bytes ≡ header.Header (headerOf z planes)

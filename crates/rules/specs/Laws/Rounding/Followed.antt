@@ -20,8 +20,8 @@ use Rattle.rules.specs.Laws.Counting.Sums.{All}
 use Rattle.rules.specs.Laws.Reading.Parts.{InOrder, After, follows-after}
 use Rattle.rules.specs.Laws.Pass.Simulation.{spoken, course, drawn, bitsOf, eventsOf, coded-course, decoded-course, after-course}
 use Rattle.rules.specs.Laws.Bytes.BodyBack.{packed-bit}
-use Rattle.rules.specs.Laws.Bytes.PartBack.{partAt, part-body, next-stands}
-use Rattle.rules.specs.Laws.Bytes.RecordBack.{partsAt, selection}
+use Rattle.rules.specs.Laws.Bytes.PartBack.{part-body, next-stands}
+use Rattle.rules.specs.Promises.Vocabulary.{partAt, partsAt, selection}
 use Rattle.rules.specs.Laws.Rounding.Known.{follower-passed}
 use Rattle.rules.specs.Laws.Rounding.KnownState.{followed}
 use Rattle.rules.specs.Laws.State.Agreement.{listsWith, Alike, alike-used, alike-unused}

@@ -28,6 +28,7 @@ use Rattle.rules.specs.Document.Layout.{nameOf, bitAt, bodyOf, usable}
 use Rattle.rules.specs.Document.Numbers.{readHeader, follows, Ending, readParts}
 use Rattle.rules.specs.Document.Calls.{Result, refused, accepted, Progress, going, unfit, used, onward, decodeParts, Picture, pictured, decodedParts}
 use Rattle.rules.specs.Document.Calls.{workFor, decoding, decodeOut, Decoding, decodePlaces, AfsDecode}
+use Rattle.rules.specs.Promises.Vocabulary.{mostDecoded, at, Named}
 use Rattle.rules.specs.Laws.Counting.Sums.{sum, one-most, is, All, sum-append, is-same, from-once}
 use Rattle.rules.specs.Laws.Family.Lawful.{Lawful}
 use Rattle.rules.specs.Laws.Pass.Steps.{signNoted, bitNoted}
@@ -44,7 +45,7 @@ use Rattle.rules.specs.Laws.Offspring.Lawful.{lawful}
 use Rattle.rules.specs.Laws.State.Weight.{weight-part}
 use Rattle.rules.specs.Laws.State.Parts.{OfLevel, decoded-sound}
 use Rattle.rules.specs.Laws.State.Record.{SoundLists, start-sound}
-use Rattle.rules.specs.Laws.Reading.Parts.{at, Named, InOrder, After, follows-after}
+use Rattle.rules.specs.Laws.Reading.Parts.{InOrder, After, follows-after}
 use Rattle.rules.specs.Laws.Rounding.TowardZero.{signed-magnitude}
 
 -- A coefficient that is written, and what is added to one.
@@ -323,10 +324,6 @@ module _ (s : List ℕ) (room work : ℕ) (x : Picture) (e : decoding s room wor
       (going (start (h .size)) (replicate (area (h .size)) (pos 0))) (start-sound (h .size) (legal (h .size) ok), blank-under (h .size) (h .planes)) in
       let v = subst (Under h ok s there (u .0)) (g .1) (u .1) in
       (h, a .1, λ q. omega (arith, v .1 q, pow-some (planeBehind (u .0) (levelOf (h .size) q))))
-
--- 131,071: 17 planes, all ones
-abbrev pub mostDecoded : ℕ
-mostDecoded = 131071
 
 -- Whatever bytes decoding accepts, every magnitude is below 2^planes, planes being what the header says, and no more than 131,071.
 module _ (s : List ℕ) (room work : ℕ) (x : Picture) (e : decoding s room work ≡ accepted x) where

@@ -17,7 +17,7 @@ use Rattle.rules.specs.Laws.Counting.Sums.{sum, is, All, Every, every-al
 use Rattle.rules.specs.Laws.Family.Lawful.{Lawful}
 use Rattle.rules.specs.Laws.Pass.Levels.{members-apart}
 use Rattle.rules.specs.Laws.State.Sound.{Sound, sound-after}
-use Rattle.rules.specs.Laws.Reading.Parts.{at}
+use Rattle.rules.specs.Promises.Vocabulary.{at}
 use Rattle.rules.specs.Laws.Rounding.Known.{Known, follower}
 use Rattle.rules.specs.Laws.Rounding.KnownState.{Fits, KnownAll, followed, part-known, after-known}
 

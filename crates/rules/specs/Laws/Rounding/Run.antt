@@ -21,22 +21,22 @@ use Rattle.rules.specs.Document.Calls.{accepted, unless, workFor, onHead
 use Rattle.rules.specs.Document.Calls.{reachedPlane, reachedPlanes, planeIn}
 use Rattle.rules.specs.Document.Calls.{pictured, decodedParts, decoding}
 use Rattle.rules.specs.Laws.Counting.Sums.{sum, one, one-most, is, _∈_, All, Every, all-then, all-every, from-length, from-all, from-once}
-use Rattle.rules.specs.Laws.Family.Sizes.{Legal, legal}
+use Rattle.rules.specs.Laws.Family.Sizes.{legal}
+use Rattle.rules.specs.Promises.Vocabulary.{Legal, present, headerOf, partsAt, selection, Stated, names, kept, wholeIn, tailIn, arrived, towardZero}
+use Rattle.rules.specs.Promises.Vocabulary.{Rounded, ReadsAs}
 use Rattle.rules.specs.Laws.Offspring.Level.{level-most, level-least}
 use Rattle.rules.specs.Laws.Offspring.Lawful.{lawful}
 use Rattle.rules.specs.Laws.Offspring.Start.{start-top, start-else}
 use Rattle.rules.specs.Laws.State.Parts.{partNames-levels, codedParts-bits}
 use Rattle.rules.specs.Laws.State.Record.{start-sound}
-use Rattle.rules.specs.Laws.Reading.Parts.{present, absent, names-named, names-in-order}
+use Rattle.rules.specs.Laws.Reading.Parts.{absent, names-named, names-in-order}
 use Rattle.rules.specs.Laws.Reading.Usable.{usable-there, usable-reached, reached-within, reached-falls}
-use Rattle.rules.specs.Laws.Bytes.PartBack.{headerOf}
-use Rattle.rules.specs.Laws.Bytes.RecordBack.{partsAt, beforeAll, LegalParts, selection, parts-names, selection-legal, coded-legal}
-use Rattle.rules.specs.Promises.Vocabulary.{Stated, names, kept, wholeIn, tailIn, arrived, towardZero, Rounded}
+use Rattle.rules.specs.Laws.Bytes.RecordBack.{beforeAll, LegalParts, parts-names, selection-legal, coded-legal}
 use Rattle.rules.specs.Laws.Rounding.TowardZero.{signed-magnitude, signed-sign}
 use Rattle.rules.specs.Laws.Rounding.KnownState.{known-value}
 use Rattle.rules.specs.Laws.Rounding.Rebuilt.{rebuilt, OnTheWay, Ended, rebuilt-ends}
 use Rattle.rules.specs.Laws.Rounding.Followed.{Arrives, decodes-rebuilt}
-use Rattle.rules.specs.Laws.Rounding.Arrival.{ReadsAs, header-read, parts-stand, arrived-reads, arrived-selection, legal-order}
+use Rattle.rules.specs.Laws.Rounding.Arrival.{header-read, parts-stand, arrived-reads, arrived-selection, legal-order}
 
 -- The reached planes, place by place.
 pub map-from : {X : Type 0} (f : ℕ → X) (d : X) (a m i : ℕ) → i < m → getD (map f (from a m)) i d ≡ f (a + i)

@@ -1,9 +1,8 @@
--- "Serving for (r1, p1) and the result for (r2, p2) gives the same bytes as serving once for the larger level and the larger plane, for every
--- record that serving accepts, every legal request, and outputs with room."
+-- Served twice, for Promises/Two: the parts that both requests want are those that the larger level and plane want, wherever they stand.
 use mathlib.Core.Path.{_≡_, refl, ap, ap₂, sym, _∙_, subst}
-use mathlib.Core.List.{List, [], _∷_, _++_}
-use mathlib.Core.Bool.{true, false, _&&_}
-use Prim.Native.Nat.{ℕ, _-_, _≤_, _<_, max}
+use mathlib.Core.List.{List, _++_}
+use mathlib.Core.Bool.{true, _&&_}
+use Prim.Native.Nat.{ℕ, _-_, _≤_, max}
 use native.Mathlib.Omega.{arith}
 use native.Mathlib.Decide.{decLe}
 use lib.Dec.{leb}
@@ -11,7 +10,7 @@ use lib.ListN.{length, getD, take}
 use lib.Seq.{take-at, length-take-le}
 use borrow.Author.Tests.{leb-true, le-leb, lt-leb}
 use Rattle.rules.specs.declared.Refusal.the-variants as refusal
-use Rattle.rules.specs.declared.Verdict.the-variants.{Accepted, Refused}
+use Rattle.rules.specs.declared.Verdict.the-variants.{Accepted}
 use Rattle.rules.specs.declared.Served.{Served}
 use Rattle.rules.specs.declared.Header.{Header}
 use Rattle.rules.specs.declared.HeaderRead.the-variants as header
@@ -22,55 +21,14 @@ use Rattle.rules.specs.Document.Layout.{wholeOf}
 use Rattle.rules.specs.Document.Numbers.{verdictNumber, readHeader, readParts}
 use Rattle.rules.specs.Document.Calls.{Result, refused, accepted, unless, onHeader, onEnding, legalAsk, keptOf, servedBytes, Portion, portioned, serving}
 use Rattle.rules.specs.Document.Calls.{filled, serveOut, serveAnswer, Serving, serveNumbers, servePlaces, AfsServe}
+use Rattle.rules.specs.Promises.Vocabulary.{Again, Leaves, AgainLent, Told, AgainTold, selection, placedFrom, wanted, IsServed}
 use Rattle.rules.specs.Laws.Reading.Stands.{readHeader-stands, header-within}
-use Rattle.rules.specs.Laws.Counting.Booleans.{selection, clash, both, both-left, both-right}
-use Rattle.rules.specs.Laws.Serving.Selection.{placedFrom, kept-moved}
+use Rattle.rules.specs.Laws.Counting.Booleans.{clash, both, both-left, both-right}
+use Rattle.rules.specs.Laws.Serving.Selection.{kept-moved}
 use Rattle.rules.specs.Laws.Reading.WholeParts.{readParts-whole}
-use Rattle.rules.specs.Laws.Serving.Served.{wanted, kept-both, IsServed, serving-served, served-header, served-parts}
+use Rattle.rules.specs.Laws.Serving.Served.{kept-both, serving-served, served-header, served-parts}
 use Rattle.rules.specs.Laws.Calls.Results.{number-accepts}
 use Rattle.rules.specs.Laws.Calls.Exports.{afsServe-short, afsServe-serves}
-
--- What is promised, of a record s that serving for (r1, p1) made x of, and of a second request (r2, p2).
-pub record Again (s : List ℕ) (r1 p1 : ℕ) (x : Portion) (r2 p2 : ℕ) : Type 0 where
-  -- What was served has the header of the record: a request is legal for both or for neither, and if not, the second serving is refused with 11.
-  pub head : Header
-  pub of-record : readHeader s ≡ header.Header head
-  pub of-served : readHeader (x .bytes) ≡ header.Header head
-  pub unasked : legalAsk head r2 p2 ≡ false → (room : ℕ) → serving (x .bytes) r2 p2 room ≡ refused refusal.Ask
-  -- Where it is, both ways come to the same bytes, and to 5 where there is no room for these. The second serving tells no tail, serving once that
-  -- of the record.
-  pub bytes : List ℕ
-  pub twice : legalAsk head r2 p2 ≡ true → (room : ℕ) → serving (x .bytes) r2 p2 room ≡ portioned bytes 0 room
-  pub once : legalAsk head r2 p2 ≡ true → (room : ℕ) → serving s (max r1 r2) (max p1 p2) room ≡ portioned bytes (x .tail) room
-
--- The same of the routine. Where its result is these bytes and this tail, it leaves in an output with so much room:
-pub record Leaves (bytes : List ℕ) (tail room : ℕ) (answer : Served) (out′ : List ℕ) : Type 0 where
-  pub fits : length bytes ≤ room
-      → (answer ≡ record { verdict = Accepted; length = length bytes; tail = tail }) × (out′ ≡ bytes ++ zeros (room - length bytes))
-  pub short : room < length bytes → (answer ≡ record { verdict = Refused refusal.Room; length = 0; tail = 0 }) × (out′ ≡ zeros room)
-
--- Served for (r1, p1) the record s gave an answer and an output; what stands in that output, as long as the answer says, is served again.
-pub record AgainLent (s : List ℕ) (r1 p1 : ℕ) (answer : Served) (out′ : List ℕ) (r2 p2 : ℕ) : Type 0 where
-  pub bytes : List ℕ
-  pub twice : {lent : List ℕ} {a : Served} {lent′ : List ℕ} → Serving (take (answer .length) out′) r2 p2 lent a lent′
-      → Leaves bytes 0 (length lent) a lent′
-  pub once : {lent : List ℕ} {a : Served} {lent′ : List ℕ} → Serving s (max r1 r2) (max p1 p2) lent a lent′
-      → Leaves bytes (answer .tail) (length lent) a lent′
-
--- The same of the export: the number that it returns, the answer that it writes and the output.
-pub record Told (bytes : List ℕ) (tail : ℕ) (out answer : List ℕ) (number : ℕ) (out′ answer′ : List ℕ) : Type 0 where
-  pub fits : length bytes ≤ length out
-      → (number ≡ 0) × (answer′ ≡ (0 ∷ 0 ∷ length bytes ∷ tail ∷ []) ++ zeros (length answer - servePlaces))
-      × (out′ ≡ bytes ++ zeros (length out - length bytes))
-  pub short : length out < length bytes
-      → (number ≡ 5) × (answer′ ≡ (5 ∷ 0 ∷ 0 ∷ 0 ∷ []) ++ zeros (length answer - servePlaces)) × (out′ ≡ zeros (length out))
-
-pub record AgainTold (s : List ℕ) (r1 p1 : ℕ) (out′ answer′ : List ℕ) (r2 p2 : ℕ) : Type 0 where
-  pub bytes : List ℕ
-  pub twice : {lent told : List ℕ} {n : ℕ} {lent′ told′ : List ℕ} → servePlaces ≤ length told
-      → AfsServe (take (getD answer′ 2 0) out′) r2 p2 lent told n lent′ told′ → Told bytes 0 lent told n lent′ told′
-  pub once : {lent told : List ℕ} {n : ℕ} {lent′ told′ : List ℕ} → servePlaces ≤ length told
-      → AfsServe s (max r1 r2) (max p1 p2) lent told n lent′ told′ → Told bytes (getD answer′ 3 0) lent told n lent′ told′
 
 -- The bytes of what was served for (r1, p1), served for (r2, p2).
 module _ (s : List ℕ) (r1 p1 : ℕ) (x : Portion) (v : IsServed s r1 p1 x) (r2 p2 : ℕ) where

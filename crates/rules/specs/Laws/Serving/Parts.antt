@@ -15,10 +15,9 @@ use Rattle.rules.specs.Document.Passes.{PartName}
 use Rattle.rules.specs.Document.Layout.{headerBytes, CodedPart, partBytes, wholeOf, nameOf}
 use Rattle.rules.specs.Document.Calls.{accepted, unless, onHeader, onEnding, legalAsk, keptOf, servedBytes, Portion, portioned, serving}
 use Rattle.rules.specs.Laws.Calls.Results.{unless-accepted, accepted-same}
-use Rattle.rules.specs.Laws.Bytes.PartBack.{headerOf, partAt, part-name, part-whole, next-stands}
-use Rattle.rules.specs.Laws.Bytes.RecordBack.{recordBytes, partsAt, selection}
-use Rattle.rules.specs.Promises.Vocabulary.{kept, asked}
-use Rattle.rules.specs.Laws.Rounding.Arrival.{ReadsAs, header-read, parts-stand}
+use Rattle.rules.specs.Laws.Bytes.PartBack.{part-name, part-whole, next-stands}
+use Rattle.rules.specs.Promises.Vocabulary.{headerOf, partAt, recordBytes, partsAt, selection, kept, asked, ReadsAs}
+use Rattle.rules.specs.Laws.Rounding.Arrival.{header-read, parts-stand}
 
 -- Of parts one behind the other in s: where f takes all of a part that the test keeps and nothing of another, it takes the bytes of those kept.
 pub kept-wholes : (keep : PartName → Bool) (s : List ℕ) (f : Part → List ℕ)

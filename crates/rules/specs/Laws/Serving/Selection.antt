@@ -15,17 +15,12 @@ use Rattle.rules.specs.Document.Passes.{PartName}
 use Rattle.rules.specs.Document.Layout.{wholeOf, nameOf}
 use Rattle.rules.specs.Document.Numbers.{follows, readPart, tail, Reading}
 use Rattle.rules.specs.Document.Calls.{keptOf}
+use Rattle.rules.specs.Promises.Vocabulary.{placedFrom, movedTo, selection}
 use Rattle.rules.specs.Laws.Reading.Stands.{PartStands, readPart-stands}
 use Rattle.rules.specs.Laws.Reading.Walk.{partsFrom, readPart-past, partsFrom-part, partsFrom-tail}
-use Rattle.rules.specs.Laws.Reading.Local.{Same, movedTo, readPart-local}
-use Rattle.rules.specs.Laws.Counting.Booleans.{selection}
+use Rattle.rules.specs.Laws.Reading.Local.{Same, readPart-local}
 use Rattle.rules.specs.Laws.Reading.Parts.{head-legal, legal-behind, follows-follows}
 use Rattle.rules.specs.Laws.Reading.WholeParts.{WholeParts}
-
--- parts one behind the other, from a place on
-unfoldable pub placedFrom : ℕ → List Part → List Part
-placedFrom b [] = []
-placedFrom b (p ∷ ps) = movedTo b p ∷ placedFrom (b + (p .end - p .place)) ps
 
 -- bytes that stand behind others
 whole-same : (s : List ℕ) (p : Part) → p .place ≤ p .end → p .end ≤ length s → (front rest : List ℕ)
@@ -37,7 +32,8 @@ whole-same s p o l front rest =
     record {
       there = omega (arith, length-append front (w ++ rest), length-append w rest);
       bytes = λ i j.
-          getD-append-add front (w ++ rest) i 0 ∙ List·getD-append w rest 0 i (omega arith) ∙ getD-take (p .end - p .place) (drop (p .place) s) i 0 j ∙ getD-drop (p .place) s i 0;
+          getD-append-add front (w ++ rest) i 0 ∙ List·getD-append w rest 0 i (omega arith)
+          ∙ getD-take (p .end - p .place) (drop (p .place) s) i 0 j ∙ getD-drop (p .place) s i 0;
     }
 
 pub whole-length : (s : List ℕ) (p : Part) → p .place ≤ p .end → p .end ≤ length s → length (wholeOf s p) ≡ p .end - p .place
@@ -54,7 +50,8 @@ module _ (h : Header) (s : List ℕ) (t : Part → Bool) where
   selection-read [] before earlier place c w front =
       let e : length front - length front ≡ 0 = omega arith in
       subst (λ (u : List ℕ). partsFrom h u earlier (length front) ≡ record { parts = []; ending = tail 0 }) (sym (append-nil front))
-      (partsFrom-tail h front earlier (length front) (readPart-past h front earlier (length front) (omega arith)) ∙ ap (λ (n : ℕ). record { parts = []; ending = tail n }) e)
+      (partsFrom-tail h front earlier (length front) (readPart-past h front earlier (length front) (omega arith))
+      ∙ ap (λ (n : ℕ). record { parts = []; ending = tail n }) e)
   selection-read (p ∷ ps) before earlier place c w front =
       go (t p) (λ f. selection-read ps (nameOf p) (nameOf p) (p .end) (c .1) (λ x y. y) f)
       (λ f. selection-read ps (nameOf p) earlier (p .end) (c .1) (λ x y. follows-follows earlier (nameOf p) x behind y) f)
@@ -66,8 +63,10 @@ module _ (h : Header) (s : List ℕ) (t : Part → Bool) where
       behind = w (nameOf p) (st .legal .in-order)
 
       go : (b : Bool)
-          → ((f : List ℕ) → partsFrom h (f ++ flat (wholeOf s) (selection t ps)) (nameOf p) (length f) ≡ record { parts = placedFrom (length f) (selection t ps); ending = tail 0 })
-          → ((f : List ℕ) → partsFrom h (f ++ flat (wholeOf s) (selection t ps)) earlier (length f) ≡ record { parts = placedFrom (length f) (selection t ps); ending = tail 0 })
+          → ((f : List ℕ) → partsFrom h (f ++ flat (wholeOf s) (selection t ps)) (nameOf p) (length f)
+          ≡ record { parts = placedFrom (length f) (selection t ps); ending = tail 0 })
+          → ((f : List ℕ) → partsFrom h (f ++ flat (wholeOf s) (selection t ps)) earlier (length f)
+          ≡ record { parts = placedFrom (length f) (selection t ps); ending = tail 0 })
           → partsFrom h (front ++ flat (wholeOf s) (cond b (p ∷ selection t ps) (selection t ps))) earlier (length front)
           ≡ record { parts = placedFrom (length front) (cond b (p ∷ selection t ps) (selection t ps)); ending = tail 0 }
       go false k d = d front
@@ -93,7 +92,8 @@ module _ (h : Header) (s : List ℕ) (t : Part → Bool) where
           next : partsFrom h u (nameOf p) (length front + (p .end - p .place))
               ≡ record { parts = placedFrom (length front + (p .end - p .place)) (selection t ps); ending = tail 0 }
           next =
-              let e : length (front ++ wholeOf s p) ≡ length front + (p .end - p .place) = length-append front (wholeOf s p) ∙ ap (λ (n : ℕ). length front + n) (whole-length s p o (st .within)) in
+              let e : length (front ++ wholeOf s p) ≡ length front + (p .end - p .place)
+              = length-append front (wholeOf s p) ∙ ap (λ (n : ℕ). length front + n) (whole-length s p o (st .within)) in
               subst₂ (λ (v : List ℕ) (n : ℕ). partsFrom h v (nameOf p) n ≡ record { parts = placedFrom n (selection t ps); ending = tail 0 })
               (append-assoc front (wholeOf s p) rest) e (k (front ++ wholeOf s p))
 

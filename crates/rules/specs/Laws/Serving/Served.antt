@@ -19,17 +19,14 @@ use Rattle.rules.specs.declared.PartRead.{PartRead}
 use Rattle.rules.specs.declared.PartRead.the-variants as part
 use Rattle.rules.specs.Document.Numbers.{tail, Reading, readHeader, readPart, goOn, readFrom, readParts, topLevel}
 use Rattle.rules.specs.Document.Calls.{accepted, unless, onHeader, onEnding, legalAsk, keptOf, servedBytes, Portion, portioned, serving}
+use Rattle.rules.specs.Promises.Vocabulary.{wanted, IsServed, selection, placedFrom}
 use Rattle.rules.specs.Laws.Reading.Stands.{readHeader-stands, header-within, readPart-stands}
-use Rattle.rules.specs.Laws.Counting.Booleans.{selection, selection-both, same-test, both, both-left, both-right}
+use Rattle.rules.specs.Laws.Counting.Booleans.{selection-both, same-test, both, both-left, both-right}
 use Rattle.rules.specs.Laws.Calls.Results.{unless-accepted, onHeader-accepted, onEnding-accepted, accepted-same}
 use Rattle.rules.specs.Laws.Reading.Walk.{partsFrom, readParts-from}
 use Rattle.rules.specs.Laws.Reading.Local.{Same, same-taken, readHeader-local}
-use Rattle.rules.specs.Laws.Serving.Selection.{placedFrom, selection-read}
+use Rattle.rules.specs.Laws.Serving.Selection.{selection-read}
 use Rattle.rules.specs.Laws.Reading.WholeParts.{WholeParts, readParts-whole}
-
--- the parts with level ≥ r and plane ≥ p
-abbrev pub wanted : ℕ → ℕ → Part → Bool
-wanted r p x = leb r (x .level .0) && leb p (x .plane .0)
 
 -- Two requests are one: what both want is what the larger level and the larger plane want.
 leb-both : (a b x : ℕ) → leb a x && leb b x ≡ leb (max a b) x
@@ -47,14 +44,6 @@ wanted-both r1 p1 r2 p2 x =
     four true false true d = refl
     four true false false d = refl
     four false b c d = refl
-
--- What was served, and of what.
-pub record IsServed (s : List ℕ) (r p : ℕ) (x : Portion) : Type 0 where
-  pub head : Header
-  pub read : readHeader s ≡ header.Header head
-  pub asked : legalAsk head r p ≡ true
-  pub ending : readParts head s .ending ≡ tail (x .tail)
-  pub bytes : x .bytes ≡ take (head .end) s ++ flat (wholeOf s) (selection (wanted r p) (readParts head s .parts))
 
 flat-selection : (s : List ℕ) (r p : ℕ) (ps : List Part) → flat (keptOf s r p) ps ≡ flat (wholeOf s) (selection (wanted r p) ps)
 unfolding flat keptOf selection
@@ -83,7 +72,13 @@ serving-served s r p room x e =
     let b = unless-accepted _ refusal.Room _ x (t .2) in
     let y : record { bytes = servedBytes (h .0) s r p (readParts (h .0) s .parts); tail = t .0 } ≡ x = accepted-same (b .1) in
     subst (IsServed s r p) y
-    (record { head = h .0; read = h .1; asked = a .0; ending = t .1; bytes = ap (λ (l : List ℕ). take (h .0 .end) s ++ l) (flat-selection s r p (readParts (h .0) s .parts)) })
+    (record {
+      head = h .0;
+      read = h .1;
+      asked = a .0;
+      ending = t .1;
+      bytes = ap (λ (l : List ℕ). take (h .0 .end) s ++ l) (flat-selection s r p (readParts (h .0) s .parts));
+    })
 
 -- What was served reads as the parts named, one behind the other, and nothing else.
 module _ (s : List ℕ) (r p : ℕ) (x : Portion) (v : IsServed s r p x) where

@@ -19,7 +19,8 @@ use Rattle.rules.specs.Document.Layout.{planesIn, partsOf, bitAt, bodyOf
 use Rattle.rules.specs.Document.Numbers.{mostBits, topLevel}
 use Rattle.rules.specs.Document.Calls.{Progress, going, unfit, used, onward}
 use Rattle.rules.specs.Laws.Counting.Sums.{sum, one, is, All, all-then, every-all, from-length, from-once}
-use Rattle.rules.specs.Laws.Family.Sizes.{Legal, levelSize, levelSize-fine}
+use Rattle.rules.specs.Laws.Family.Sizes.{levelSize, levelSize-fine}
+use Rattle.rules.specs.Promises.Vocabulary.{Legal}
 use Rattle.rules.specs.Laws.Offspring.Level.{level-most, level-area}
 use Rattle.rules.specs.Laws.Offspring.Block.{offspring-leaf}
 use Rattle.rules.specs.Laws.Offspring.Lawful.{lawful}
