@@ -71,7 +71,10 @@ module _ {planes : List Plane} {answer₀ : List ℕ} {at : ℕ} where
               ∙ ap (λ (i : ℕ). set (sets answer₀ at stored) (at + i) (planeIn planes done)) (sym stored-length)
               ∙ sym (sets-append answer₀ at stored (planeIn planes done ∷ []))
               ∙ ap (sets answer₀ at)
-              (sym (ap (λ (n : ℕ). map (planeIn planes) (from 0 n)) (add-one done) ∙ ap (map (planeIn planes)) (from-snoc 0 done done (omega arith)) ∙ map-append (planeIn planes) (from 0 done) (done ∷ [])));
+              (sym
+              (ap (λ (n : ℕ). map (planeIn planes) (from 0 n)) (add-one done)
+              ∙ ap (map (planeIn planes)) (from-snoc 0 done done (omega arith))
+              ∙ map-append (planeIn planes) (from 0 done) (done ∷ [])));
         }
       where
         stored : List ℕ

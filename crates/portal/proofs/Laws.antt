@@ -80,7 +80,8 @@ module _ (pyramid : List ℤ) (z : Size) (out work answer out′ work′ answer�
       }
 
 module _ (s : List ℕ) (level plane : ℕ) (out answer out′ answer′ : List ℕ) where
-  pub serve-short : (n : ℕ) → length answer < servePlaces → out′ ≡ zeros (length out) → TooShort answer n answer′ → AfsServe s level plane out answer n out′ answer′
+  pub serve-short : (n : ℕ) → length answer < servePlaces → out′ ≡ zeros (length out) → TooShort answer n answer′
+      → AfsServe s level plane out answer n out′ answer′
   serve-short n l e r =
       let numbers = serveNumbers (serveAnswer (serving s level plane (length out))) in
       record {

@@ -32,7 +32,10 @@ pub extern "C" fn afs_code(
     work: &mut [u32],
     answer: &mut [u64],
 ) -> u64
-    ensures { λ number. ⌜ AfsCode (now (pyramid .entry)) (record { w = w; h = h; n = n }) (now (out .entry)) (now (work .entry)) (now (answer .entry)) number (now (out .exit)) (now (work .exit)) (now (answer .exit)) ⌝ }
+    ensures { λ number.
+        ⌜ AfsCode (now (pyramid .entry)) (record { w = w; h = h; n = n })
+        (now (out .entry)) (now (work .entry)) (now (answer .entry))
+        number (now (out .exit)) (now (work .exit)) (now (answer .exit)) ⌝ }
 {
     if answer.len() < CODE_PLACES {
         memory::zero_u8(out);
@@ -73,7 +76,9 @@ pub extern "C" fn afs_decode(
     work: &mut [u32],
     answer: &mut [u64],
 ) -> u64
-    ensures { λ n. ⌜ AfsDecode (now (bytes .entry)) (now (out .entry)) (now (work .entry)) (now (answer .entry)) n (now (out .exit)) (now (work .exit)) (now (answer .exit)) ⌝ }
+    ensures { λ n.
+        ⌜ AfsDecode (now (bytes .entry)) (now (out .entry)) (now (work .entry)) (now (answer .entry))
+        n (now (out .exit)) (now (work .exit)) (now (answer .exit)) ⌝ }
 {
     if answer.len() < DECODE_PLACES {
         memory::zero_i32(out);

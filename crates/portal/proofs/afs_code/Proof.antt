@@ -22,7 +22,7 @@ same-length-3 : tie.Need-same-length-3
 same-length-3 c = search needs
 
 returns : tie.Need-returns
-returns c = code-short _ _ _ _ _ _ _ _ _ (c .before .before .before .before .before .before .before .before .before .before .before .before .if1 .taken) (c .before .before .before .before .before .before .before .before .before .before .zero-u8 .ensures) (c .before .before .before .before .before .before .zero-u32 .ensures) (c .before .before .too-short .ensures)
+returns c = search (needs, code-short)
 
 code-requires : tie.Need-code-requires
 code-requires c κs = search needs
@@ -40,7 +40,7 @@ same-length-6 : tie.Need-same-length-6
 same-length-6 c = search needs
 
 returns-2 : tie.Need-returns-2
-returns-2 c = code-long _ _ _ _ _ _ _ _ _ _ (c .before .before .before .before .before .before .before .before .before .before .before .if1 .left) (c .before .before .before .before .before .before .before .before .code .ensures) (c .before .before .report-coded .ensures)
+returns-2 c = search (needs, code-long)
 
 pub afs-code-spec : {M : Type 1} → statement M
 afs-code-spec =

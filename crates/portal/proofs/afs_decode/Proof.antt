@@ -22,7 +22,7 @@ same-length-3 : tie.Need-same-length-3
 same-length-3 c = search needs
 
 returns : tie.Need-returns
-returns c = decode-short _ _ _ _ _ _ _ _ (c .before .before .before .before .before .before .before .before .before .before .before .if1 .taken) (c .before .before .before .before .before .before .before .before .before .zero-i32 .ensures) (c .before .before .before .before .before .before .zero-u32 .ensures) (c .before .before .too-short .ensures)
+returns c = search (needs, decode-short)
 
 decode-requires : tie.Need-decode-requires
 decode-requires c κs = search needs
@@ -40,7 +40,7 @@ same-length-6 : tie.Need-same-length-6
 same-length-6 c = search needs
 
 returns-2 : tie.Need-returns-2
-returns-2 c = decode-long _ _ _ _ _ _ _ _ _ (c .before .before .before .before .before .before .before .before .before .before .if1 .left) (c .before .before .before .before .before .before .before .decode .ensures) (c .before .before .report-decoded .ensures)
+returns-2 c = search (needs, decode-long)
 
 pub afs-decode-spec : {M : Type 1} → statement M
 afs-decode-spec =

@@ -23,11 +23,7 @@ same-length-3 : tie.Need-same-length-3
 same-length-3 c = search needs
 
 returns : tie.Need-returns
-returns c =
-    let cleared = c .before .before .before .before .before .before in
-    let zeroed = cleared .before .before .before in
-    let short = zeroed .before .before .if1 .taken in
-    in-short _ _ _ _ _ _ _ _ _ short (zeroed .zero-i32 .ensures) (cleared .zero-u32 .ensures) (c .before .before .too-short .ensures)
+returns c = search (needs, in-short)
 
 grey-in-requires : tie.Need-grey-in-requires
 grey-in-requires c κs = search needs
@@ -45,10 +41,7 @@ same-length-6 : tie.Need-same-length-6
 same-length-6 c = search needs
 
 returns-2 : tie.Need-returns-2
-returns-2 c =
-    let taken = c .before .before .before .before .before .before .before in
-    let long = taken .before .before .before .if1 .left in
-    in-long _ _ _ _ _ _ _ _ _ _ long (taken .grey-in .ensures) (c .before .before .report-grey-read .ensures)
+returns-2 c = search (needs, in-long)
 
 pub afs-grey-in-spec : {M : Type 1} → statement M
 afs-grey-in-spec =

@@ -23,11 +23,7 @@ same-length-3 : tie.Need-same-length-3
 same-length-3 c = search needs
 
 returns : tie.Need-returns
-returns c =
-    let cleared = c .before .before .before .before .before .before in
-    let zeroed = cleared .before .before .before .before in
-    let short = zeroed .before .before .if1 .taken in
-    out-short _ _ _ _ _ _ _ _ _ short (zeroed .zero-u8 .ensures) (cleared .zero-u32 .ensures) (c .before .before .too-short .ensures)
+returns c = search (needs, out-short)
 
 grey-out-requires : tie.Need-grey-out-requires
 grey-out-requires c κs = search needs
@@ -45,10 +41,7 @@ same-length-6 : tie.Need-same-length-6
 same-length-6 c = search needs
 
 returns-2 : tie.Need-returns-2
-returns-2 c =
-    let printed = c .before .before .before .before .before .before .before .before in
-    let long = printed .before .before .before .if1 .left in
-    out-long _ _ _ _ _ _ _ _ _ _ long (printed .grey-out .ensures) (c .before .before .report-grey-written .ensures)
+returns-2 c = search (needs, out-long)
 
 pub afs-grey-out-spec : {M : Type 1} → statement M
 afs-grey-out-spec =

@@ -10,10 +10,7 @@ same-length : tie.Need-same-length
 same-length c = search needs
 
 returns : tie.Need-returns
-returns c =
-    let short = c .before .before .before .before .if1 .taken in
-    let left = c .before .before .too-short .ensures in
-    size-short _ _ _ _ short left
+returns c = search (needs, size-short)
 
 grey-size-requires : tie.Need-grey-size-requires
 grey-size-requires c κs = search needs
@@ -25,11 +22,7 @@ same-length-2 : tie.Need-same-length-2
 same-length-2 c = search needs
 
 returns-2 : tie.Need-returns-2
-returns-2 c =
-    let long = c .before .before .before .before .before .if1 .left in
-    let surveyed = c .before .before .before .before .grey-size .ensures in
-    let told = c .before .before .report-grey-read .ensures in
-    size-long _ _ _ _ _ long surveyed told
+returns-2 c = search (needs, size-long)
 
 pub afs-grey-size-spec : {M : Type 1} → statement M
 afs-grey-size-spec =

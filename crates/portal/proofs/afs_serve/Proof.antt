@@ -16,7 +16,7 @@ same-length-2 : tie.Need-same-length-2
 same-length-2 c = search needs
 
 returns : tie.Need-returns
-returns c = serve-short _ _ _ _ _ _ _ _ (c .before .before .before .before .before .before .before .before .if1 .taken) (c .before .before .before .before .before .before .zero-u8 .ensures) (c .before .before .too-short .ensures)
+returns c = search (needs, serve-short)
 
 serve-requires : tie.Need-serve-requires
 serve-requires c κs = search needs
@@ -31,7 +31,7 @@ same-length-4 : tie.Need-same-length-4
 same-length-4 c = search needs
 
 returns-2 : tie.Need-returns-2
-returns-2 c = serve-long _ _ _ _ _ _ _ _ _ (c .before .before .before .before .before .before .before .before .if1 .left) (c .before .before .before .before .before .before .serve .ensures) (c .before .before .report-served .ensures)
+returns-2 c = search (needs, serve-long)
 
 pub afs-serve-spec : {M : Type 1} → statement M
 afs-serve-spec =

@@ -10,10 +10,7 @@ same-length : tie.Need-same-length
 same-length c = search needs
 
 returns : tie.Need-returns
-returns c =
-    let short = c .before .before .before .before .if1 .taken in
-    let left = c .before .before .too-short .ensures in
-    survey-short _ _ _ _ short left
+returns c = search (needs, survey-short)
 
 survey-of-requires : tie.Need-survey-of-requires
 survey-of-requires c κs = search needs
@@ -25,11 +22,7 @@ same-length-2 : tie.Need-same-length-2
 same-length-2 c = search needs
 
 returns-2 : tie.Need-returns-2
-returns-2 c =
-    let long = c .before .before .before .before .before .if1 .left in
-    let surveyed = c .before .before .before .before .survey-of .ensures in
-    let told = c .before .before .report-surveyed .ensures in
-    survey-long _ _ _ _ _ long surveyed told
+returns-2 c = search (needs, survey-long)
 
 pub afs-survey-spec : {M : Type 1} → statement M
 afs-survey-spec =

@@ -18,10 +18,13 @@ add-if1-2 : tie.Need-add-if1-2
 add-if1-2 c = search needs
 
 returns : tie.Need-returns
-returns c = test-plane-above (reachedAt _) (nameBy _ _) _ _ (c .before .before .before .before .before .before .before .reached-plane .ensures) (c .before .before .before .before .before .reached-plane2 .ensures) (c .before .before .if1 .taken)
+returns c =
+    let coarser = c .before .before .before .before .before .reached-plane2 .ensures in
+    let own = c .before .before .before .before .before .before .before .reached-plane .ensures in
+    test-plane-above (reachedAt _) (nameBy _ _) _ _ own coarser (c .before .before .if1 .taken)
 
 returns-2 : tie.Need-returns-2
-returns-2 c = test-other-plane (reachedAt _) (nameBy _ _) _ _ (c .before .before .before .before .before .reached-plane .ensures) (c .before .before .before .reached-plane2 .ensures) (c .if1 .left)
+returns-2 c = search (needs, test-other-plane)
 
 pub is-usable-spec : {M : Type 1} → statement M
 is-usable-spec =
