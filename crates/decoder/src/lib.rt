@@ -88,7 +88,7 @@ fn decode_usable(
     let level = p.level;
     let reached = walk.reached;
     let counts = walk.counts;
-    let body = record::body(bytes, p);
+    let body = record::read::body(bytes, p);
     let passed = parts::decode_part(body, z, plane, level, work, counts, out);
     let asked = passed.at;
     let filled = passed.counts;
@@ -130,7 +130,7 @@ fn walk_on(bytes: &[u8], h: Header, walk: Walk, out: &mut [i32], work: &mut [u32
         ⌜ Turned h (now (bytes .entry)) walk (now (out .entry)) (now (work .entry))
         (readPart h (now (bytes .entry)) (named (walk .before)) (walk .place)) r (now (out .exit)) (now (work .exit)) ⌝ }
 {
-    let read = record::read_part(bytes, h, walk.before, walk.place);
+    let read = record::read::part(bytes, h, walk.before, walk.place);
     match read {
         PartRead::Part(p) => take_part(bytes, h.size, p, walk, out, work),
         PartRead::Tail => Turn {
@@ -198,7 +198,7 @@ fn decode_parts(bytes: &[u8], h: Header, out: &mut [i32], work: &mut [u32]) -> D
 pub fn decode(bytes: &[u8], out: &mut [i32], work: &mut [u32]) -> Decoded
     ensures { λ a. ⌜ Decoding (now (bytes .entry)) (now (out .entry)) (now (work .entry)) a (now (out .exit)) (now (work .exit)) ⌝ }
 {
-    let read = record::read_header(bytes);
+    let read = record::read::header(bytes);
     match read {
         HeaderRead::Refused(r) => refuse(r, out, work),
         HeaderRead::Header(h) => {

@@ -2,12 +2,10 @@
 // the whole is judged before the first line.
 use libc::STDIN_FILENO;
 use libc::STDOUT_FILENO;
-use record::Name;
+use record::walk::Cursor;
 use rules::Header;
-use rules::Level;
 use rules::Part;
 use rules::PartRead;
-use rules::Plane;
 use rules::Verdict;
 
 fn print_number(n: usize) {
@@ -40,23 +38,13 @@ fn print_part(p: Part) {
 }
 
 fn print_parts(s: &[u8], h: Header) {
-    let mut before = Name {
-        plane: Plane(h.planes),
-        level: Level(0),
-    };
-    let mut place = h.end;
+    let mut cursor = Cursor::first(h);
     loop {
-        let PartRead::Part(p) = survey::part_at(s, before, place) else {
+        let PartRead::Part(p) = survey::part_at(s, cursor) else {
             return;
         };
         print_part(p);
-        let own_plane = p.plane;
-        let own_level = p.level;
-        before = Name {
-            plane: own_plane,
-            level: own_level,
-        };
-        place = p.end;
+        cursor = Cursor::past(p);
     }
 }
 

@@ -1,20 +1,24 @@
 -- What reading a number makes of a header and of a part, by what was read.
 use mathlib.Core.Path.{_≡_, refl, ap, sym, _∙_}
 use mathlib.Core.List.{List, [], _∷_}
-use mathlib.Core.Logic.{_⊎_, inl, inr}
-use mathlib.Core.Bool.{Bool, true, false, cond, _&&_, _||_, and-true, and-false, or-false}
-use Prim.Native.Nat.{ℕ, _+_, _-_, _*_, _^_, _≤_, _<_}
+use mathlib.Core.Logic.{inl, inr}
+use mathlib.Core.Bool.{Bool, true, false, cond, _&&_, and-true, and-false, or-false}
+use Prim.Native.Nat.{ℕ, _+_, _-_, _*_, _/_, _^_, _≤_, _<_}
 use native.Mathlib.Nat.{mul-assoc, mul-le-mul, lt-of-le-of-lt}
 use lib.Dec.{leb, ltb, eqb, lit<}
 use borrow.Author.Tests.{eq-eqb, ne-eqb, le-leb, lt-leb, lt-ltb, le-ltb, leb-true}
 use lib.ListN.{length, take, drop}
 use native.Mathlib.Omega.{arith}
 use types.Run.{OneOf}
+use mir.Syntax.{w64}
+use mir.Val.{Fits}
 use denote.Enum.Declared.{tagOf}
 use Rattle.rules.proofs.Number.{the-type}
 use Rattle.rules.specs.declared.Size.{Size}
 use Rattle.rules.specs.declared.Header.{Header}
 use Rattle.rules.specs.declared.Part.{Part}
+use Rattle.rules.specs.declared.Plane.{Plane}
+use Rattle.rules.specs.declared.Level.{Level}
 use Rattle.rules.specs.declared.Refusal.the-variants as refusal
 use Rattle.rules.specs.declared.Number.{Number}
 use Rattle.rules.specs.declared.Number.the-variants.{Value, TooManyBytes, LongForm, CutOff}
@@ -26,11 +30,11 @@ use Rattle.rules.specs.Document.Pyramid.{legalSize, mostPlanes}
 use Rattle.rules.specs.Document.Passes.{PartName}
 use Rattle.rules.specs.Document.Layout.{readNumber, version, bytesFor, padClear, bodyOf, nameOf}
 use Rattle.rules.specs.Document.Numbers.{headNumber, judgedHeader, mostBits, partNumber, follows, legalHead, judgedPart, topLevel}
-use Rattle.record.specs.Named.{unreadHeader, unread, wholePart}
+use Rattle.record.specs.declared.Name.{Name}
+use Rattle.record.specs.Named.{nameBy, named, unreadHeader, unread, wholePart}
 use Rattle.rules.specs.Laws.Family.Sizes.{legal}
-use Rattle.rules.specs.Promises.Vocabulary.{Legal}
 use Rattle.rules.specs.Laws.Counting.Booleans.{both-right}
-use Rattle.rules.specs.Laws.Reading.Stands.{NumberStands, readNumber-stands}
+use Rattle.rules.specs.Laws.Reading.Stands.{readNumber-stands}
 
 abbrev pub NoValue : Number → Type 0
 NoValue x = OneOf (1 ∷ 2 ∷ 3 ∷ []) (tagOf the-type x)
@@ -86,46 +90,50 @@ body-between s p e =
     let f : p .end - p .body ≡ bytesFor (p .bits) = omega arith in
     ap (λ (n : ℕ). take n (drop (p .body) s)) f
 
--- The order of parts, by the plane first.
-module _ (before p : PartName) where
-  pub after-in-plane : p .plane ≡ before .plane → ltb (p .level) (before .level) ≡ follows before p
+-- all of a head's tests but that of the bit count
+abbrev ofName : Header → PartName → PartName → Bool
+ofName h before p = ltb (p .plane) (h .planes) && leb 1 (p .level) && leb (p .level) (topLevel h) && follows before p
+
+-- A part's name judged: the order, by the plane first, and then its head, cause by cause.
+module _ (before : Name) (plane : Plane) (level : Level) where
+  pub after-in-plane : plane .0 ≡ before .plane .0 → ltb (level .0) (before .level .0) ≡ follows (named before) (nameBy plane level)
   unfolding follows
-  after-in-plane e = rw (le-ltb (p .plane) (before .plane) (omega arith), eq-eqb (p .plane) (before .plane) e)
+  after-in-plane e = rw (le-ltb (plane .0) (before .plane .0) (omega arith), eq-eqb (plane .0) (before .plane .0) e)
 
-  pub after-by-plane : (p .plane ≡ before .plane → ⊥) → ltb (p .plane) (before .plane) ≡ follows before p
+  pub after-by-plane : (plane .0 ≡ before .plane .0 → ⊥) → ltb (plane .0) (before .plane .0) ≡ follows (named before) (nameBy plane level)
   unfolding follows
-  after-by-plane d = rw (ne-eqb (p .plane) (before .plane) d) (sym (or-false (ltb (p .plane) (before .plane))))
+  after-by-plane d = rw (ne-eqb (plane .0) (before .plane .0) d) (sym (or-false (ltb (plane .0) (before .plane .0))))
 
--- A part's head judged, cause by cause.
-module _ (h : Header) (before p : PartName) (bits : ℕ) where
-  pub head-plane : h .planes ≤ p .plane → false ≡ legalHead h before p bits
-  unfolding legalHead
-  head-plane l = rw (le-ltb (p .plane) (h .planes) l)
+  module _ (h : Header) (bits : ℕ) where
+    pub head-plane : h .planes ≤ plane .0 → false ≡ legalHead h (named before) (nameBy plane level) bits
+    unfolding legalHead
+    head-plane l = rw (le-ltb (plane .0) (h .planes) l)
 
-  pub head-low : p .level < 1 → false ≡ legalHead h before p bits
-  unfolding legalHead
-  head-low l = rw (lt-leb 1 (p .level) l, and-false (ltb (p .plane) (h .planes)))
+    pub head-low : level .0 < 1 → false ≡ legalHead h (named before) (nameBy plane level) bits
+    unfolding legalHead
+    head-low l = rw (lt-leb 1 (level .0) l, and-false (ltb (plane .0) (h .planes)))
 
-  pub head-high : h .size .n + 1 < p .level → false ≡ legalHead h before p bits
-  unfolding legalHead
-  head-high l = rw (lt-leb (p .level) (topLevel h) (omega arith), and-false (ltb (p .plane) (h .planes) && leb 1 (p .level)))
+    pub head-high : h .size .n + 1 < level .0 → false ≡ legalHead h (named before) (nameBy plane level) bits
+    unfolding legalHead
+    head-high l =
+        rw (lt-leb (level .0) (topLevel h) (omega arith), and-false (ltb (plane .0) (h .planes) && leb 1 (level .0)))
 
-  pub head-bits : 4 * h .size .w * h .size .h < bits → false ≡ legalHead h before p bits
-  unfolding legalHead
-  head-bits l =
-      rw (lt-leb bits (mostBits (h .size)) (omega (arith, mul-assoc 4 (h .size .w) (h .size .h))))
-      (sym (and-false (ltb (p .plane) (h .planes) && leb 1 (p .level) && leb (p .level) (topLevel h) && follows before p)))
+    pub head-bits : 4 * h .size .w * h .size .h < bits → false ≡ legalHead h (named before) (nameBy plane level) bits
+    unfolding legalHead
+    head-bits l =
+        rw (lt-leb bits (mostBits (h .size)) (omega (arith, mul-assoc 4 (h .size .w) (h .size .h))))
+        (sym (and-false (ofName h (named before) (nameBy plane level))))
 
-  pub head-order : (b : Bool) → b ≡ follows before p → p .plane < h .planes → 1 ≤ p .level → p .level ≤ h .size .n + 1 → bits ≤ 4 * h .size .w * h .size .h
-      → b ≡ legalHead h before p bits
-  unfolding legalHead
-  head-order b e n k j l =
-      rw (
-        lt-ltb (p .plane) (h .planes) n,
-        le-leb 1 (p .level) k,
-        le-leb (p .level) (topLevel h) (omega arith),
-        le-leb bits (mostBits (h .size)) (omega (arith, mul-assoc 4 (h .size .w) (h .size .h))),
-      ) (e ∙ sym (and-true (follows before p)))
+    pub head-order : (b : Bool) → b ≡ follows (named before) (nameBy plane level) → plane .0 < h .planes → 1 ≤ level .0 → level .0 ≤ h .size .n + 1
+        → bits ≤ 4 * h .size .w * h .size .h → b ≡ legalHead h (named before) (nameBy plane level) bits
+    unfolding legalHead
+    head-order b e n k j l =
+        rw (
+          lt-ltb (plane .0) (h .planes) n,
+          le-leb 1 (level .0) k,
+          le-leb (level .0) (topLevel h) (omega arith),
+          le-leb bits (mostBits (h .size)) (omega (arith, mul-assoc 4 (h .size .w) (h .size .h))),
+        ) (e ∙ sym (and-true _))
 
 -- The bit count's limit fits.
 module _ (z : Size) (l : legalSize z ≡ true) where
@@ -150,7 +158,8 @@ part-stop place TooManyBytes y go r e o u = u ∙ ap (λ (n : Number). partNumbe
 part-stop place LongForm y go r e o u = u ∙ ap (λ (n : Number). partNumber place n go) e
 part-stop place CutOff y go r e o u = u ∙ ap (λ (n : Number). partNumber place n go) e
 
-pub part-step : (place : ℕ) (x y : Number) (go : ℕ → ℕ → PartRead) (v end : ℕ) (r : PartRead) → x ≡ y → x ≡ Value v end → r ≡ go v end → r ≡ partNumber place y go
+pub part-step : (place : ℕ) (x y : Number) (go : ℕ → ℕ → PartRead) (v end : ℕ) (r : PartRead) → x ≡ y → x ≡ Value v end → r ≡ go v end
+    → r ≡ partNumber place y go
 unfolding partNumber
 part-step place x y go v end r e f u = u ∙ ap (λ (n : Number). partNumber place n go) (sym f ∙ e)
 
@@ -174,17 +183,28 @@ module _ (h : Header) (s : List ℕ) (before : PartName) (p : Part) (b : Bool) (
   unfolding judgedPart wholePart
   judged-whole r t e = rw (sym found ∙ t) e
 
-  pub judged-head : b ≡ false → part.Refused (refusal.Part (p .place)) ≡ judgedPart h s before p
+  pub judged-head : (r : PartRead) → b ≡ false → r ≡ part.Refused (refusal.Part (p .place)) → r ≡ judgedPart h s before p
   unfolding judgedPart
-  judged-head t = rw (sym found ∙ t)
+  judged-head r t e = rw (sym found ∙ t) e
 
--- What is known of a part with a legal head: its bits are few, its body begins within the bytes.
-pub head-few : (h : Header) (before p : PartName) (bits : ℕ) (b : Bool) → legalSize (h .size) ≡ true → b ≡ legalHead h before p bits → b ≡ true → bits ≤ 2 ^ 20
-unfolding legalHead
-head-few h before p bits b l e t =
-    let m : bits ≤ mostBits (h .size) = leb-true bits (mostBits (h .size)) (both-right (ltb (p .plane) (h .planes) && leb 1 (p .level) && leb (p .level) (topLevel h) && follows before p) _ (sym e ∙ t)) in
-    let n : h .size .w * h .size .h ≤ 512 * 512 = mul-le-mul {n₁ = h .size .w} {m₁ = h .size .h} {n₂ = 512} {m₂ = 512} (legal (h .size) l .width .most) (legal (h .size) l .height .most) in
-    omega arith
+-- What is known of a part with a legal head: its bits are few, its body begins within the bytes, so that its end fits.
+module _ (h : Header) (before p : PartName) (bits : ℕ) (b : Bool) (l : legalSize (h .size) ≡ true) (e : b ≡ legalHead h before p bits) (t : b ≡ true) where
+  pub head-few : bits ≤ 2 ^ 20
+  unfolding legalHead
+  head-few =
+      let m : bits ≤ mostBits (h .size) = leb-true bits (mostBits (h .size)) (both-right (ofName h before p) _ (sym e ∙ t)) in
+      let n : h .size .w * h .size .h ≤ 512 * 512
+      = mul-le-mul {n₁ = h .size .w} {m₁ = h .size .h} {n₂ = 512} {m₂ = 512} (legal (h .size) l .width .most) (legal (h .size) l .height .most) in
+      omega arith
 
-pub body-begins : (s : List ℕ) (x : Number) (at bits body : ℕ) → x ≡ readNumber s at → x ≡ Value bits body → body ≤ length s
-body-begins s x at bits body e f = readNumber-stands s at bits body (sym e ∙ f) .within
+  pub bits-fit : Fits w64 (bits + 7)
+  bits-fit = record { fits = omega (arith, head-few) }
+
+  pub bits-small : bits < 2 ^ 40
+  bits-small = omega (arith, head-few)
+
+  pub end-fits : (s : List ℕ) (x : Number) (at body : ℕ) → length s * 1 < 2 ^ 63 → x ≡ readNumber s at → x ≡ Value bits body
+      → Fits w64 (body + (bits + 7) / 8)
+  end-fits s x at body few r v =
+      let within : body ≤ length s = readNumber-stands s at bits body (sym r ∙ v) .within in
+      record { fits = omega (arith, head-few) }

@@ -1,7 +1,7 @@
 -- Serving step by step: the request, one part kept, and what is left of the walk.
-use mathlib.Core.Path.{_≡_, refl, ap, ap₂, sym, _∙_, subst}
+use mathlib.Core.Path.{_≡_, refl, ap, ap₂, sym, _∙_}
 use mathlib.Core.List.{List, [], _∷_, _++_, append-assoc, append-nil}
-use mathlib.Core.Bool.{Bool, true, false, cond, _&&_, and-false}
+use mathlib.Core.Bool.{Bool, true, false, cond, _&&_}
 use Prim.Native.Nat.{ℕ, _+_, _-_, _≤_, _<_}
 use native.Mathlib.Omega.{arith}
 use lib.Dec.{leb}
@@ -22,15 +22,15 @@ use Rattle.rules.specs.declared.Plane.{Plane}
 use Rattle.rules.specs.declared.Level.{Level}
 use Rattle.rules.specs.Document.Notation.{flat, zeros}
 use Rattle.rules.specs.Document.Pyramid.{legalSize}
-use Rattle.rules.specs.Document.Passes.{PartName}
-use Rattle.rules.specs.Document.Layout.{wholeOf, nameOf}
-use Rattle.rules.specs.Document.Numbers.{Ending, tail, fault, Reading, readHeader, readPart, readParts, topLevel}
-use Rattle.rules.specs.Document.Calls.{refused, accepted, unless, onHeader, onEnding, legalAsk, keptOf, servedBytes, Portion, portioned, serving}
-use Rattle.rules.specs.Document.Calls.{filled, serveOut, serveAnswer, Serving}
-use Rattle.rules.specs.Laws.Reading.Stands.{HeaderStands, readHeader-stands, header-legal, header-within, PartStands, readPart-stands, part-further}
-use Rattle.rules.specs.Laws.Reading.Walk.{partsFrom, readParts-from, partsFrom-part, partsFrom-tail, partsFrom-fault}
+use Rattle.rules.specs.Document.Layout.{wholeOf}
+use Rattle.rules.specs.Document.Numbers.{Ending, tail, fault, Reading, readHeader, readParts, topLevel}
+use Rattle.rules.specs.Document.Calls.{refused, accepted, unless, onHeader, onEnding, legalAsk, keptOf, servedBytes, portioned}
+use Rattle.rules.specs.Document.Calls.{serving, serveOut, serveAnswer, Serving}
+use Rattle.rules.specs.Laws.Counting.Sums.{flat-append}
 use Rattle.rules.specs.Laws.Bytes.Output.{clipped, clipped-nothing, clipped-length, clipped-append, clipped-fits}
 use Rattle.rules.specs.Laws.Serving.Selection.{whole-length}
+use Rattle.record.specs.declared.walk.Cursor.{Cursor}
+use Rattle.record.specs.Walk.{firstOf, nextOf, pastOf, Stands, stands-first, stands-legal, next-stands, stands-past, stands-tail, stands-fault}
 use Rattle.server.specs.declared.Ended.{Ended}
 use Rattle.server.specs.declared.Ended.the-variants.{Whole, Fault}
 use Rattle.server.specs.Walk.{Refusing, Copies, Kept, Begun, endOf, result, Walked}
@@ -88,95 +88,95 @@ kept-most s p level plane o l = go (leb (level .0) (p .level .0) && leb (plane .
 ending-clash : (q : Refusal) (n : ℕ) → fault q ≡ tail n → _≡_ {A = ℕ} 0 1
 ending-clash q n e = cc
 
--- The walk: what was written, and what is left to write.
-pub record Walking (s : List ℕ) (h : Header) (level : Level) (plane : Plane) (room : ℕ) (out : List ℕ) (before : PartName) (place written : ℕ) : Type 0 where
-  pub read : readHeader s ≡ header.Header h
-  pub bytes : List ℕ
-  pub count : length bytes ≡ written
-  pub holds : out ≡ clipped room bytes
-  pub left : bytes ++ flat (keptOf s (level .0) (plane .0)) (partsFrom h s before place .parts) ≡ result s h level plane
-  pub ends : partsFrom h s before place .ending ≡ readParts h s .ending
-  pub behind : written ≤ place
-  pub within : place ≤ length s
+-- The walk: what the parts that it came past come to is written.
+pub record Walking (s : List ℕ) (h : Header) (level : Level) (plane : Plane) (room : ℕ) (out : List ℕ) (c : Cursor) (written : ℕ) : Type 0 where
+  pub seen : List Part
+  pub stands : Stands h s c seen
+  pub count : written ≡ length (servedBytes h s (level .0) (plane .0) seen)
+  pub holds : out ≡ clipped room (servedBytes h s (level .0) (plane .0) seen)
+  pub behind : written ≤ c .place
 
 module _ (s : List ℕ) (h : Header) (level : Level) (plane : Plane) where
-  abbrev kept : List Part → List ℕ
-  kept ps = flat (keptOf s (level .0) (plane .0)) ps
+  abbrev bytes : List Part → List ℕ
+  bytes ps = servedBytes h s (level .0) (plane .0) ps
 
-  pub walking-begun : (out : List ℕ) → Begun s h out → Walking s h level plane (length out) out (record { plane = h .planes; level = 0 }) (h .end) (h .end)
-  unfolding servedBytes
-  walking-begun out b =
-      let w : h .end ≤ length s = header-within (readHeader-stands s h (b .read)) in
-      let e = readParts-from h s w in
+  served-none : bytes [] ≡ take (h .end) s
+  unfolding servedBytes flat
+  served-none = append-nil (take (h .end) s)
+
+  served-more : (ps : List Part) (p : Part) → bytes (ps ++ (p ∷ [])) ≡ bytes ps ++ keptOf s (level .0) (plane .0) p
+  unfolding servedBytes flat
+  served-more ps p =
+      let f = keptOf s (level .0) (plane .0) in
+      ap (λ (x : List ℕ). take (h .end) s ++ x) (flat-append f ps (p ∷ []) ∙ ap (λ (x : List ℕ). flat f ps ++ x) (append-nil (f p)))
+      ∙ sym (append-assoc (take (h .end) s) (flat f ps) (f p))
+
+  pub walking-first : (c : Cursor) (out : List ℕ) → Begun s h out → c ≡ firstOf h → Walking s h level plane (length out) out c (h .end)
+  walking-first c out b e =
+      let st : Stands h s c [] = stands-first h s c (b .read) e in
+      let at : c .place ≡ h .end = ap (λ (x : Cursor). x .place) e in
+      let w : h .end ≤ length s = omega (arith, st .within, at) in
       record {
-        read = b .read;
-        bytes = take (h .end) s;
-        count = length-take-le (h .end) s w;
-        holds = b .copied;
-        left = ap (λ (x : Reading). take (h .end) s ++ kept (x .parts)) (sym e);
-        ends = ap (λ (x : Reading). x .ending) (sym e);
-        behind = omega arith;
-        within = w;
+        seen = [];
+        stands = st;
+        count = sym (ap length served-none ∙ length-take-le (h .end) s w);
+        holds = b .copied ∙ ap (clipped (length out)) (sym served-none);
+        behind = omega (arith, at);
       }
 
-  module _ (room : ℕ) (out : List ℕ) (before : PartName) (place written : ℕ) (w : Walking s h level plane room out before place written) where
+  module _ (room : ℕ) (out : List ℕ) (c : Cursor) (written : ℕ) (w : Walking s h level plane room out c written) where
     pub walking-legal : legalSize (h .size) ≡ true
-    walking-legal = header-legal (readHeader-stands s h (w .read))
+    walking-legal = stands-legal h s c (w .seen) (w .stands)
 
-    pub walking-copies : (p : Part) (r : PartRead) → r ≡ readPart h s before place → r ≡ part.Part p → Copies s p written
-    walking-copies p r e f =
-        let st = readPart-stands h s before place p (sym e ∙ f) in
-        record { behind = omega (arith, w .behind, st .placed); ordered = omega (arith, st .placed, st .after, st .end); within = st .within }
+    module _ (found : PartRead) (e : found ≡ nextOf h s c) where
+      pub walking-copies : (p : Part) → found ≡ part.Part p → Copies s p written
+      walking-copies p f =
+          let st = next-stands h s c found e p f in
+          record { behind = omega (arith, w .behind, st .placed); ordered = omega (arith, st .placed, st .after, st .end); within = st .within }
 
-    pub walking-on : (p : Part) (r : PartRead) → r ≡ readPart h s before place → r ≡ part.Part p → (more : ℕ) (out′ : List ℕ)
-        → Kept s p level plane out written more out′ → Walking s h level plane room out′ (nameOf p) (p .end) more
-    unfolding flat
-    walking-on p r e f more out′ k =
-        let st = readPart-stands h s before place p (sym e ∙ f) in
-        let c = walking-copies p r e f in
-        let x = partsFrom-part h s before place p (sym e ∙ f) in
-        let own = keptOf s (level .0) (plane .0) p in
-        record {
-          read = w .read;
-          bytes = w .bytes ++ own;
-          count = length-append (w .bytes) own ∙ ap (λ (n : ℕ). n + length own) (w .count) ∙ sym (k .counts);
-          holds = k .copies ∙ ap₂ (λ (l : List ℕ) (n : ℕ). sets l n own) (w .holds) (sym (w .count)) ∙ clipped-append room (w .bytes) own;
-          left = append-assoc (w .bytes) own _ ∙ ap (λ (y : Reading). w .bytes ++ kept (y .parts)) (sym x) ∙ w .left;
-          ends = ap (λ (y : Reading). y .ending) (sym x) ∙ w .ends;
-          behind = omega (arith, k .counts, kept-most s p level plane (c .ordered) (c .within), c .behind, c .ordered);
-          within = st .within;
-        }
-
-    pub walking-further : (p : Part) (r : PartRead) → r ≡ readPart h s before place → r ≡ part.Part p → length s - p .end < length s - place
-    walking-further p r e f = part-further (readPart-stands h s before place p (sym e ∙ f))
+      pub walking-past : (p : Part) (d : Cursor) (more : ℕ) (out′ : List ℕ) → found ≡ part.Part p → d ≡ pastOf p
+          → Kept s p level plane out written more out′ → Walking s h level plane room out′ d more
+      walking-past p d more out′ f g k =
+          let own = keptOf s (level .0) (plane .0) p in
+          let copies : Copies s p written = walking-copies p f in
+          let at : d .place ≡ p .end = ap (λ (x : Cursor). x .place) g in
+          let longer : length (bytes (w .seen ++ (p ∷ []))) ≡ written + length own
+          = ap length (served-more (w .seen) p) ∙ length-append (bytes (w .seen)) own ∙ ap (λ (n : ℕ). n + length own) (sym (w .count)) in
+          record {
+            seen = w .seen ++ (p ∷ []);
+            stands = stands-past h s c found e (w .seen) (w .stands) p d f g;
+            count = k .counts ∙ sym longer;
+            holds =
+                k .copies ∙ ap₂ (λ (l : List ℕ) (n : ℕ). sets l n own) (w .holds) (w .count) ∙ clipped-append room (bytes (w .seen)) own
+                ∙ ap (clipped room) (sym (served-more (w .seen) p));
+            behind = omega (arith, k .counts, kept-most s p level plane (copies .ordered) (copies .within), copies .behind, copies .ordered, at);
+          }
 
     -- The walk's two ends, for whoever lent the output as `first`.
     module _ (first : List ℕ) (lent : room ≡ length first) where
       pub walking-same : length out ≡ length first
-      walking-same = ap length (w .holds) ∙ clipped-length room (w .bytes) ∙ lent
+      walking-same = ap length (w .holds) ∙ clipped-length room (bytes (w .seen)) ∙ lent
 
-      pub walking-whole : (r : PartRead) → r ≡ readPart h s before place → r ≡ part.Tail → Walked s h level plane first (Whole written (length s - place)) out
-      unfolding endOf flat
-      walking-whole r e f =
-          let x = partsFrom-tail h s before place (sym e ∙ f) in
-          let t : readParts h s .ending ≡ tail (length s - place) = sym (w .ends) ∙ ap (λ (y : Reading). y .ending) x in
-          let b : w .bytes ≡ result s h level plane = sym (append-nil (w .bytes)) ∙ ap (λ (y : Reading). w .bytes ++ kept (y .parts)) (sym x) ∙ w .left in
-          record {
-            ends = ap (λ (n : ℕ). Whole n (length s - place)) (sym (w .count) ∙ ap length b) ∙ ap (λ (y : Ending). endOf y (result s h level plane)) (sym t);
-            same = walking-same;
-            holds = λ n u. w .holds ∙ ap₂ clipped lent b;
-          }
+      module _ (found : PartRead) (e : found ≡ nextOf h s c) where
+        pub walking-whole : found ≡ part.Tail → Walked s h level plane first (Whole written (length s - c .place)) out
+        unfolding endOf
+        walking-whole f =
+            let all : readParts h s ≡ record { parts = w .seen; ending = tail (length s - c .place) } = stands-tail h s c found e (w .seen) (w .stands) f in
+            record {
+              ends = rw all (ap (λ (n : ℕ). Whole n (length s - c .place)) (w .count));
+              same = walking-same;
+              holds = λ n u. rw all (w .holds ∙ ap (λ (k : ℕ). clipped k (bytes (w .seen))) lent);
+            }
 
-      pub walking-fault : (r : PartRead) (q : Refusal) → r ≡ readPart h s before place → r ≡ part.Refused q → Walked s h level plane first (Fault q) out
-      unfolding endOf
-      walking-fault r q e f =
-          let x = partsFrom-fault h s before place q (sym e ∙ f) in
-          let t : readParts h s .ending ≡ fault q = sym (w .ends) ∙ ap (λ (y : Reading). y .ending) x in
-          record {
-            ends = ap (λ (y : Ending). endOf y (result s h level plane)) (sym t);
-            same = walking-same;
-            holds = λ n u. absurd (let z : _≡_ {A = ℕ} 0 1 = ending-clash q n (sym t ∙ u) in omega arith);
-          }
+        pub walking-fault : (q : Refusal) → found ≡ part.Refused q → Walked s h level plane first (Fault q) out
+        unfolding endOf
+        walking-fault q f =
+            let all : readParts h s ≡ record { parts = w .seen; ending = fault q } = stands-fault h s c found e (w .seen) (w .stands) q f in
+            record {
+              ends = rw all;
+              same = walking-same;
+              holds = λ n u. absurd (let z : _≡_ {A = ℕ} 0 1 = ending-clash q n (sym (ap (λ (x : Reading). x .ending) all) ∙ u) in omega arith);
+            }
 
 -- How a walk that ended so ended.
 ended-fault : (y : Ending) (bytes : List ℕ) (q : Refusal) → endOf y bytes ≡ Fault q → y ≡ fault q
@@ -209,38 +209,52 @@ module _ (s : List ℕ) (level : Level) (plane : Plane) (out : List ℕ) where
     unfolding serving onHeader unless
     unasked b a out′ e f g = refusing refusal.Ask a out out′ refl g (rw (read, sym e ∙ f))
 
-    pub begun : (zeroed copied : List ℕ) → zeroed ≡ replicate (length out) 0 → copied ≡ sets zeroed 0 (take (h .end) (drop 0 s)) → Begun s h copied
-    begun zeroed copied e f =
-        let l : length copied ≡ length out = ap length (f ∙ ap (λ (x : List ℕ). sets x 0 (take (h .end) s)) e) ∙ length-sets (zeros (length out)) 0 (take (h .end) s) ∙ length-replicate (length out) 0 in
-        record {
-          read = read;
-          copied = f ∙ ap (λ (x : List ℕ). sets x 0 (take (h .end) s)) (e ∙ sym (clipped-nothing (length out))) ∙ clipped-append (length out) [] (take (h .end) s)
-              ∙ ap (λ (n : ℕ). clipped n (take (h .end) s)) (sym l);
-        }
+    -- The output zeroed, and the header copied to its front.
+    module _ (zeroed copied : List ℕ) (zeroes : zeroed ≡ replicate (length out) 0) (copies : copied ≡ sets zeroed 0 (take (h .end) (drop 0 s))) where
+      copied-is : copied ≡ sets (zeros (length out)) 0 (take (h .end) s)
+      copied-is = copies ∙ ap (λ (x : List ℕ). sets x 0 (take (h .end) s)) zeroes
 
-    module _ (b : Bool) (asked : b ≡ legalAsk h (level .0) (plane .0)) (legal-ask : b ≡ true) (copied out₁ : List ℕ) (lent : length copied ≡ length out)
-        (e : Ended) (w : Walked s h level plane copied e out₁) where
-      pub faulted : (q : Refusal) (a : Served) (out′ : List ℕ) → e ≡ Fault q → Refusing q out₁ a out′ → Serving s (level .0) (plane .0) out a out′
-      unfolding serving onHeader unless onEnding
-      faulted q a out′ f g =
-          let y : readParts h s .ending ≡ fault q = ended-fault _ (result s h level plane) q (sym (w .ends) ∙ f) in
-          refusing q a out₁ out′ (w .same ∙ lent) g (rw (read, sym asked ∙ legal-ask, y))
+      lent : length copied ≡ length out
+      lent = ap length copied-is ∙ length-sets (zeros (length out)) 0 (take (h .end) s) ∙ length-replicate (length out) 0
 
-      pub roomless : (n t : ℕ) (a : Served) (out′ : List ℕ) → e ≡ Whole n t → length out₁ < n → Refusing refusal.Room out₁ a out′ → Serving s (level .0) (plane .0) out a out′
-      unfolding serving onHeader unless onEnding portioned
-      roomless n t a out′ f l g =
-          let y = ended-whole _ (result s h level plane) n t (sym (w .ends) ∙ f) in
-          let m : length out < length (result s h level plane) = omega (arith, w .same, y .1) in
-          refusing refusal.Room a out₁ out′ (w .same ∙ lent) g (rw (read, sym asked ∙ legal-ask, y .0, lt-leb (length (result s h level plane)) (length out) m))
-
-      pub served : (n t : ℕ) → e ≡ Whole n t → n ≤ length out₁ → Serving s (level .0) (plane .0) out (record { verdict = Accepted; length = n; tail = t }) out₁
-      unfolding serving onHeader unless onEnding portioned serveAnswer serveOut
-      served n t f l =
-          let y = ended-whole _ (result s h level plane) n t (sym (w .ends) ∙ f) in
-          let m : length (result s h level plane) ≤ length out = omega (arith, w .same, y .1) in
-          let v : serving s (level .0) (plane .0) (length out) ≡ accepted (record { bytes = result s h level plane; tail = t })
-          = rw (read, sym asked ∙ legal-ask, y .0, le-leb (length (result s h level plane)) (length out) m) in
+      pub begun : Begun s h copied
+      begun =
           record {
-            answers = ap (λ (k : ℕ). record { verdict = Accepted; length = k; tail = t }) (y .1) ∙ ap serveAnswer (sym v);
-            writes = w .holds t (y .0) ∙ ap (λ (k : ℕ). clipped k (result s h level plane)) lent ∙ clipped-fits (length out) (result s h level plane) m ∙ ap (serveOut (length out)) (sym v);
+            read = read;
+            copied =
+                copied-is ∙ ap (λ (x : List ℕ). sets x 0 (take (h .end) s)) (sym (clipped-nothing (length out)))
+                ∙ clipped-append (length out) [] (take (h .end) s) ∙ ap (λ (n : ℕ). clipped n (take (h .end) s)) (sym lent);
           }
+
+      -- The walk has ended.
+      module _ (b : Bool) (asked : b ≡ legalAsk h (level .0) (plane .0)) (legal-ask : b ≡ true) (e : Ended) (out₁ : List ℕ)
+          (w : Walked s h level plane copied e out₁) where
+        pub faulted : (q : Refusal) (a : Served) (out′ : List ℕ) → e ≡ Fault q → Refusing q out₁ a out′ → Serving s (level .0) (plane .0) out a out′
+        unfolding serving onHeader unless onEnding
+        faulted q a out′ f g =
+            let y : readParts h s .ending ≡ fault q = ended-fault _ (result s h level plane) q (sym (w .ends) ∙ f) in
+            refusing q a out₁ out′ (w .same ∙ lent) g (rw (read, sym asked ∙ legal-ask, y))
+
+        pub roomless : (n t : ℕ) (a : Served) (out′ : List ℕ) → e ≡ Whole n t → length out₁ < n → Refusing refusal.Room out₁ a out′
+            → Serving s (level .0) (plane .0) out a out′
+        unfolding serving onHeader unless onEnding portioned
+        roomless n t a out′ f l g =
+            let y = ended-whole _ (result s h level plane) n t (sym (w .ends) ∙ f) in
+            let m : length out < length (result s h level plane) = omega (arith, lent, w .same, y .1) in
+            refusing refusal.Room a out₁ out′ (w .same ∙ lent) g
+            (rw (read, sym asked ∙ legal-ask, y .0, lt-leb (length (result s h level plane)) (length out) m))
+
+        pub served : (n t : ℕ) → e ≡ Whole n t → n ≤ length out₁
+            → Serving s (level .0) (plane .0) out (record { verdict = Accepted; length = n; tail = t }) out₁
+        unfolding serving onHeader unless onEnding portioned serveAnswer serveOut
+        served n t f l =
+            let y = ended-whole _ (result s h level plane) n t (sym (w .ends) ∙ f) in
+            let m : length (result s h level plane) ≤ length out = omega (arith, lent, w .same, y .1) in
+            let v : serving s (level .0) (plane .0) (length out) ≡ accepted (record { bytes = result s h level plane; tail = t })
+            = rw (read, sym asked ∙ legal-ask, y .0, le-leb (length (result s h level plane)) (length out) m) in
+            record {
+              answers = ap (λ (k : ℕ). record { verdict = Accepted; length = k; tail = t }) (y .1) ∙ ap serveAnswer (sym v);
+              writes =
+                  w .holds t (y .0) ∙ ap (λ (k : ℕ). clipped k (result s h level plane)) lent
+                  ∙ clipped-fits (length out) (result s h level plane) m ∙ ap (serveOut (length out)) (sym v);
+            }

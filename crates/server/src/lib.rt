@@ -6,7 +6,8 @@ ghost use Rattle.rules.specs.declared.HeaderRead.the-variants as header;
 ghost use Rattle.rules.specs.Document.Numbers.{readHeader};
 ghost use Rattle.rules.specs.Document.Calls.{Serving, legalAsk};
 ghost use Rattle.server.specs.Walk.{Refusing, Copies, Kept, Begun, Walked};
-use record::Name;
+use record::read;
+use record::walk::Cursor;
 use rules::Header;
 use rules::HeaderRead;
 use rules::Level;
@@ -71,26 +72,15 @@ fn walk(s: &[u8], h: Header, level: Level, plane: Plane, out: &mut [u8]) -> Ende
     requires { ⌜ Begun (now s) h (now out) ⌝ }
     ensures { λ e. ⌜ Walked (now (s .entry)) h level plane (now (out .entry)) e (now (out .exit)) ⌝ }
 {
-    let mut before = Name {
-        plane: Plane(h.planes),
-        level: Level(0),
-    };
-    let mut place = h.end;
+    let mut cursor = Cursor::first(h);
     let mut written = h.end;
     loop {
-        let read = record::read_part(s, h, before, place);
-        match read {
-            PartRead::Tail => return Ended::Whole(written, s.len() - place),
+        match cursor.next(s, h) {
+            PartRead::Tail => return Ended::Whole(written, s.len() - cursor.place),
             PartRead::Refused(r) => return Ended::Fault(r),
             PartRead::Part(p) => {
                 written = keep(s, p, level, plane, out, written);
-                let own_plane = p.plane;
-                let own_level = p.level;
-                before = Name {
-                    plane: own_plane,
-                    level: own_level,
-                };
-                place = p.end;
+                cursor = Cursor::past(p);
             }
         }
     }
@@ -127,8 +117,7 @@ fn serve_parts(s: &[u8], h: Header, level: Level, plane: Plane, out: &mut [u8]) 
 pub fn serve(s: &[u8], level: Level, plane: Plane, out: &mut [u8]) -> Served
     ensures { λ a. ⌜ Serving (now (s .entry)) (level .0) (plane .0) (now (out .entry)) a (now (out .exit)) ⌝ }
 {
-    let read = record::read_header(s);
-    match read {
+    match read::header(s) {
         HeaderRead::Header(h) => serve_parts(s, h, level, plane, out),
         HeaderRead::Refused(r) => refused(r, out),
     }

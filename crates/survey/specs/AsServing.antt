@@ -1,5 +1,5 @@
 -- "It checks as serving with r = 1, p = 0 does": what serving a record whole answers, in any room, is told by its survey.
-use mathlib.Core.Path.{_≡_, refl, ap, sym, _∙_}
+use mathlib.Core.Path.{_≡_, refl, sym, _∙_}
 use mathlib.Core.List.{List}
 use mathlib.Core.Bool.{Bool, true, false, cond}
 use Prim.Native.Nat.{ℕ, _-_, _≤_, _<_}
@@ -16,12 +16,13 @@ use Rattle.rules.specs.declared.Header.{Header}
 use Rattle.rules.specs.declared.HeaderRead.{HeaderRead}
 use Rattle.rules.specs.declared.HeaderRead.the-variants as header
 use Rattle.rules.specs.declared.Part.{Part}
+use Rattle.rules.specs.declared.PartRead.{PartRead}
 use Rattle.rules.specs.declared.PartRead.the-variants as part
-use Rattle.rules.specs.Document.Passes.{PartName}
 use Rattle.rules.specs.Document.Numbers.{Ending, tail, fault, readHeader, readParts}
 use Rattle.rules.specs.Document.Calls.{Result, refused, unless, onHeader, onEnding, Portion, portioned, serving, serveAnswer, Serving}
-use Rattle.rules.specs.Laws.Reading.Stands.{readPart-stands, part-further}
 use Rattle.rules.specs.Laws.Serving.Served.{asks-all, serving-all}
+use Rattle.record.specs.declared.walk.Cursor.{Cursor}
+use Rattle.record.specs.Walk.{pastOf, next-falls}
 use Rattle.survey.specs.declared.Survey.{Survey}
 use Rattle.survey.specs.Surveyed.{refusedWith, endedWith, headedWith, surveyOf, longest, listedOf, partBehind, partAt}
 
@@ -105,11 +106,12 @@ listed-header s = go (leb (length s) longest)
     go true = survey-header s
     go false = refusal-has s refusal.Room
 
--- A part that stands at a place ends behind it, within the record.
-pub part-ends : (s : List ℕ) (before : PartName) (place : ℕ) (p : Part) → partAt s before place ≡ part.Part p → length s - p .end < length s - place
+-- A part that stands at a cursor ends behind it, within the record.
+pub part-ends : (s : List ℕ) (c : Cursor) (found : PartRead) (p : Part) (d : Cursor) → found ≡ partAt s c → found ≡ part.Part p → d ≡ pastOf p
+    → length s - d .place < length s - c .place
 unfolding partAt
-part-ends s before place p = by (readHeader s)
+part-ends s c found p d e f over = by (readHeader s) (sym e ∙ f)
   where
-    by : (x : HeaderRead) → partBehind s before place x ≡ part.Part p → length s - p .end < length s - place
-    by (header.Header h) e = part-further (readPart-stands h s before place p e)
-    by (header.Refused r) e = absurd (let z : _≡_ {A = ℕ} 0 1 = cc in omega arith)
+    by : (x : HeaderRead) → partBehind s c x ≡ part.Part p → length s - d .place < length s - c .place
+    by (header.Header h) g = next-falls h s c (part.Part p) (sym g) p d refl over
+    by (header.Refused r) g = absurd (let z : _≡_ {A = ℕ} 0 1 = cc in omega arith)

@@ -13,9 +13,10 @@ use Rattle.rules.specs.declared.HeaderRead.{HeaderRead}
 use Rattle.rules.specs.declared.HeaderRead.the-variants as header
 use Rattle.rules.specs.declared.PartRead.{PartRead}
 use Rattle.rules.specs.declared.PartRead.the-variants as part
-use Rattle.rules.specs.Document.Passes.{PartName}
-use Rattle.rules.specs.Document.Numbers.{verdictNumber, verdictPlace, Ending, tail, fault, Reading, readHeader, readPart, readParts}
+use Rattle.rules.specs.Document.Numbers.{verdictNumber, verdictPlace, Ending, tail, fault, Reading, readHeader, readParts}
 use Rattle.rules.specs.Document.Calls.{returned, reported}
+use Rattle.record.specs.declared.walk.Cursor.{Cursor}
+use Rattle.record.specs.Walk.{nextOf}
 use Rattle.survey.specs.declared.Survey.{Survey}
 
 abbrev pub refusedWith : Refusal → Survey
@@ -42,13 +43,13 @@ longest = 16384
 unfoldable pub listedOf : List ℕ → Survey
 listedOf s = cond (leb (length s) longest) (surveyOf s) (refusedWith refusal.Room)
 
--- The part that stands at a place of a record, behind a part of this name; without a legal header its refusal.
-abbrev pub partBehind : List ℕ → PartName → ℕ → HeaderRead → PartRead
-partBehind s before place (header.Header h) = readPart h s before place
-partBehind s before place (header.Refused r) = part.Refused r
+-- What stands at a cursor in a record; without a legal header its refusal.
+abbrev pub partBehind : List ℕ → Cursor → HeaderRead → PartRead
+partBehind s c (header.Header h) = nextOf h s c
+partBehind s c (header.Refused r) = part.Refused r
 
-unfoldable pub partAt : List ℕ → PartName → ℕ → PartRead
-partAt s before place = partBehind s before place (readHeader s)
+unfoldable pub partAt : List ℕ → Cursor → PartRead
+partAt s c = partBehind s c (readHeader s)
 
 -- What the export `afs_survey` answers and leaves, beside Calls.AfsServe and its like: number, place, W, H, N, planes, whole parts, tail length, by
 -- the same rules for an answer slice. It is lent no output.

@@ -2,14 +2,12 @@
 ghost use mathlib.Core.Path.{_≡_};
 ghost use Rattle.rules.specs.declared.HeaderRead.the-variants as header;
 ghost use Rattle.rules.specs.Document.Numbers.{readHeader, readParts};
-ghost use Rattle.record.specs.Named.{named};
 ghost use Rattle.survey.specs.Surveyed.{refusedWith, walkedWith, surveyOf, listedOf, partAt};
-use record::Name;
+use record::read;
+use record::walk::Cursor;
 use rules::Header;
 use rules::HeaderRead;
-use rules::Level;
 use rules::PartRead;
-use rules::Plane;
 use rules::Refusal;
 use rules::Size;
 use rules::Verdict;
@@ -46,32 +44,21 @@ fn walk(s: &[u8], h: Header) -> Survey
     requires { ⌜ readHeader (now s) ≡ header.Header h ⌝ }
     ensures { λ a. ⌜ a ≡ walkedWith h (readParts h (now (s .entry))) ⌝ }
 {
-    let mut before = Name {
-        plane: Plane(h.planes),
-        level: Level(0),
-    };
-    let mut place = h.end;
+    let mut cursor = Cursor::first(h);
     let mut parts = 0;
     loop {
-        let read = record::read_part(s, h, before, place);
-        match read {
+        match cursor.next(s, h) {
             PartRead::Tail => {
                 return Survey {
                     verdict: Verdict::Accepted,
                     header: h,
                     parts,
-                    tail: s.len() - place,
+                    tail: s.len() - cursor.place,
                 };
             }
             PartRead::Refused(r) => return refused(r),
             PartRead::Part(p) => {
-                let own_plane = p.plane;
-                let own_level = p.level;
-                before = Name {
-                    plane: own_plane,
-                    level: own_level,
-                };
-                place = p.end;
+                cursor = Cursor::past(p);
                 parts += 1;
             }
         }
@@ -81,8 +68,7 @@ fn walk(s: &[u8], h: Header) -> Survey
 pub fn survey_of(s: &[u8]) -> Survey
     ensures { λ a. ⌜ a ≡ surveyOf (now (s .entry)) ⌝ }
 {
-    let read = record::read_header(s);
-    match read {
+    match read::header(s) {
         HeaderRead::Header(h) => walk(s, h),
         HeaderRead::Refused(r) => refused(r),
     }
@@ -98,13 +84,12 @@ pub fn listed(s: &[u8]) -> Survey
     survey_of(s)
 }
 
-// The part that stands at a place, behind the one before it: what partlist prints one after the other.
-pub fn part_at(s: &[u8], before: Name, place: usize) -> PartRead
-    ensures { λ r. ⌜ r ≡ partAt (now (s .entry)) (named before) place ⌝ }
+// What stands at a cursor: what partlist prints one after the other.
+pub fn part_at(s: &[u8], cursor: Cursor) -> PartRead
+    ensures { λ r. ⌜ r ≡ partAt (now (s .entry)) cursor ⌝ }
 {
-    let read = record::read_header(s);
-    match read {
-        HeaderRead::Header(h) => record::read_part(s, h, before, place),
+    match read::header(s) {
+        HeaderRead::Header(h) => cursor.next(s, h),
         HeaderRead::Refused(r) => PartRead::Refused(r),
     }
 }

@@ -1,4 +1,3 @@
-use mathlib.Core.Path.{sym, _∙_}
 use Prim.Native.Nat.{_-_}
 use lib.ListN.{length}
 use Rattle.survey.specs.AsServing.{part-ends}
@@ -7,10 +6,13 @@ use Rattle.partlist.proofs.print_parts.Statement.{statement}
 use Rattle.partlist.proofs.print_parts.Tie as tie
 
 abbrev Inv-loop : tie.InvT-loop
-Inv-loop s before₀ place₀ before place = Unit {0}
+Inv-loop s cursor₀ cursor = Unit {0}
 
 abbrev μ-loop : tie.MeasureT-loop
-μ-loop s before₀ place₀ before place = length s - place
+μ-loop s cursor₀ cursor = length s - cursor .place
+
+first-requires : tie.Need-first-requires Inv-loop μ-loop
+first-requires c κs = search needs
 
 loop-holds : tie.Need-loop-holds Inv-loop μ-loop
 loop-holds c = search needs
@@ -27,8 +29,11 @@ returns c = search needs
 print-part-requires : tie.Need-print-part-requires Inv-loop μ-loop
 print-part-requires c κs = search needs
 
+past-requires : tie.Need-past-requires Inv-loop μ-loop
+past-requires c κs = search needs
+
 loop-less : tie.Need-loop-less Inv-loop μ-loop
-loop-less c = part-ends _ _ _ _ (sym (c .before .before .before .before .before .before .part-at .ensures) ∙ c .before .before .before .before .p .given .1)
+loop-less c = search (needs, part-ends)
 
 loop-again : tie.Need-loop-again Inv-loop μ-loop
 loop-again c = search needs
@@ -39,10 +44,12 @@ print-parts-spec =
     (tie.spec
     Inv-loop
     μ-loop
+    first-requires
     loop-holds
     part-at-requires
     enum-known-p
     returns
     print-part-requires
+    past-requires
     loop-less
     loop-again)

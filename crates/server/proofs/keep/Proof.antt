@@ -7,7 +7,7 @@ returns : tie.Need-returns
 returns c = kept-coarse _ _ _ _ _ _ (c .if1 .taken)
 
 returns-2 : tie.Need-returns-2
-returns-2 c = kept-low _ _ _ _ _ _ (c .before .before .before .if1 .left) (c .if2 .taken)
+returns-2 c = search (needs, kept-low)
 
 sub-count : tie.Need-sub-count
 sub-count c = search needs
@@ -22,7 +22,7 @@ same-length : tie.Need-same-length
 same-length c = search needs
 
 returns-3 : tie.Need-returns-3
-returns-3 c = kept-whole _ _ _ _ _ _ (c .before .before .before .before .before .before .before .before .before .before .before .before .before .before .before .pre) (c .before .before .before .before .before .before .before .before .if1 .left) (c .before .before .before .before .before .if2 .left) _ (c .before .before .copy .ensures)
+returns-3 c = search (needs, kept-whole)
 
 pub keep-spec : {M : Type 1} → statement M
 keep-spec =

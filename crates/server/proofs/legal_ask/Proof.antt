@@ -7,10 +7,10 @@ returns : tie.Need-returns
 returns c = ask-low _ _ _ (c .if1 .taken)
 
 returns-2 : tie.Need-returns-2
-returns-2 c = ask-high _ _ _ (c .before .before .before .if1 .left) (c .if2 .taken)
+returns-2 c = search (needs, ask-high)
 
 returns-3 : tie.Need-returns-3
-returns-3 c = ask-plane _ _ _ (c .before .before .before .before .before .if1 .left) (c .before .before .if2 .left)
+returns-3 c = search (needs, ask-plane)
 
 pub legal-ask-spec : {M : Type 1} → statement M
 legal-ask-spec = tie.close (tie.spec returns returns-2 returns-3)

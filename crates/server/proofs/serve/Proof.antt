@@ -1,20 +1,20 @@
-use mathlib.Core.Path.{sym, _∙_}
+use Rattle.record.specs.Walk.{header-found}
 use Rattle.server.proofs.Laws.{unheaded}
 use borrow.Author.Needs.{needs}
 use Rattle.server.proofs.serve.Statement.{statement}
 use Rattle.server.proofs.serve.Tie as tie
 
-read-header-requires : tie.Need-read-header-requires
-read-header-requires c κs = search needs
+header-requires : tie.Need-header-requires
+header-requires c κs = search needs
 
-enum-known-read : tie.Need-enum-known-read
-enum-known-read c = search needs
+enum-known-h : tie.Need-enum-known-h
+enum-known-h c = search needs
 
 serve-parts-requires : tie.Need-serve-parts-requires
-serve-parts-requires c κs = sym (c .before .before .before .before .read-header .ensures) ∙ c .before .before .read .given .1
+serve-parts-requires c κs = search (needs, header-found)
 
-enum-known-read-2 : tie.Need-enum-known-read-2
-enum-known-read-2 c = search needs
+enum-known-r : tie.Need-enum-known-r
+enum-known-r c = search needs
 
 refused-requires : tie.Need-refused-requires
 refused-requires c κs = search needs
@@ -29,16 +29,16 @@ same-length-2 : tie.Need-same-length-2
 same-length-2 c = search needs
 
 returns-2 : tie.Need-returns-2
-returns-2 c = unheaded _ _ _ _ _ _ _ _ (c .before .before .before .before .before .before .before .read-header .ensures) (c .before .before .before .before .before .read2 .given .1) (c .before .before .refused .ensures)
+returns-2 c = search (needs, unheaded)
 
 pub serve-spec : {M : Type 1} → statement M
 serve-spec =
     tie.close
     (tie.spec
-    read-header-requires
-    enum-known-read
+    header-requires
+    enum-known-h
     serve-parts-requires
-    enum-known-read-2
+    enum-known-r
     refused-requires
     same-length
     returns

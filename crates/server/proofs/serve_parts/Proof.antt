@@ -1,5 +1,4 @@
 use borrow.Author.Tests.{not-true, not-false}
-use mathlib.Core.Path.{refl}
 use Rattle.server.proofs.Laws.{unasked, begun, faulted, roomless, served}
 use borrow.Author.Needs.{needs}
 use Rattle.server.proofs.serve_parts.Statement.{statement}
@@ -15,7 +14,7 @@ same-length : tie.Need-same-length
 same-length c = search needs
 
 returns : tie.Need-returns
-returns c = unasked _ _ _ _ _ (c .before .before .before .before .before .before .before .before .pre) _ _ _ (c .before .before .before .before .before .legal-ask .ensures) (not-true _ (c .before .before .before .before .if1 .taken)) (c .before .before .refused .ensures)
+returns c = search (needs, unasked, not-true)
 
 zero-u8-requires : tie.Need-zero-u8-requires
 zero-u8-requires c κs = search needs
@@ -24,7 +23,7 @@ copy-requires : tie.Need-copy-requires
 copy-requires c κs = search needs
 
 walk-requires : tie.Need-walk-requires
-walk-requires c κs = begun _ (c .before .before .before .before .before .before .before .before .before .before .before .before .before .args .level) (c .before .before .before .before .before .before .before .before .before .before .before .before .before .args .plane) (c .before .before .before .before .before .before .before .before .before .before .before .before .before .args .out .now) _ (c .before .before .before .before .before .before .before .before .before .before .before .before .before .pre) _ _ (c .before .before .before .before .before .before .before .zero-u8 .ensures) (c .before .before .before .copy .ensures)
+walk-requires c κs = search (needs, begun)
 
 enum-known-ended : tie.Need-enum-known-ended
 enum-known-ended c = search needs
@@ -42,19 +41,19 @@ same-length-2 : tie.Need-same-length-2
 same-length-2 c = search needs
 
 returns-2 : tie.Need-returns-2
-returns-2 c = faulted _ _ _ _ _ (c .before .before .before .before .before .before .before .before .before .before .before .before .before .before .before .before .before .before .before .before .before .before .before .pre) _ (c .before .before .before .before .before .before .before .before .before .before .before .before .before .before .before .before .before .before .before .before .legal-ask .ensures) (not-false _ (c .before .before .before .before .before .before .before .before .before .before .before .before .before .before .before .before .before .before .before .if1 .left)) _ _ (search needs) _ (c .before .before .before .before .before .before .before .before .before .walk .ensures) _ _ _ (c .before .before .before .before .before .ended .given .1) (c .before .before .refused2 .ensures)
+returns-2 c = search (needs, faulted, not-false)
 
 same-length-3 : tie.Need-same-length-3
 same-length-3 c = search needs
 
 returns-3 : tie.Need-returns-3
-returns-3 c = roomless _ _ _ _ _ (c .before .before .before .before .before .before .before .before .before .before .before .before .before .before .before .before .before .before .before .before .before .before .before .before .pre) _ (c .before .before .before .before .before .before .before .before .before .before .before .before .before .before .before .before .before .before .before .before .before .legal-ask .ensures) (not-false _ (c .before .before .before .before .before .before .before .before .before .before .before .before .before .before .before .before .before .before .before .before .if1 .left)) _ _ (search needs) _ (c .before .before .before .before .before .before .before .before .before .before .walk .ensures) _ _ _ _ (c .before .before .before .before .before .before .ended2 .given .1) (c .before .before .before .before .if2 .taken) (c .before .before .refused3 .ensures)
+returns-3 c = search (needs, roomless, not-false)
 
 same-length-4 : tie.Need-same-length-4
 same-length-4 c = search needs
 
 returns-4 : tie.Need-returns-4
-returns-4 c = served _ _ _ _ _ (c .before .before .before .before .before .before .before .before .before .before .before .before .before .before .before .before .before .before .before .before .pre) _ (c .before .before .before .before .before .before .before .before .before .before .before .before .before .before .before .before .before .legal-ask .ensures) (not-false _ (c .before .before .before .before .before .before .before .before .before .before .before .before .before .before .before .before .if1 .left)) _ _ (search needs) _ (c .before .before .before .before .before .before .walk .ensures) _ _ (c .before .before .ended2 .given .1) (c .if2 .left)
+returns-4 c = search (needs, served, not-false)
 
 pub serve-parts-spec : {M : Type 1} → statement M
 serve-parts-spec =

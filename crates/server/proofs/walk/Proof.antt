@@ -1,59 +1,61 @@
-use mathlib.Core.Path.{refl}
-use Rattle.rules.specs.Document.Layout.{nameOf}
-use Rattle.server.proofs.Laws.{walking-begun, walking-legal, walking-copies, walking-on, walking-further, walking-whole, walking-fault, walking-same}
 use Prim.Native.Nat.{_-_}
 use lib.ListN.{length}
-use Rattle.record.specs.Named.{named}
-use Rattle.server.proofs.Laws.{Walking}
+use Rattle.record.specs.Walk.{next-falls}
+use Rattle.server.proofs.Laws.{Walking, walking-first, walking-legal, walking-copies, walking-past, walking-same, walking-whole, walking-fault}
 use borrow.Author.Needs.{needs}
 use Rattle.server.proofs.walk.Statement.{statement}
 use Rattle.server.proofs.walk.Tie as tie
 
 abbrev Inv-loop : tie.InvT-loop
-Inv-loop s h level plane out₀ before₀ place₀ written₀ out before place written = Walking s h level plane (length out₀) out (named before) place written
+Inv-loop s h level plane out₀ cursor₀ written₀ out cursor written = Walking s h level plane (length out₀) out cursor written
 
 abbrev μ-loop : tie.MeasureT-loop
-μ-loop s h level plane out₀ before₀ place₀ written₀ out before place written = length s - place
+μ-loop s h level plane out₀ cursor₀ written₀ out cursor written = length s - cursor .place
+
+first-requires : tie.Need-first-requires Inv-loop μ-loop
+first-requires c κs = search needs
 
 loop-holds : tie.Need-loop-holds Inv-loop μ-loop
-loop-holds c = walking-begun _ _ _ _ _ (c .before .before .pre)
+loop-holds c = search (needs, walking-first)
 
-read-part-requires : tie.Need-read-part-requires Inv-loop μ-loop
-read-part-requires c κs = walking-legal _ _ _ _ _ _ _ _ _ (c .loop .inv)
+next-requires : tie.Need-next-requires Inv-loop μ-loop
+next-requires c κs = search (needs, walking-legal)
 
 enum-told : tie.Need-enum-told Inv-loop μ-loop
 enum-told c = search needs
 
-sub-t17 : tie.Need-sub-t17 Inv-loop μ-loop
-sub-t17 c = search needs
+sub-t12 : tie.Need-sub-t12 Inv-loop μ-loop
+sub-t12 c = search needs
 
 same-length : tie.Need-same-length Inv-loop μ-loop
-same-length c = walking-same _ _ _ _ _ _ _ _ _ (c .before .before .before .loop .inv) (c .before .before .before .before .before .before .args .out .now) refl
+same-length c = search (needs, walking-same)
 
 returns : tie.Need-returns Inv-loop μ-loop
-returns c = walking-whole _ _ _ _ _ _ _ _ _ (c .before .before .before .loop .inv) _ refl _ (c .before .before .read-part .ensures) (c .enum-told .given .1)
+returns c = search (needs, walking-whole)
 
-enum-known-read : tie.Need-enum-known-read Inv-loop μ-loop
-enum-known-read c = search needs
+enum-known-r : tie.Need-enum-known-r Inv-loop μ-loop
+enum-known-r c = search needs
 
 same-length-2 : tie.Need-same-length-2 Inv-loop μ-loop
-same-length-2 c = walking-same _ _ _ _ _ _ _ _ _ (c .before .before .before .before .loop .inv) (c .before .before .before .before .before .before .before .args .out .now) refl
+same-length-2 c = search (needs, walking-same)
 
 returns-2 : tie.Need-returns-2 Inv-loop μ-loop
-returns-2 c = walking-fault _ _ _ _ _ _ _ _ _ (c .before .before .before .before .loop .inv) _ refl _ _ (c .before .before .before .read-part .ensures) (c .before .read .given .1)
+returns-2 c = search (needs, walking-fault)
 
-enum-known-read-2 : tie.Need-enum-known-read-2 Inv-loop μ-loop
-enum-known-read-2 c = search needs
+enum-known-p : tie.Need-enum-known-p Inv-loop μ-loop
+enum-known-p c = search needs
 
 keep-requires : tie.Need-keep-requires Inv-loop μ-loop
-keep-requires c κs = walking-copies _ _ _ _ _ _ _ _ _ (c .before .before .before .before .before .loop .inv) _ _ (c .before .before .before .before .read-part .ensures) (c .before .before .read2 .given .1)
+keep-requires c κs = search (needs, walking-copies)
+
+past-requires : tie.Need-past-requires Inv-loop μ-loop
+past-requires c κs = search needs
 
 loop-less : tie.Need-loop-less Inv-loop μ-loop
-loop-less c = walking-further _ _ _ _ _ _ _ _ _ (c .before .before .before .before .before .before .before .before .before .before .loop .inv) _ _ (c .before .before .before .before .before .before .before .before .before .read-part .ensures) (c .before .before .before .before .before .before .before .read2 .given .1)
+loop-less c = search (needs, next-falls)
 
 loop-again : tie.Need-loop-again Inv-loop μ-loop
-unfolding nameOf
-loop-again c = walking-on _ _ _ _ _ _ _ _ _ (c .before .before .before .before .before .before .before .before .before .before .loop .inv) _ _ (c .before .before .before .before .before .before .before .before .before .read-part .ensures) (c .before .before .before .before .before .before .before .read2 .given .1) _ _ (c .before .before .before .before .keep .ensures)
+loop-again c = search (needs, walking-past)
 
 pub walk-spec : {M : Type 1} → statement M
 walk-spec =
@@ -61,16 +63,18 @@ walk-spec =
     (tie.spec
     Inv-loop
     μ-loop
+    first-requires
     loop-holds
-    read-part-requires
+    next-requires
     enum-told
-    sub-t17
+    sub-t12
     same-length
     returns
-    enum-known-read
+    enum-known-r
     same-length-2
     returns-2
-    enum-known-read-2
+    enum-known-p
     keep-requires
+    past-requires
     loop-less
     loop-again)

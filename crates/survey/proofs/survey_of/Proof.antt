@@ -1,38 +1,38 @@
-use mathlib.Core.Path.{sym, _∙_}
+use Rattle.record.specs.Walk.{header-found}
 use Rattle.survey.proofs.Laws.{surveyed}
 use borrow.Author.Needs.{needs}
 use Rattle.survey.proofs.survey_of.Statement.{statement}
 use Rattle.survey.proofs.survey_of.Tie as tie
 
-read-header-requires : tie.Need-read-header-requires
-read-header-requires c κs = search needs
+header-requires : tie.Need-header-requires
+header-requires c κs = search needs
 
-enum-known-read : tie.Need-enum-known-read
-enum-known-read c = search needs
+enum-known-h : tie.Need-enum-known-h
+enum-known-h c = search needs
 
 walk-requires : tie.Need-walk-requires
-walk-requires c κs = sym (c .before .before .before .read-header .ensures) ∙ c .before .read .given .1
+walk-requires c κs = search (needs, header-found)
 
-enum-known-read-2 : tie.Need-enum-known-read-2
-enum-known-read-2 c = search needs
+enum-known-r : tie.Need-enum-known-r
+enum-known-r c = search needs
 
 refused-requires : tie.Need-refused-requires
 refused-requires c κs = search needs
 
 returns : tie.Need-returns
-returns c = surveyed _ _ _ _ (c .before .before .before .before .read-header .ensures) (c .before .before .read .given .1) (c .walk .ensures)
+returns c = search (needs, surveyed)
 
 returns-2 : tie.Need-returns-2
-returns-2 c = surveyed _ _ _ _ (c .before .before .before .before .read-header .ensures) (c .before .before .read2 .given .1) (c .refused .ensures)
+returns-2 c = search (needs, surveyed)
 
 pub survey-of-spec : {M : Type 1} → statement M
 survey-of-spec =
     tie.close
     (tie.spec
-    read-header-requires
-    enum-known-read
+    header-requires
+    enum-known-h
     walk-requires
-    enum-known-read-2
+    enum-known-r
     refused-requires
     returns
     returns-2)

@@ -1,7 +1,7 @@
 use Rattle.record.proofs.Laws.{whole-cut, whole-clear, whole-padded}
 use borrow.Author.Needs.{needs}
-use Rattle.record.proofs.whole_part.Statement.{statement}
-use Rattle.record.proofs.whole_part.Tie as tie
+use Rattle.record.proofs.read.whole_part.Statement.{statement}
+use Rattle.record.proofs.read.whole_part.Tie as tie
 
 returns : tie.Need-returns
 returns c = whole-cut _ _ (c .if1 .taken)
@@ -13,10 +13,10 @@ padding-clear-requires : tie.Need-padding-clear-requires
 padding-clear-requires c κs = search needs
 
 returns-2 : tie.Need-returns-2
-returns-2 c = whole-clear _ _ _ _ (c .before .before .before .if1 .left) (c .before .before .body .ensures) (c .before .padding-clear .ensures) (c .if2 .taken)
+returns-2 c = search (needs, whole-clear)
 
 returns-3 : tie.Need-returns-3
-returns-3 c = whole-padded _ _ _ _ (c .before .before .before .if1 .left) (c .before .before .body .ensures) (c .before .padding-clear .ensures) (c .if2 .left)
+returns-3 c = search (needs, whole-padded)
 
 pub whole-part-spec : {M : Type 1} → statement M
 whole-part-spec =

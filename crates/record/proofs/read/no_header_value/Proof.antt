@@ -2,8 +2,8 @@ use Rattle.rules.specs.Document.Numbers.{headNumber}
 use Rattle.record.specs.Named.{unreadHeader}
 use Rattle.record.proofs.Laws.{header-told}
 use borrow.Author.Needs.{needs}
-use Rattle.record.proofs.no_header_value.Statement.{statement}
-use Rattle.record.proofs.no_header_value.Tie as tie
+use Rattle.record.proofs.read.no_header_value.Statement.{statement}
+use Rattle.record.proofs.read.no_header_value.Tie as tie
 
 enum-told : tie.Need-enum-told
 enum-told c = search needs

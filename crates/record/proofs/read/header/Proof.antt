@@ -1,8 +1,8 @@
 use Rattle.rules.specs.Document.Numbers.{readHeader}
 use Rattle.record.proofs.Laws.{head-stop, head-step, version-right, version-wrong}
 use borrow.Author.Needs.{needs}
-use Rattle.record.proofs.read_header.Statement.{statement}
-use Rattle.record.proofs.read_header.Tie as tie
+use Rattle.record.proofs.read.header.Statement.{statement}
+use Rattle.record.proofs.read.header.Tie as tie
 
 read-number-requires : tie.Need-read-number-requires
 read-number-requires c κs = search needs
@@ -17,8 +17,8 @@ returns : tie.Need-returns
 unfolding readHeader
 returns c = search (needs, head-stop)
 
-read-sizes-requires : tie.Need-read-sizes-requires
-read-sizes-requires c κs = search needs
+sizes-requires : tie.Need-sizes-requires
+sizes-requires c κs = search needs
 
 returns-2 : tie.Need-returns-2
 unfolding readHeader
@@ -28,14 +28,14 @@ returns-3 : tie.Need-returns-3
 unfolding readHeader
 returns-3 c = search (needs, head-step, version-wrong)
 
-pub read-header-spec : {M : Type 1} → statement M
-read-header-spec =
+pub header-spec : {M : Type 1} → statement M
+header-spec =
     tie.close
     (tie.spec
     read-number-requires
     enum-known-first
     no-header-value-requires
     returns
-    read-sizes-requires
+    sizes-requires
     returns-2
     returns-3)

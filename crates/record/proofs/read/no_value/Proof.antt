@@ -2,8 +2,8 @@ use Rattle.rules.specs.Document.Numbers.{partNumber}
 use Rattle.record.specs.Named.{unread}
 use Rattle.record.proofs.Laws.{part-told}
 use borrow.Author.Needs.{needs}
-use Rattle.record.proofs.no_value.Statement.{statement}
-use Rattle.record.proofs.no_value.Tie as tie
+use Rattle.record.proofs.read.no_value.Statement.{statement}
+use Rattle.record.proofs.read.no_value.Tie as tie
 
 enum-told : tie.Need-enum-told
 enum-told c = search needs

@@ -1,8 +1,8 @@
 use Rattle.rules.specs.Document.Numbers.{readSizes}
 use Rattle.record.proofs.Laws.{head-stop, head-step}
 use borrow.Author.Needs.{needs}
-use Rattle.record.proofs.read_sizes.Statement.{statement}
-use Rattle.record.proofs.read_sizes.Tie as tie
+use Rattle.record.proofs.read.sizes.Statement.{statement}
+use Rattle.record.proofs.read.sizes.Tie as tie
 
 read-number-requires : tie.Need-read-number-requires
 read-number-requires c κs = search needs
@@ -63,8 +63,8 @@ returns-5 : tie.Need-returns-5
 unfolding readSizes
 returns-5 c = search (needs, head-stop, head-step)
 
-pub read-sizes-spec : {M : Type 1} → statement M
-read-sizes-spec =
+pub sizes-spec : {M : Type 1} → statement M
+sizes-spec =
     tie.close
     (tie.spec
     read-number-requires
