@@ -5,8 +5,10 @@ use Prim.Native.Nat.{ℕ, _*_, _≤_, _<_}
 use native.Mathlib.Omega.{arith}
 use native.Mathlib.Nat.{mul-assoc, mul-le-mul}
 use borrow.Author.Tests.{le-leb, lt-leb, eq-eqb, ne-eqb}
-use lib.ListN.{length, replicate, length-replicate}
+use lib.ListN.{length, replicate}
 use lib.IntN.{ℤ, pos}
+use mir.Syntax.{w64}
+use mir.Val.{Fits}
 use Rattle.rules.specs.declared.Plane.{Plane}
 use Rattle.rules.specs.declared.Refusal.{Refusal}
 use Rattle.rules.specs.declared.Refusal.the-variants as refusal
@@ -16,11 +18,10 @@ use Rattle.rules.specs.declared.HeaderRead.the-variants as header
 use Rattle.rules.specs.declared.Decoded.{Decoded}
 use Rattle.rules.specs.Document.Pyramid.{area}
 use Rattle.rules.specs.Document.Numbers.{readHeader, readParts}
-use Rattle.rules.specs.Document.Calls.{Result, refused, accepted, unless, workFor, onHeader, Picture, decodedParts, decoding, decodeOut, decodeAnswer}
-use Rattle.rules.specs.Document.Calls.{Decoding}
+use Rattle.rules.specs.Document.Calls.{Result, refused, accepted, unless, workFor, onHeader, Picture, decodedParts, decoding, decodeOut, decodeAnswer, Decoding}
 use Rattle.rules.specs.Laws.Family.Sizes.{legal}
 use Rattle.rules.specs.Promises.Vocabulary.{Legal}
-use Rattle.rules.specs.Laws.Reading.Stands.{HeaderStands, readHeader-stands, header-legal, header-planes, header-within}
+use Rattle.rules.specs.Laws.Reading.Stands.{HeaderStands, readHeader-stands, header-legal}
 use Rattle.decoder.specs.Walking.{Answered, Refusing, Accepting, Lent}
 
 -- A result is answered as what it is; the memory may have changed since the call, and kept its length.
@@ -46,17 +47,13 @@ module _ (x : Result Picture) (out between : List ℤ) (work since : List ℕ) (
         clears = t .clears ∙ ap (λ (n : ℕ). replicate n 0) b;
       }
 
--- Zeroing keeps the length.
-pub zeroed-length : {X : Type 0} (x : X) (n : ℕ) (between after : List X) → after ≡ replicate (length between) x → length between ≡ n → length after ≡ n
-zeroed-length x n between after e l = ap length e ∙ length-replicate (length between) x ∙ l
-
 -- A header that was read: y is what was found of the bytes.
 module _ (s : List ℕ) (y : HeaderRead) (e : y ≡ readHeader s) (h : Header) (f : y ≡ header.Header h) where
   whole-header : HeaderStands s h
   whole-header = readHeader-stands s h (sym e ∙ f)
 
   -- the products that the lengths are judged by
-  pub header-area : (4 * h .size .w ≤ 2048) × (area (h .size) ≤ 262144) × (4 * h .size .w * h .size .h ≡ workFor (h .size))
+  header-area : (4 * h .size .w ≤ 2048) × (area (h .size) ≤ 262144) × (4 * h .size .w * h .size .h ≡ workFor (h .size))
   header-area =
       let Z : Legal (h .size) = legal (h .size) (header-legal whole-header) in (
         omega (arith, Z .width .most),
@@ -64,15 +61,18 @@ module _ (s : List ℕ) (y : HeaderRead) (e : y ≡ readHeader s) (h : Header) (
         mul-assoc 4 (h .size .w) (h .size .h),
       )
 
+  pub area-fits : Fits w64 (h .size .w * h .size .h)
+  area-fits = record { fits = omega (arith, header-area .1) }
+
+  pub row-fits : Fits w64 (4 * h .size .w)
+  row-fits = record { fits = omega (arith, header-area .0) }
+
+  pub work-fits : Fits w64 (4 * h .size .w * h .size .h)
+  work-fits = record { fits = omega (arith, header-area .1, header-area .2) }
+
   pub header-lent : (out : List ℤ) (work : List ℕ) → length out ≡ area (h .size) → 4 * h .size .w * h .size .h ≤ length work → Lent h s out work
   header-lent out work a l =
-      record {
-        legal = header-legal whole-header;
-        planes = header-planes whole-header;
-        within = header-within whole-header;
-        whole = a;
-        room = omega (arith, header-area .2);
-      }
+      record { read = sym e ∙ f; whole = a; room = omega (arith, header-area .2) }
 
 -- What decoding comes to, by what was read of the header: y is what was found.
 module _ (s : List ℕ) (room work : ℕ) (y : HeaderRead) (e : y ≡ readHeader s) where

@@ -21,73 +21,80 @@ use Rattle.decoder.specs.declared.Walk.{Walk}
 use Rattle.decoder.specs.declared.Found.{Found}
 use Rattle.decoder.specs.declared.Found.the-variants as found
 use Rattle.decoder.specs.declared.Turn.{Turn}
-use Rattle.rules.specs.Document.Pyramid.{family, mostPlanes}
+use Rattle.rules.specs.Document.Pyramid.{legalSize, levels, family, mostPlanes}
 use Rattle.rules.specs.Document.Passes.{Course, Reader, after, decoded}
 use Rattle.rules.specs.Document.Layout.{bitAt, bodyOf, nameOf}
-use Rattle.rules.specs.Document.Numbers.{readPart}
-use Rattle.rules.specs.Laws.Reading.Stands.{PartStands, readPart-stands}
+use Rattle.rules.specs.Laws.Reading.Stands.{PartStands}
 use Rattle.rules.specs.Laws.Reading.OneWalk.{usableNow}
 use Rattle.record.specs.Named.{named}
+use Rattle.record.specs.Walk.{nextOf, next-stands}
 use Rattle.parts.specs.Standing.{stateOf, Agree, Small, PartDecoded}
-use Rattle.reached.specs.Planes.{reachedAt}
-use Rattle.decoder.specs.Walking.{fitting, gone, usedOn, metOn, decodedPart, metPart, Past, Taking, Taken, Standing, Turned}
+use Rattle.rules.specs.Document.Calls.{levelPlaces}
+use Rattle.reached.specs.Planes.{reachedAt, size-levels}
+use Rattle.decoder.specs.Walking.{fitting, gone, usedOn, metOn, metPart, Past, Taking, Taken, Standing, Turned}
 
 -- a usable part, decoded
-module _ (s : List ℕ) (z : Size) (p : Part) (w : Walk) (out : List ℤ) (work : List ℕ) (body : List ℕ) (b : body ≡ bodyOf s p)
-    (r : Passed) (out′ : List ℤ) (work′ : List ℕ) (d : PartDecoded body z (p .plane) (p .level) work (w .counts) out r work′ out′)
-    (reached : List Plane) (q : reached ≡ set (w .reached) (p .level .0 - 1) (p .plane)) (next : Walk) (past : Past p reached (r .counts) next) where
+module _ (s : List ℕ) (z : Size) (p : Part) (old : List Plane) (counts : Counts) (out : List ℤ) (work : List ℕ) (body : List ℕ) (b : body ≡ bodyOf s p)
+    (r : Passed) (out′ : List ℤ) (work′ : List ℕ) (d : PartDecoded body z (p .plane) (p .level) work counts out r work′ out′)
+    (reached : List Plane) (q : reached ≡ set old (p .level .0 - 1) (p .plane)) (next : Walk) (past : Past p reached (r .counts) next) where
   course : Course Reader
-  course = decoded (family z) (nameOf p) (bitAt (bodyOf s p)) (stateOf z work (w .counts)) out
+  course = decoded (family z) (nameOf p) (bitAt (bodyOf s p)) (stateOf z work counts) out
 
-  same-course : decoded (family z) (nameOf p) (bitAt body) (stateOf z work (w .counts)) out ≡ course
+  same-course : decoded (family z) (nameOf p) (bitAt body) (stateOf z work counts) out ≡ course
   unfolding course
-  same-course = ap (λ (x : List ℕ). decoded (family z) (nameOf p) (bitAt x) (stateOf z work (w .counts)) out) b
+  same-course = ap (λ (x : List ℕ). decoded (family z) (nameOf p) (bitAt x) (stateOf z work counts) out) b
 
-  decoded-taken : (f : Found) → f ≡ fitting p course → Taken z p (decodedPart s z p w out work) out work (record { found = f; walk = next }) out′ work′
+  decoded-taken : (f : Found) → f ≡ fitting p course
+      → Taken z p (usedOn s z p old (stateOf z work counts) out) out work (record { found = f; walk = next }) out′ work′
   unfolding course usedOn gone nameOf
   decoded-taken f e =
       record {
         finds = e;
-        past = record { before = past .before; place = past .place; reaches = past .reaches ∙ q; fills = refl };
+        past = record { over = past .over; reaches = past .reaches ∙ q; fills = refl };
         lists =
-            subst (λ (x : Course Reader). Agree (stateOf z work′ (next .counts)) (after (p .level .0) x (stateOf z work (w .counts)))) same-course
+            subst (λ (x : Course Reader). Agree (stateOf z work′ (next .counts)) (after (p .level .0) x (stateOf z work counts))) same-course
             (record { lists = λ k. ap (λ (x : Counts). stateOf z work′ x k) (past .fills) ∙ d .lists .lists k });
         writes = d .writes ∙ ap (λ (x : Course Reader). x .side .pyramid) same-course;
         same = d .same;
         grows = d .grows;
       }
 
-  pub part-fits : r .at .at ≡ p .bits → Taken z p (decodedPart s z p w out work) out work (record { found = found.Part; walk = next }) out′ work′
+  pub part-fits : r .at .at ≡ p .bits
+      → Taken z p (usedOn s z p old (stateOf z work counts) out) out work (record { found = found.Part; walk = next }) out′ work′
   unfolding course fitting nameOf
   part-fits e =
       let t : course .side .taken ≡ p .bits = sym (d .taken ∙ ap (λ (x : Course Reader). x .side .taken) same-course) ∙ e in
       decoded-taken found.Part (rw (eq-eqb (course .side .taken) (p .bits) t))
 
   pub part-unfit : (r .at .at ≡ p .bits → ⊥)
-      → Taken z p (decodedPart s z p w out work) out work (record { found = found.Refused (refusal.Fit (p .place)); walk = next }) out′ work′
+      → Taken z p (usedOn s z p old (stateOf z work counts) out) out work (record { found = found.Refused (refusal.Fit (p .place)); walk = next }) out′ work′
   unfolding course fitting nameOf
   part-unfit e =
       let t : course .side .taken ≡ r .at .at = sym (d .taken ∙ ap (λ (x : Course Reader). x .side .taken) same-course) in
       decoded-taken _ (rw (ne-eqb (course .side .taken) (p .bits) (λ u. e (sym t ∙ u))))
 
+pub level-within : (z : Size) (k : ℕ) → legalSize z ≡ true → k ≤ levels z → k ≤ levelPlaces
+level-within z k l m = omega (arith, size-levels z l)
+
 pub small-more : (a b : ℕ) (v : List ℤ) → a ≤ b → Small a v → Small b v
 small-more a b v l h = record { under = λ q. omega (arith, h .under q) }
 
 -- any whole part: b is what was found of it
-module _ (s : List ℕ) (z : Size) (p : Part) (w : Walk) (out : List ℤ) (work : List ℕ) (b : Bool) (e : b ≡ usableNow (reachedAt (w .reached)) (nameOf p)) where
-  pub part-decoded : b ≡ true → (r : Turn) (out′ : List ℤ) (work′ : List ℕ) → Taken z p (decodedPart s z p w out work) out work r out′ work′
-      → Taken z p (metPart s z p w out work) out work r out′ work′
+module _ (s : List ℕ) (z : Size) (p : Part) (old : List Plane) (counts : Counts) (out : List ℤ) (work : List ℕ) (b : Bool)
+    (e : b ≡ usableNow (reachedAt old) (nameOf p)) where
+  pub part-decoded : b ≡ true → (r : Turn) (out′ : List ℤ) (work′ : List ℕ) → Taken z p (usedOn s z p old (stateOf z work counts) out) out work r out′ work′
+      → Taken z p (metOn s z p old (stateOf z work counts) out) out work r out′ work′
   unfolding metOn
   part-decoded t r out′ work′ h = rw (sym e ∙ t) h
 
-  pub part-over : b ≡ false → (next : Walk) → Past p (w .reached) (w .counts) next
-      → Taken z p (metPart s z p w out work) out work (record { found = found.Part; walk = next }) out work
+  pub part-over : b ≡ false → (next : Walk) → Past p old counts next
+      → Taken z p (metOn s z p old (stateOf z work counts) out) out work (record { found = found.Part; walk = next }) out work
   unfolding metOn
   part-over t next past =
       rw (sym e ∙ t)
       (record {
         finds = refl;
-        past = record { before = past .before; place = past .place; reaches = past .reaches; fills = refl };
+        past = record { over = past .over; reaches = past .reaches; fills = refl };
         lists = record { lists = λ k. ap (λ (x : Counts). stateOf z work x k) (past .fills) };
         writes = refl;
         same = refl;
@@ -95,11 +102,11 @@ module _ (s : List ℕ) (z : Size) (p : Part) (w : Walk) (out : List ℤ) (work 
       })
 
 -- what was read: y is what was found of the record
-module _ (h : Header) (s : List ℕ) (w : Walk) (out : List ℤ) (work : List ℕ) (y : PartRead) (e : y ≡ readPart h s (named (w .before)) (w .place)) where
+module _ (h : Header) (s : List ℕ) (w : Walk) (out : List ℤ) (work : List ℕ) (y : PartRead) (e : y ≡ nextOf h s (w .cursor)) where
   pub read-taking : (p : Part) → y ≡ part.Part p → Standing h s w out work → Taking s (h .size) p w out work
   unfolding nameOf
   read-taking p f t =
-      let q : PartStands h s (named (w .before)) (w .place) p = readPart-stands h s (named (w .before)) (w .place) p (sym e ∙ f) in
+      let q : PartStands h s (named (w .cursor .before)) (w .cursor .place) p = next-stands h s (w .cursor) y e p f in
       record {
         decoding = record {
           ready = record {
@@ -118,21 +125,21 @@ module _ (h : Header) (s : List ℕ) (w : Walk) (out : List ℤ) (work : List �
       }
 
   turned-as : (x : PartRead) → y ≡ x → (r : Turn) (out′ : List ℤ) (work′ : List ℕ) → Turned h s w out work x r out′ work′
-      → Turned h s w out work (readPart h s (named (w .before)) (w .place)) r out′ work′
+      → Turned h s w out work (nextOf h s (w .cursor)) r out′ work′
   turned-as x f r out′ work′ t = subst (λ (a : PartRead). Turned h s w out work a r out′ work′) (sym f ∙ e) t
 
   pub turned-part : (p : Part) → y ≡ part.Part p → (r : Turn) (out′ : List ℤ) (work′ : List ℕ)
       → Taken (h .size) p (metPart s (h .size) p w out work) out work r out′ work′
-      → Turned h s w out work (readPart h s (named (w .before)) (w .place)) r out′ work′
+      → Turned h s w out work (nextOf h s (w .cursor)) r out′ work′
   unfolding Turned
   turned-part p f r out′ work′ t = turned-as (part.Part p) f r out′ work′ t
 
   pub turned-tail : y ≡ part.Tail
-      → Turned h s w out work (readPart h s (named (w .before)) (w .place)) (record { found = found.Tail; walk = w }) out work
+      → Turned h s w out work (nextOf h s (w .cursor)) (record { found = found.Tail; walk = w }) out work
   unfolding Turned
   turned-tail f = turned-as part.Tail f _ out work (record { finds = refl; stays = refl; writes = refl; lists = refl })
 
   pub turned-refused : (v : Refusal) → y ≡ part.Refused v
-      → Turned h s w out work (readPart h s (named (w .before)) (w .place)) (record { found = found.Refused v; walk = w }) out work
+      → Turned h s w out work (nextOf h s (w .cursor)) (record { found = found.Refused v; walk = w }) out work
   unfolding Turned
   turned-refused v f = turned-as (part.Refused v) f _ out work (record { finds = refl; stays = refl; writes = refl; lists = refl })

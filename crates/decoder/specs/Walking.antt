@@ -1,8 +1,8 @@
 -- The walk over a record's parts: what a part makes of the lists, the pyramid and the planes reached, and the contracts of the walk's turns.
 use mathlib.Core.Path.{_≡_}
-use mathlib.Core.List.{List, []}
+use mathlib.Core.List.{List, [], map}
 use mathlib.Core.Bool.{true, cond}
-use Prim.Native.Nat.{ℕ, _+_, _-_, _≤_, _^_}
+use Prim.Native.Nat.{ℕ, suc, _+_, _-_, _*_, _≤_, _^_}
 use lib.Dec.{eqb}
 use lib.ListN.{length, set, replicate}
 use lib.IntN.{ℤ, pos}
@@ -11,6 +11,7 @@ use Rattle.rules.specs.declared.Plane.{Plane}
 use Rattle.rules.specs.declared.Refusal.{Refusal}
 use Rattle.rules.specs.declared.Refusal.the-variants as refusal
 use Rattle.rules.specs.declared.Header.{Header}
+use Rattle.rules.specs.declared.HeaderRead.the-variants as header
 use Rattle.rules.specs.declared.Part.{Part}
 use Rattle.rules.specs.declared.PartRead.{PartRead}
 use Rattle.rules.specs.declared.PartRead.the-variants as part
@@ -23,11 +24,14 @@ use Rattle.decoder.specs.declared.Found.the-variants as found
 use Rattle.decoder.specs.declared.Turn.{Turn}
 use Rattle.rules.specs.Document.Notation.{zeros}
 use Rattle.rules.specs.Document.Pyramid.{legalSize, area, mostPlanes, family}
-use Rattle.rules.specs.Document.Passes.{State, Course, Reader, start, after, decoded}
+use Rattle.rules.specs.Document.Passes.{PartName, State, Course, Reader, start, after, decoded}
 use Rattle.rules.specs.Document.Layout.{bytesFor, bitAt, bodyOf, nameOf}
-use Rattle.rules.specs.Document.Calls.{workFor, levelPlaces, Result, Picture, reachedPlanes, decodeOut, decodeAnswer}
+use Rattle.rules.specs.Document.Numbers.{readHeader, readParts}
+use Rattle.rules.specs.Document.Calls.{workFor, levelPlaces, Result, Progress, going, decodeParts, Picture, reachedPlanes, decodeOut, decodeAnswer}
 use Rattle.rules.specs.Laws.Reading.OneWalk.{usableNow}
 use Rattle.rules.specs.Laws.State.Record.{SoundLists}
+use Rattle.record.specs.Named.{named}
+use Rattle.record.specs.Walk.{firstOf, pastOf, Stands}
 use Rattle.reached.specs.Planes.{reachedAt}
 use Rattle.parts.specs.Standing.{stateOf, Agree, Small, ReadyToDecode}
 
@@ -71,8 +75,7 @@ module _ (s : List ℕ) (z : Size) (p : Part) where
 
 -- the walk after a part
 pub record Past (p : Part) (reached : List Plane) (counts : Counts) (r : Walk) : Type 0 where
-  pub before : r .before ≡ record { plane = p .plane; level = p .level }
-  pub place : r .place ≡ p .end
+  pub over : r .cursor ≡ pastOf p
   pub reaches : r .reached ≡ reached
   pub fills : r .counts ≡ counts
 
@@ -96,7 +99,6 @@ pub record Standing (h : Header) (s : List ℕ) (w : Walk) (out : List ℤ) (wor
   pub legal : legalSize (h .size) ≡ true
   pub planes : h .planes ≤ mostPlanes
   pub room : workFor (h .size) ≤ length work
-  pub within : w .place ≤ length s
   pub six : length (w .reached) ≡ levelPlaces
   pub sound : SoundLists (h .size) (stateOf (h .size) work (w .counts))
   pub small : Small (2 ^ 29) out
@@ -120,19 +122,45 @@ pub record Opening (h : Header) (work : List ℕ) : Type 0 where
 
 pub record Begun (h : Header) (out : List ℤ) (work : List ℕ) (r : Walk) (out′ : List ℤ) (work′ : List ℕ) : Type 0 where
   pub blank : out′ ≡ replicate (length out) (pos 0)
-  pub before : r .before ≡ record { plane = record { 0 = h .planes }; level = record { 0 = 0 } }
-  pub place : r .place ≡ h .end
+  pub opens : r .cursor ≡ firstOf h
   pub reaches : r .reached ≡ reachedPlanes h []
   pub lists : Agree (stateOf (h .size) work′ (r .counts)) (start (h .size))
   pub same : length work′ ≡ length work
 
 -- what decoding the parts asks for: a header that was read, a pyramid of its size and workspace enough
 pub record Lent (h : Header) (s : List ℕ) (out : List ℤ) (work : List ℕ) : Type 0 where
-  pub legal : legalSize (h .size) ≡ true
-  pub planes : h .planes ≤ mostPlanes
-  pub within : h .end ≤ length s
+  pub read : readHeader s ≡ header.Header h
   pub whole : length out ≡ area (h .size)
   pub room : workFor (h .size) ≤ length work
+
+-- Names fall from part to part, and so does this number of a name; a part adds less than 2^17 to a magnitude.
+abbrev pub order : PartName → ℕ
+order p = suc levelPlaces * p .plane + p .level
+
+abbrev pub orders : ℕ
+orders = suc levelPlaces * mostPlanes
+
+abbrev pub bound : PartName → ℕ
+bound before = 2 ^ mostPlanes * (suc orders - order before)
+
+abbrev pub names : Header → List ℕ → List PartName
+names h s = map nameOf (readParts h s .parts)
+
+abbrev pub begin : Header → Progress
+begin h = going (start (h .size)) (replicate (area (h .size)) (pos 0))
+
+-- Where the walk stands: the parts that came by, and the lists that they make.
+pub record Walking (h : Header) (s : List ℕ) (w : Walk) (out : List ℤ) (work : List ℕ) : Type 0 where
+  pub lent : Lent h s out work
+  pub seen : List Part
+  pub stands : Stands h s (w .cursor) seen
+  pub lists : State
+  pub decodes : decodeParts h s (names h s) seen (begin h) ≡ going lists out
+  pub reaches : w .reached ≡ reachedPlanes h (map nameOf seen)
+  pub agrees : Agree (stateOf (h .size) work (w .counts)) lists
+  pub sound : SoundLists (h .size) lists
+  pub few : order (named (w .cursor .before)) ≤ orders
+  pub small : Small (bound (named (w .cursor .before))) out
 
 -- what is answered, and left in the memory lent, for a result
 pub record Answered (x : Result Picture) (out : List ℤ) (work : List ℕ) (answer : Decoded) (out′ : List ℤ) (work′ : List ℕ) : Type 0 where

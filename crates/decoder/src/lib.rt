@@ -1,15 +1,16 @@
 // Decoding: from any bytes to a pyramid or a refusal, in one walk over the parts of the record, with exactly those that are usable.
-ghost use Rattle.rules.specs.Document.Numbers.{readParts, readPart};
+ghost use Rattle.rules.specs.Document.Numbers.{readParts};
 ghost use Rattle.rules.specs.Document.Calls.{Decoding, decodedParts};
-ghost use Rattle.record.specs.Named.{named};
-ghost use Rattle.decoder.specs.Walking.{Lent, Answered, Refusing, Accepting, Opening, Begun, Past, Taking, Taken, decodedPart, metPart, Standing, Turned};
+ghost use Rattle.record.specs.Walk.{nextOf};
+ghost use Rattle.decoder.specs.Walking.{Opening, Begun, Past, Taking, Taken, decodedPart, metPart, Standing, Turned, Walking};
+ghost use Rattle.decoder.specs.Walking.{Lent, Answered, Refusing, Accepting};
 use parts::Counts;
-use record::Name;
+use record::read;
+use record::walk::Cursor;
 use rules::Decoded;
 use rules::Header;
 use rules::HeaderRead;
 use rules::LEVEL_PLACES;
-use rules::Level;
 use rules::Part;
 use rules::PartRead;
 use rules::Plane;
@@ -17,11 +18,9 @@ use rules::Refusal;
 use rules::Size;
 use rules::Verdict;
 
-// Where the walk stands between two parts: the part before, the place of the next one, the plane that each level reached, level 1 first,
-// and how full the lists are.
+// Where the walk stands between two parts, the plane that each level reached, level 1 first, and how full the lists are.
 pub struct Walk {
-    pub before: Name,
-    pub place: usize,
+    pub cursor: Cursor,
     pub reached: [Plane; LEVEL_PLACES],
     pub counts: Counts,
 }
@@ -46,11 +45,7 @@ fn first_walk(h: Header, pyramid: &mut [i32], work: &mut [u32]) -> Walk
     memory::zero_i32(pyramid);
     let counts = parts::start(h.size, work);
     Walk {
-        before: Name {
-            plane: Plane(h.planes),
-            level: Level(0),
-        },
-        place: h.end,
+        cursor: Cursor::first(h),
         reached: reached::none_reached(h),
         counts,
     }
@@ -60,11 +55,8 @@ fn first_walk(h: Header, pyramid: &mut [i32], work: &mut [u32]) -> Walk
 fn walk_past(p: Part, reached: [Plane; LEVEL_PLACES], counts: Counts) -> Walk
     ensures { λ r. ⌜ Past p reached counts r ⌝ }
 {
-    let plane = p.plane;
-    let level = p.level;
     Walk {
-        before: Name { plane, level },
-        place: p.end,
+        cursor: Cursor::past(p),
         reached,
         counts,
     }
@@ -88,7 +80,7 @@ fn decode_usable(
     let level = p.level;
     let reached = walk.reached;
     let counts = walk.counts;
-    let body = record::read::body(bytes, p);
+    let body = read::body(bytes, p);
     let passed = parts::decode_part(body, z, plane, level, work, counts, out);
     let asked = passed.at;
     let filled = passed.counts;
@@ -128,10 +120,10 @@ fn walk_on(bytes: &[u8], h: Header, walk: Walk, out: &mut [i32], work: &mut [u32
     requires { ⌜ Standing h (now bytes) walk (now out) (now work) ⌝ }
     ensures { λ r.
         ⌜ Turned h (now (bytes .entry)) walk (now (out .entry)) (now (work .entry))
-        (readPart h (now (bytes .entry)) (named (walk .before)) (walk .place)) r (now (out .exit)) (now (work .exit)) ⌝ }
+        (nextOf h (now (bytes .entry)) (walk .cursor)) r (now (out .exit)) (now (work .exit)) ⌝ }
 {
-    let read = record::read::part(bytes, h, walk.before, walk.place);
-    match read {
+    let cursor = walk.cursor;
+    match cursor.next(bytes, h) {
         PartRead::Part(p) => take_part(bytes, h.size, p, walk, out, work),
         PartRead::Tail => Turn {
             found: Found::Tail,
@@ -170,14 +162,14 @@ fn accept(tail: usize, walk: Walk, work: &mut [u32]) -> Decoded
     }
 }
 
-// All parts, from the header's end on. The first fault decides.
-fn decode_parts(bytes: &[u8], h: Header, out: &mut [i32], work: &mut [u32]) -> Decoded
-    requires { ⌜ Lent h (now bytes) (now out) (now work) ⌝ }
+// All parts from where a walk stands. The first fault decides.
+fn walk_all(bytes: &[u8], h: Header, first: Walk, out: &mut [i32], work: &mut [u32]) -> Decoded
+    requires { ⌜ Walking h (now bytes) first (now out) (now work) ⌝ }
     ensures { λ a.
         ⌜ Answered (decodedParts h (now (bytes .entry)) (readParts h (now (bytes .entry))))
         (now (out .entry)) (now (work .entry)) a (now (out .exit)) (now (work .exit)) ⌝ }
 {
-    let mut walk = first_walk(h, out, work);
+    let mut walk = first;
     loop {
         let turn = walk_on(bytes, h, walk, out, work);
         walk = turn.walk;
@@ -185,7 +177,7 @@ fn decode_parts(bytes: &[u8], h: Header, out: &mut [i32], work: &mut [u32]) -> D
         match found {
             Found::Part => {}
             Found::Tail => {
-                return accept(bytes.len() - walk.place, walk, work);
+                return accept(bytes.len() - walk.cursor.place, walk, work);
             }
             Found::Refused(r) => {
                 return refuse(r, out, work);
@@ -194,12 +186,22 @@ fn decode_parts(bytes: &[u8], h: Header, out: &mut [i32], work: &mut [u32]) -> D
     }
 }
 
+// All parts, from the header's end on.
+fn decode_parts(bytes: &[u8], h: Header, out: &mut [i32], work: &mut [u32]) -> Decoded
+    requires { ⌜ Lent h (now bytes) (now out) (now work) ⌝ }
+    ensures { λ a.
+        ⌜ Answered (decodedParts h (now (bytes .entry)) (readParts h (now (bytes .entry))))
+        (now (out .entry)) (now (work .entry)) a (now (out .exit)) (now (work .exit)) ⌝ }
+{
+    let first = first_walk(h, out, work);
+    walk_all(bytes, h, first, out, work)
+}
+
 // From any bytes to a pyramid or a refusal.
 pub fn decode(bytes: &[u8], out: &mut [i32], work: &mut [u32]) -> Decoded
     ensures { λ a. ⌜ Decoding (now (bytes .entry)) (now (out .entry)) (now (work .entry)) a (now (out .exit)) (now (work .exit)) ⌝ }
 {
-    let read = record::read::header(bytes);
-    match read {
+    match read::header(bytes) {
         HeaderRead::Refused(r) => refuse(r, out, work),
         HeaderRead::Header(h) => {
             let size = h.size;

@@ -1,6 +1,5 @@
-use native.Mathlib.Omega.{arith}
 use Rattle.decoder.proofs.LawsPart.{part-fits, part-unfit}
-use Rattle.reached.specs.Planes.{size-levels}
+use Rattle.decoder.proofs.LawsPart.{level-within}
 use borrow.Author.Needs.{needs}
 use Rattle.decoder.proofs.decode_usable.Statement.{statement}
 use Rattle.decoder.proofs.decode_usable.Tie as tie
@@ -9,10 +8,10 @@ body-requires : tie.Need-body-requires
 body-requires c κs = search needs
 
 decode-part-requires : tie.Need-decode-part-requires
-decode-part-requires c κs = c .before .before .before .before .before .before .before .before .before .pre .decoding
+decode-part-requires c κs = search needs
 
 with-reached-requires : tie.Need-with-reached-requires
-with-reached-requires c κs = (c .before .before .before .before .before .before .before .before .before .before .before .before .before .before .before .pre .decoding .ready .coarser, omega (arith, size-levels _ (c .before .before .before .before .before .before .before .before .before .before .before .before .before .before .before .pre .decoding .ready .legal), c .before .before .before .before .before .before .before .before .before .before .before .before .before .before .before .pre .decoding .ready .level))
+with-reached-requires c κs = search (needs, level-within)
 
 walk-past-requires : tie.Need-walk-past-requires
 walk-past-requires c κs = search needs
@@ -24,7 +23,7 @@ same-length-2 : tie.Need-same-length-2
 same-length-2 c = search needs
 
 returns : tie.Need-returns
-returns c = part-fits _ _ _ (c .before .before .before .before .before .before .before .before .before .before .before .before .before .before .before .before .before .before .before .before .args .walk) _ _ _ (c .before .before .before .before .before .before .before .before .before .before .before .before .before .body .ensures) _ _ _ (c .before .before .before .before .before .before .before .before .before .before .decode-part .ensures) _ (c .before .before .before .before .with-reached .ensures) _ (c .before .before .before .walk-past .ensures) (c .if1 .taken)
+returns c = search (needs, part-fits)
 
 same-length-3 : tie.Need-same-length-3
 same-length-3 c = search needs
@@ -33,7 +32,7 @@ same-length-4 : tie.Need-same-length-4
 same-length-4 c = search needs
 
 returns-2 : tie.Need-returns-2
-returns-2 c = part-unfit _ _ _ (c .before .before .before .before .before .before .before .before .before .before .before .before .before .before .before .before .before .before .before .before .args .walk) _ _ _ (c .before .before .before .before .before .before .before .before .before .before .before .before .before .body .ensures) _ _ _ (c .before .before .before .before .before .before .before .before .before .before .decode-part .ensures) _ (c .before .before .before .before .with-reached .ensures) _ (c .before .before .before .walk-past .ensures) (c .if1 .left)
+returns-2 c = search (needs, part-unfit)
 
 pub decode-usable-spec : {M : Type 1} → statement M
 decode-usable-spec =

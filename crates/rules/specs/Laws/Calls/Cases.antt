@@ -135,13 +135,13 @@ module _ (h : Header) (s : List ℕ) (there : List PartName) where
   abbrev course : Part → State → List ℤ → Course Reader
   course p st v = decoded (family (h .size)) (nameOf p) (bitAt (bodyOf s p)) st v
 
-  decodeParts-append : (ps qs : List Part) (g : Progress)
+  pub decodeParts-append : (ps qs : List Part) (g : Progress)
       → decodeParts h s there (ps ++ qs) g ≡ decodeParts h s there qs (decodeParts h s there ps g)
   unfolding decodeParts
   decodeParts-append [] qs g = refl
   decodeParts-append (p ∷ ps) qs g = decodeParts-append ps qs (onward h s there p g)
 
-  decodeParts-unfit : (ps : List Part) (at : ℕ) → decodeParts h s there ps (unfit at) ≡ unfit at
+  pub decodeParts-unfit : (ps : List Part) (at : ℕ) → decodeParts h s there ps (unfit at) ≡ unfit at
   unfolding decodeParts onward
   decodeParts-unfit [] at = refl
   decodeParts-unfit (p ∷ ps) at = decodeParts-unfit ps at
