@@ -93,9 +93,6 @@ module _ {z : Size} {pyramid : List ℤ} {work : List ℕ} (S : Joining z pyrami
   Z : Legal z
   Z = legal z (S .legal)
 
-  pub back-few : z .n ≤ mostDecompositions
-  back-few = Z .few
-
   small : (q : ℕ) → q < length pyramid → natAbs (getD pyramid q (pos 0)) ≤ mostBack
   unfolding magnitude
   small q h = S .most q (omega (arith, S .exact))

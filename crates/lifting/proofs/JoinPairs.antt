@@ -85,9 +85,6 @@ module _ {t : Turn} {pyramid : List ℤ} {s₀ : List ℕ} {i : ℕ} (F : ForJoi
   R : BackRoom t pyramid s₀
   R = F .room
 
-  pub pair-low : ForLowRow t pyramid s₀ i
-  pair-low = record { room = R; below = F .below; near = F .near }
-
   lowRow-near : Near (lowRow t pyramid s₀ i) w reach
   lowRow-near =
       joinedT-near m (line s₀ (i * m)) (tonesAt pyramid (i * t .stride + m)) (R .some) (F .near)

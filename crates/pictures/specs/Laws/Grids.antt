@@ -46,11 +46,6 @@ module _ (z : Size) where
   unfolding pyramidOf
   pyramid-length pixels = list-length z (forward z (z .n) (greyOf (z .w) pixels))
 
-  pub pyramid-at : (pixels : List ℕ) (i j : ℕ) → i < z .h → j < z .w
-      → getD (pyramidOf z pixels) (i * z .w + j) (pos 0) ≡ forward z (z .n) (greyOf (z .w) pixels) i j
-  unfolding pyramidOf
-  pyramid-at pixels = list-grid z (forward z (z .n) (greyOf (z .w) pixels))
-
   pub picture-length : (pyramid : List ℤ) → length (pictureOf z pyramid) ≡ area z
   unfolding pictureOf
   picture-length pyramid = list-length z (back z (z .n) (gridOf (z .w) pyramid))

@@ -174,6 +174,3 @@ pub around-tone : (r : ℕ) (v : ℤ) → r < bias → Around r (toneOf v) → n
 unfolding toneOf
 around-tone r (pos n) h N = omega arith
 around-tone r (negsuc n) h N = omega arith
-
-pub toned-around : (r t : ℕ) → natAbs (toned t) ≤ r → Around r t
-toned-around r t h = rw (toneOf-toned t) at (tone-around r (toned t) h)
