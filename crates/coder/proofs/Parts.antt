@@ -23,7 +23,8 @@ use Rattle.bits.specs.Written.{writeBits-packed}
 use Rattle.bits.specs.Bits.{writeBits}
 use Rattle.parts.specs.Standing.{named, stateOf, agree-same, ReadyToCode, PartCoded, courseC}
 use Rattle.coder.specs.declared.Progress.{Progress}
-use Rattle.coder.specs.Writing.{shortHead, headOf, madeWay, HeadFits, Headed, Stage, stageOf, bytesOf, onward, Due, Reached}
+use Rattle.record.specs.Write.{shortHead, headOf, madeWay, HeadFits, Headed}
+use Rattle.coder.specs.Writing.{Stage, stageOf, bytesOf, onward, Due, Reached}
 use Rattle.coder.proofs.Heads.{headed-whole}
 use Rattle.coder.proofs.Stages.{bytesOf-head, bits-few}
 

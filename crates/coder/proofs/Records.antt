@@ -19,8 +19,8 @@ use Rattle.rules.specs.Laws.State.Record.{SoundLists, start-sound}
 use Rattle.memory.specs.Stores.{sets-append, getD-sets-behind}
 use Rattle.parts.specs.Standing.{Started, agree-same}
 use Rattle.coder.specs.declared.Progress.{Progress}
-use Rattle.coder.specs.Writing.{Given, Wrote, Stage, stageOf, through, Clear, Going, Reached, headerMost, bytesOfParts, Stored}
-use Rattle.coder.proofs.Heads.{wrote-near}
+use Rattle.coder.specs.Writing.{Given, Stage, stageOf, through, Clear, Going, Reached, headerMost, bytesOfParts, Stored}
+use Rattle.record.specs.Write.{Wrote, wrote-near}
 use Rattle.coder.proofs.Stages.{through-out, through-place}
 use Rattle.coder.proofs.Turns.{given-same}
 

@@ -22,8 +22,8 @@ use Rattle.rules.specs.Laws.State.Record.{SoundLists}
 use Rattle.rules.specs.Laws.Bytes.Numbers.{numberBytes-length}
 use Rattle.rules.specs.Laws.Bytes.BodyBack.{packed-length}
 use Rattle.memory.specs.Stores.{sets-append, getD-sets-behind}
-use Rattle.coder.specs.Writing.{headOf, Stage, courseOf, bytesOf, bytesOfParts, onward, through, partMost, Going}
-use Rattle.coder.proofs.Heads.{headOf-length}
+use Rattle.record.specs.Write.{headOf, headOf-length}
+use Rattle.coder.specs.Writing.{Stage, courseOf, bytesOf, bytesOfParts, onward, through, partMost, Going}
 
 -- Lists that agree at every level are the same.
 module _ (pyramid : List ℤ) (z : Size) where

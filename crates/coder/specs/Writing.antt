@@ -2,9 +2,9 @@
 use mathlib.Core.Path.{_≡_}
 use mathlib.Core.List.{List, [], _∷_}
 use mathlib.Core.Bool.{Bool, true, cond}
-use Prim.Native.Nat.{ℕ, _+_, _-_, _*_, _^_, _≤_, _<_}
+use Prim.Native.Nat.{ℕ, _+_, _*_, _^_, _≤_, _<_}
 use lib.Dec.{leb, eqb}
-use lib.ListN.{length, getD, take, drop}
+use lib.ListN.{length, getD}
 use lib.IntN.{ℤ}
 use lib.Seq.{sets}
 use Rattle.rules.specs.declared.Size.{Size}
@@ -17,10 +17,11 @@ use Rattle.rules.specs.declared.Verdict.the-variants.{Accepted, Refused}
 use Rattle.rules.specs.Document.Notation.{flat}
 use Rattle.rules.specs.Document.Pyramid.{legalSize, area, levels, family, mostMagnitude, magnitude, negative, mostPlanes}
 use Rattle.rules.specs.Document.Passes.{Course, State, after, PartName, coded}
-use Rattle.rules.specs.Document.Layout.{numberBytes, bytesFor, partBytes, codedParts}
+use Rattle.rules.specs.Document.Layout.{partBytes, codedParts}
 use Rattle.rules.specs.Document.Calls.{Result, workFor, firstOver, codeOut, codeAnswer}
 use Rattle.rules.specs.Laws.State.Record.{SoundLists}
 use Rattle.parts.specs.Standing.{stateOf}
+use Rattle.record.specs.Write.{placeMost}
 use Rattle.coder.specs.declared.Progress.{Progress}
 
 -- The outcome x of a call: what is answered and what is left in the output.
@@ -52,36 +53,6 @@ headerMost = 20
 
 abbrev pub partMost : ℕ
 partMost = 2 ^ 18
-
-abbrev pub placeMost : ℕ
-placeMost = 2 ^ 40
-
--- Numbers written one after the other from a place on, and the place after them.
-pub record Wrote (out : List ℕ) (at : ℕ) (numbers : List ℕ) (end : ℕ) (out′ : List ℕ) : Type 0 where
-  pub place : end ≡ at + length (flat numberBytes numbers)
-  pub bytes : out′ ≡ sets out at (flat numberBytes numbers)
-
--- bytes of a part's head whose bit count takes one byte
-abbrev pub shortHead : ℕ
-shortHead = 3
-
--- The body, which stands behind the place of a short head, moved to where the bit count lets it begin.
-unfoldable pub madeWay : List ℕ → ℕ → ℕ → List ℕ
-madeWay out place bits =
-    sets out (place + shortHead + (length (numberBytes bits) - 1)) (take (bytesFor bits) (drop (place + shortHead) out))
-
-abbrev pub headOf : ℕ → ℕ → ℕ → List ℕ
-headOf n k bits = flat numberBytes (n ∷ k ∷ bits ∷ [])
-
-pub record HeadFits (place : ℕ) (n : Plane) (k : Level) (bits : ℕ) : Type 0 where
-  pub near : place ≤ placeMost
-  pub plane : n .0 < 128
-  pub level : k .0 < 128
-  pub count : bits < 2 ^ 28
-
-pub record Headed (out : List ℕ) (place n k bits end : ℕ) (out′ : List ℕ) : Type 0 where
-  pub after : end ≡ place + length (headOf n k bits) + bytesFor bits
-  pub bytes : out′ ≡ sets (madeWay out place bits) place (headOf n k bits)
 
 -- How far a record is written: the lists, the output, and the place of the next part.
 pub record Stage : Type 0 where

@@ -12,22 +12,19 @@ ghost use Rattle.rules.specs.Document.Passes.{start, partsOfPlane, partNames};
 ghost use Rattle.rules.specs.Document.Layout.{version, recordOf};
 ghost use Rattle.rules.specs.Document.Calls.{levelPlaces, refused, fitted, coding, Coding};
 ghost use Rattle.parts.specs.Standing.{named};
-ghost use Rattle.coder.specs.Writing.{Answered, judgedInput, Given, headerMost, Wrote, HeadFits, Headed};
+ghost use Rattle.coder.specs.Writing.{Answered, judgedInput, Given, headerMost};
 ghost use Rattle.coder.specs.Writing.{stageOf, onward, through, Clear, Going, Due, Reached, bytesOfParts, Stored};
 use bits::BitPosition;
 use parts::Counts;
+use record::write;
 use rules::Coded;
 use rules::Level;
 use rules::Plane;
 use rules::Refusal;
 use rules::Size;
-use rules::VERSION;
 use rules::Verdict;
 
 const MOST_MAGNITUDE: u32 = 65535;
-
-// Bytes of a part's head whose bit count takes one byte.
-const SHORT_HEAD: usize = 3;
 
 // Between parts: how full the lists are, and the place of the next part.
 struct Progress {
@@ -73,44 +70,6 @@ fn planes_in(pyramid: &[i32]) -> usize
     coefficients::planes_of(coefficients::largest_magnitude(pyramid))
 }
 
-// The header, at the front. Answers the place after it.
-fn write_header(z: Size, planes: usize, out: &mut [u8]) -> usize
-    requires { ⌜ (legalSize z ≡ true) × (planes ≤ mostPlanes) ⌝ }
-    ensures { λ r. ⌜ Wrote (now (out .entry)) 0 (version ∷ z .w ∷ z .h ∷ z .n ∷ planes ∷ []) r (now (out .exit)) ⌝ }
-{
-    let after_version = numbers::write_number(out, 0, VERSION);
-    let after_w = numbers::write_number(out, after_version, z.w);
-    let after_h = numbers::write_number(out, after_w, z.h);
-    let after_n = numbers::write_number(out, after_h, z.n);
-    numbers::write_number(out, after_n, planes)
-}
-
-// The head of a part. Answers the place after it.
-fn write_head(out: &mut [u8], place: usize, plane: Plane, level: Level, bits: usize) -> usize
-    requires { ⌜ HeadFits place plane level bits ⌝ }
-    ensures { λ r. ⌜ Wrote (now (out .entry)) place (plane .0 ∷ level .0 ∷ bits ∷ []) r (now (out .exit)) ⌝ }
-{
-    let after_plane = numbers::write_number(out, place, plane.0);
-    let after_level = numbers::write_number(out, after_plane, level.0);
-    numbers::write_number(out, after_level, bits)
-}
-
-// Puts the head before a body that stands behind the place of a short head: where the head is longer, the body first makes way. Answers the
-// place after the part.
-fn put_head(out: &mut [u8], place: usize, plane: Plane, level: Level, bits: usize) -> usize
-    requires { ⌜ HeadFits place plane level bits ⌝ }
-    ensures { λ r. ⌜ Headed (now (out .entry)) place (plane .0) (level .0) bits r (now (out .exit)) ⌝ }
-{
-    let bytes = (bits + 7) / 8;
-    memory::move_right(
-        out,
-        place + SHORT_HEAD,
-        bytes,
-        numbers::number_length(bits) - 1,
-    );
-    write_head(out, place, plane, level, bits) + bytes
-}
-
 // One part, at its place: body first, since its bit count is known only then.
 fn write_part(
     pyramid: &[i32],
@@ -126,7 +85,7 @@ fn write_part(
 {
     let place = progress.place;
     let counts = progress.counts;
-    let start = 8 * (place + SHORT_HEAD);
+    let start = 8 * (place + write::SHORT_HEAD);
     let passed = parts::code_part(
         pyramid,
         z,
@@ -138,7 +97,7 @@ fn write_part(
         BitPosition { at: start },
     );
     let end = passed.at.at;
-    let next = put_head(out, place, plane, level, end - start);
+    let next = write::put_head(out, place, plane, level, end - start);
     let counts = passed.counts;
     Progress {
         counts,
@@ -213,7 +172,7 @@ fn write_record(pyramid: &[i32], z: Size, out: &mut [u8], work: &mut [u32]) -> u
 {
     memory::zero_u8(out);
     let planes = planes_in(pyramid);
-    let place = write_header(z, planes, out);
+    let place = write::header(z, planes, out);
     write_parts(pyramid, z, planes, out, work, place)
 }
 

@@ -1,6 +1,7 @@
-// The format's home: reading a record and walking over its parts.
+// The format's home, both ways: reading a record, walking over its parts, and writing its header and heads.
 pub mod read;
 pub mod walk;
+pub mod write;
 
 use rules::Level;
 use rules::Plane;

@@ -11,14 +11,14 @@ zero-u8-requires c κs = search needs
 planes-in-requires : tie.Need-planes-in-requires
 planes-in-requires c κs = search needs
 
-write-header-requires : tie.Need-write-header-requires
-write-header-requires c κs = (c .before .before .before .before .before .before .before .before .pre .legal, planes-few (c .before .before .before .before .before .before .before .before .pre) _ (c .before .planes-in .ensures))
+header-requires : tie.Need-header-requires
+header-requires c κs = (c .before .before .before .before .before .before .before .before .pre .legal, planes-few (c .before .before .before .before .before .before .before .before .pre) _ (c .before .planes-in .ensures))
 
 write-parts-requires : tie.Need-write-parts-requires
-write-parts-requires c κs = header-written (c .before .before .before .before .before .before .before .before .before .before .before .before .before .pre) _ (c .before .before .before .before .before .before .planes-in .ensures) (c .before .before .before .before .before .before .before .before .before .before .before .before .before .args .out .now) _ (c .before .before .before .before .before .before .before .before .before .zero-u8 .ensures) _ _ (c .before .before .before .before .write-header .ensures)
+write-parts-requires c κs = header-written (c .before .before .before .before .before .before .before .before .before .before .before .before .before .pre) _ (c .before .before .before .before .before .before .planes-in .ensures) (c .before .before .before .before .before .before .before .before .before .before .before .before .before .args .out .now) _ (c .before .before .before .before .before .before .before .before .before .zero-u8 .ensures) _ _ (c .before .before .before .before .header .ensures)
 
 returns : tie.Need-returns
-returns c = record-stored (c .before .before .before .before .before .before .before .before .before .before .before .before .before .before .before .before .before .before .pre) _ (c .before .before .before .before .before .before .before .before .before .before .before .planes-in .ensures) (c .before .before .before .before .before .before .before .before .before .before .before .before .before .before .before .before .before .before .args .out .now) _ (c .before .before .before .before .before .before .before .before .before .before .before .before .before .before .zero-u8 .ensures) _ _ (c .before .before .before .before .before .before .before .before .before .write-header .ensures) _ _ (c .before .before .before .before .write-parts .ensures)
+returns c = record-stored (c .before .before .before .before .before .before .before .before .before .before .before .before .before .before .before .before .before .before .pre) _ (c .before .before .before .before .before .before .before .before .before .before .before .planes-in .ensures) (c .before .before .before .before .before .before .before .before .before .before .before .before .before .before .before .before .before .before .args .out .now) _ (c .before .before .before .before .before .before .before .before .before .before .before .before .before .before .zero-u8 .ensures) _ _ (c .before .before .before .before .before .before .before .before .before .header .ensures) _ _ (c .before .before .before .before .write-parts .ensures)
 
 same-length : tie.Need-same-length
 same-length c = stored-room (c .before .before .before .before .before .before .before .before .before .before .before .before .before .before .before .before .before .before .args .out .now) (returns c)
@@ -32,7 +32,7 @@ write-record-spec =
     (tie.spec
     zero-u8-requires
     planes-in-requires
-    write-header-requires
+    header-requires
     write-parts-requires
     same-length
     same-length-2
