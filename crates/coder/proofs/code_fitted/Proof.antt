@@ -17,7 +17,7 @@ same-length-2 : tie.Need-same-length-2
 same-length-2 c = search needs
 
 returns : tie.Need-returns
-returns c = fitted-refused _ _ _ (c .before .before .before .before .before .before .before .before .before .write-record .ensures) (c .before .before .before .before .if1 .taken) (c .before .before .refuse .ensures)
+returns c = search (needs, fitted-refused)
 
 same-length-3 : tie.Need-same-length-3
 same-length-3 c = search needs

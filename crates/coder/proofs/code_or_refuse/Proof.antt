@@ -11,7 +11,7 @@ enum-told : tie.Need-enum-told
 enum-told c = search needs
 
 code-fitted-requires : tie.Need-code-fitted-requires
-code-fitted-requires c κs = accepted-given _ _ _ (c .before .before .before .before .judged .ensures) (c .before .before .enum-told .given .1)
+code-fitted-requires c κs = search (needs, accepted-given)
 
 enum-known-verdict : tie.Need-enum-known-verdict
 enum-known-verdict c = search needs
@@ -26,7 +26,7 @@ same-length-2 : tie.Need-same-length-2
 same-length-2 c = search needs
 
 returns : tie.Need-returns
-returns c = accepted-answered _ _ (c .before .before .before .before .before .before .before .before .before .before .before .before .args .work .now) (c .before .before .before .before .before .before .before .before .before .judged .ensures) (c .before .before .before .before .before .before .before .enum-told .given .1) (c .before .before .before .before .code-fitted .ensures)
+returns c = search (needs, accepted-answered)
 
 same-length-3 : tie.Need-same-length-3
 same-length-3 c = search needs

@@ -11,7 +11,7 @@ same-length : tie.Need-same-length
 same-length c = search needs
 
 returns : tie.Need-returns
-returns c = refused-answered _ (c .before .before .zero-u8 .ensures)
+returns c = search (needs, refused-answered)
 
 pub refuse-spec : {M : Type 1} → statement M
 refuse-spec = tie.close (tie.spec zero-u8-requires same-length returns)

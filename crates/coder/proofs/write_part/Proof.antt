@@ -12,13 +12,13 @@ mul-start : tie.Need-mul-start
 mul-start c = search needs
 
 code-part-requires : tie.Need-code-part-requires
-code-part-requires c κs = part-ready _ _ _ _ _ (c .before .before .before .before .before .args .progress) _ _ refl (c .before .before .before .before .before .pre)
+code-part-requires c κs = search (needs, part-ready)
 
 sub-put-head : tie.Need-sub-put-head
 sub-put-head c = search needs
 
 put-head-requires : tie.Need-put-head-requires
-put-head-requires c κs = part-bits _ _ _ _ _ (c .before .before .before .before .before .before .before .before .before .before .before .args .progress) _ _ refl (c .before .before .before .before .before .before .before .before .before .before .before .pre) _ _ _ (c .before .before .before .before .before .code-part .ensures) _ refl
+put-head-requires c κs = search (needs, part-bits)
 
 same-length : tie.Need-same-length
 same-length c = search needs
@@ -27,7 +27,7 @@ same-length-2 : tie.Need-same-length-2
 same-length-2 c = search needs
 
 returns : tie.Need-returns
-returns c = part-written _ _ _ _ _ (c .before .before .before .before .before .before .before .before .before .before .before .before .before .before .before .args .progress) _ _ refl (c .before .before .before .before .before .before .before .before .before .before .before .before .before .before .before .pre) _ _ _ (c .before .before .before .before .before .before .before .before .before .code-part .ensures) _ _ _ refl (c .before .before .before .put-head .ensures)
+returns c = search (needs, part-written)
 
 pub write-part-spec : {M : Type 1} → statement M
 write-part-spec =

@@ -6,13 +6,13 @@ use Rattle.coder.proofs.write_parts.Statement.{statement}
 use Rattle.coder.proofs.write_parts.Tie as tie
 
 start-requires : tie.Need-start-requires
-start-requires c κs = (c .before .before .before .pre .0 .legal, c .before .before .before .pre .0 .room)
+start-requires c κs = search needs
 
 write-planes-requires : tie.Need-write-planes-requires
 write-planes-requires c κs = parts-begin (c .before .before .before .before .before .before .before .before .pre .0) _ _ _ _ _ (c .before .before .before .before .start .ensures) (c .before .before .before .before .before .before .before .before .pre .1) (c .before .before .before .before .before .before .before .before .pre .2) (c .before .before .before .before .before .before .before .before .pre .3)
 
 returns : tie.Need-returns
-returns c = parts-stored (c .before .before .before .before .before .before .before .before .before .before .before .before .before .pre .0) _ _ _ _ _ (c .before .before .before .before .before .before .before .before .before .start .ensures) _ _ _ (c .before .before .before .before .write-planes .ensures)
+returns c = search (needs, parts-stored)
 
 same-length : tie.Need-same-length
 same-length c = stored-length (returns c)

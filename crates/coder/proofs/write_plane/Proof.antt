@@ -33,10 +33,10 @@ loop-again : tie.Need-loop-again Inv-loop μ-loop
 loop-again c = levels-turn _ _ _ (omega arith) (c .before .before .before .before .before .before .before .before .loop .inv) (c .before .before .before .before .write-part .ensures)
 
 same-length : tie.Need-same-length Inv-loop μ-loop
-same-length c = c .before .loop .inv .left .room
+same-length c = search needs
 
 same-length-2 : tie.Need-same-length-2 Inv-loop μ-loop
-same-length-2 c = c .before .loop .inv .left .same
+same-length-2 c = search needs
 
 returns : tie.Need-returns Inv-loop μ-loop
 returns c = levels-end _ _ _ (c .loop-test .left) (c .before .loop .inv)

@@ -13,7 +13,7 @@ abbrev μ-loop : tie.MeasureT-loop
 μ-loop pyramid z planes out₀ work₀ reached₀ done₀ out work reached done = planes - done
 
 loop-holds : tie.Need-loop-holds Inv-loop μ-loop
-loop-holds c = planes-begin _ _ (c .before .before .pre .0) (c .before .before .pre .1) (c .before .before .pre .2)
+loop-holds c = search (needs, planes-begin)
 
 add-done : tie.Need-add-done Inv-loop μ-loop
 add-done c = search needs
@@ -28,13 +28,13 @@ loop-less : tie.Need-loop-less Inv-loop μ-loop
 loop-less c = search needs
 
 loop-again : tie.Need-loop-again Inv-loop μ-loop
-loop-again c = planes-turn _ _ _ (c .before .before .before .before .before .before .before .loop-test .taken) (c .before .before .before .before .before .before .before .before .loop .inv) (c .before .before .before .before .write-plane .ensures)
+loop-again c = search (needs, planes-turn)
 
 same-length : tie.Need-same-length Inv-loop μ-loop
-same-length c = c .before .loop .inv .left .room
+same-length c = search needs
 
 same-length-2 : tie.Need-same-length-2 Inv-loop μ-loop
-same-length-2 c = c .before .loop .inv .left .same
+same-length-2 c = search needs
 
 returns : tie.Need-returns Inv-loop μ-loop
 returns c = planes-end _ _ _ (c .loop-test .left) (c .before .loop .inv)

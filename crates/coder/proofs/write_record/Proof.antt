@@ -12,16 +12,16 @@ planes-in-requires : tie.Need-planes-in-requires
 planes-in-requires c κs = search needs
 
 header-requires : tie.Need-header-requires
-header-requires c κs = (c .before .before .before .before .before .before .before .before .pre .legal, planes-few (c .before .before .before .before .before .before .before .before .pre) _ (c .before .planes-in .ensures))
+header-requires c κs = search (needs, planes-few)
 
 write-parts-requires : tie.Need-write-parts-requires
 write-parts-requires c κs = header-written (c .before .before .before .before .before .before .before .before .before .before .before .before .before .pre) _ (c .before .before .before .before .before .before .planes-in .ensures) (c .before .before .before .before .before .before .before .before .before .before .before .before .before .args .out .now) _ (c .before .before .before .before .before .before .before .before .before .zero-u8 .ensures) _ _ (c .before .before .before .before .header .ensures)
 
 returns : tie.Need-returns
-returns c = record-stored (c .before .before .before .before .before .before .before .before .before .before .before .before .before .before .before .before .before .before .pre) _ (c .before .before .before .before .before .before .before .before .before .before .before .planes-in .ensures) (c .before .before .before .before .before .before .before .before .before .before .before .before .before .before .before .before .before .before .args .out .now) _ (c .before .before .before .before .before .before .before .before .before .before .before .before .before .before .zero-u8 .ensures) _ _ (c .before .before .before .before .before .before .before .before .before .header .ensures) _ _ (c .before .before .before .before .write-parts .ensures)
+returns c = search (needs, record-stored)
 
 same-length : tie.Need-same-length
-same-length c = stored-room (c .before .before .before .before .before .before .before .before .before .before .before .before .before .before .before .before .before .before .args .out .now) (returns c)
+same-length c = search (needs, stored-room)
 
 same-length-2 : tie.Need-same-length-2
 same-length-2 c = search needs
