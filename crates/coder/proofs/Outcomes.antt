@@ -2,7 +2,7 @@
 use mathlib.Core.Path.{_≡_, refl, sym, ap, _∙_}
 use mathlib.Core.List.{List}
 use mathlib.Core.Bool.{Bool, true, false, cond}
-use Prim.Native.Nat.{ℕ, _≤_, _<_}
+use Prim.Native.Nat.{ℕ, _*_, _≤_, _<_}
 use native.Mathlib.Nat.{zero-add}
 use native.Mathlib.Omega.{arith}
 use lib.Dec.{leb, eqb}
@@ -10,6 +10,9 @@ use lib.ListN.{length, length-replicate}
 use lib.IntN.{ℤ}
 use lib.Seq.{length-sets}
 use borrow.Author.Tests.{leb-true, eqb-true, le-leb, lt-leb, eq-eqb, ne-eqb}
+use mir.Syntax.{w64}
+use mir.Val.{Fits}
+use Rattle.rules.specs.Laws.Family.Sizes.{area-bound}
 use Rattle.rules.specs.declared.Size.{Size}
 use Rattle.rules.specs.declared.Coded.{Coded}
 use Rattle.rules.specs.declared.Refusal.{Refusal}
@@ -38,33 +41,47 @@ pub refused-answered : (r : Refusal) {out out′ : List ℕ} → out′ ≡ zero
 unfolding codeOut codeAnswer
 refused-answered r a = record { answers = refl; writes = a }
 
--- judged
-module _ (pyramid : List ℤ) (z : Size) (work : ℕ) where
-  pub judged-size : legalSize z ≡ false → Refused refusal.Size ≡ judgedInput pyramid z work
+-- The input judged, cause by cause. l is what was found of the size.
+module _ (pyramid : List ℤ) (z : Size) (work : ℕ) (l : Bool) (found : l ≡ legalSize z) where
+  pub judged-size : l ≡ false → Refused refusal.Size ≡ judgedInput pyramid z work
   unfolding judgedInput
-  judged-size a = rw a
+  judged-size a = rw (sym found ∙ a)
 
-  module _ (a : legalSize z ≡ true) where
+  module _ (a : l ≡ true) where
     pub judged-length : (length pyramid ≡ area z → ⊥) → Refused refusal.Length ≡ judgedInput pyramid z work
     unfolding judgedInput
-    judged-length b = rw (a, ne-eqb (length pyramid) (area z) b)
+    judged-length b = rw (sym found ∙ a, ne-eqb (length pyramid) (area z) b)
 
     module _ (b : length pyramid ≡ area z) where
       pub judged-work : work < workFor z → Refused refusal.Work ≡ judgedInput pyramid z work
       unfolding judgedInput
-      judged-work c = rw (a, eq-eqb (length pyramid) (area z) b, lt-leb (workFor z) work c)
+      judged-work c = rw (sym found ∙ a, eq-eqb (length pyramid) (area z) b, lt-leb (workFor z) work c)
 
       module _ (c : workFor z ≤ work) where
         pub judged-range : (over : ℕ) → over ≡ firstOver mostMagnitude pyramid → (over ≡ length pyramid → ⊥)
             → Refused (refusal.Range over) ≡ judgedInput pyramid z work
         unfolding judgedInput
         judged-range over e d =
-            rw (a, eq-eqb (length pyramid) (area z) b, le-leb (workFor z) work c, ne-eqb (firstOver mostMagnitude pyramid) (length pyramid) (λ f. d (e ∙ f)), e)
+            rw (
+              sym found ∙ a,
+              eq-eqb (length pyramid) (area z) b,
+              le-leb (workFor z) work c,
+              ne-eqb (firstOver mostMagnitude pyramid) (length pyramid) (λ f. d (e ∙ f)),
+              e,
+            )
 
         pub judged-accepted : (over : ℕ) → over ≡ firstOver mostMagnitude pyramid → over ≡ length pyramid → Accepted ≡ judgedInput pyramid z work
         unfolding judgedInput
         judged-accepted over e d =
-            rw (a, eq-eqb (length pyramid) (area z) b, le-leb (workFor z) work c, eq-eqb (firstOver mostMagnitude pyramid) (length pyramid) (sym e ∙ d))
+            rw (
+              sym found ∙ a,
+              eq-eqb (length pyramid) (area z) b,
+              le-leb (workFor z) work c,
+              eq-eqb (firstOver mostMagnitude pyramid) (length pyramid) (sym e ∙ d),
+            )
+
+pub area-fits : (z : Size) (l : Bool) → l ≡ legalSize z → l ≡ true → Fits w64 (z .w * z .h)
+area-fits z l e t = record { fits = omega (arith, area-bound z (sym e ∙ t)) }
 
 -- What the input alone is judged decides the call, or leaves it to the room.
 ruled : Verdict → Result (List ℕ) → Result (List ℕ)
@@ -100,28 +117,30 @@ module _ (pyramid : List ℤ) (z : Size) where
         let r = accepted-test (eqb (firstOver mostMagnitude pyramid) (length pyramid)) _ (refusal.Range (firstOver mostMagnitude pyramid)) (w .1) in
         record { legal = s .0; whole = eqb-true _ _ (l .0); room = leb-true _ _ (w .0); range = eqb-true _ _ (r .0) }
 
-    -- code_or_refuse
+  -- what is answered: v is what was found of the input, n the length of the workspace
+  module _ (n : ℕ) {v : Verdict} (e : v ≡ judgedInput pyramid z n) where
     answered : {out out′ : List ℕ} {answer : Coded} (x : Result (List ℕ)) → x ≡ ruled v (fitted (recordOf z pyramid) (length out))
-        → Answered x out answer out′ → Answered (coding pyramid z (length out) (length work)) out answer out′
+        → Answered x out answer out′ → Answered (coding pyramid z (length out) n) out answer out′
     answered {out} x i a =
-        let j : x ≡ coding pyramid z (length out) (length work) =
-        i ∙ ap (λ u. ruled u (fitted (recordOf z pyramid) (length out))) e ∙ sym (coding-ruled (length out) (length work)) in
+        let j : x ≡ coding pyramid z (length out) n =
+        i ∙ ap (λ u. ruled u (fitted (recordOf z pyramid) (length out))) e ∙ sym (coding-ruled (length out) n) in
         record { answers = a .answers ∙ ap codeAnswer j; writes = a .writes ∙ ap (codeOut (length out)) j }
 
     pub accepted-answered : {out out′ : List ℕ} {answer : Coded} → v ≡ Accepted → Answered (fitted (recordOf z pyramid) (length out)) out answer out′
-        → Answered (coding pyramid z (length out) (length work)) out answer out′
+        → Answered (coding pyramid z (length out) n) out answer out′
     unfolding ruled
     accepted-answered {out} a h = answered _ (ap (λ u. ruled u (fitted (recordOf z pyramid) (length out))) (sym a)) h
 
     pub refusal-answered : {out out′ : List ℕ} {answer : Coded} (r : Refusal) → v ≡ Refused r → Answered (refused r) out answer out′
-        → Answered (coding pyramid z (length out) (length work)) out answer out′
+        → Answered (coding pyramid z (length out) n) out answer out′
     unfolding ruled
     refusal-answered {out} r a h = answered _ (ap (λ u. ruled u (fitted (recordOf z pyramid) (length out))) (sym a)) h
 
   -- code
-  pub code-answered : {out out′ work work′ : List ℕ} {answer : Coded} → Answered (coding pyramid z (length out) (length work)) out answer out′
-      → work′ ≡ zeros (length work) → Coding pyramid z out work answer out′ work′
-  code-answered a c = record { answers = a .answers; writes = a .writes; clears = c }
+  pub code-answered : {out out′ work work′ : List ℕ} {answer : Coded} (since : List ℕ)
+      → Answered (coding pyramid z (length out) (length work)) out answer out′
+      → work′ ≡ zeros (length since) → length since ≡ length work → Coding pyramid z out work answer out′ work′
+  code-answered since a c l = record { answers = a .answers; writes = a .writes; clears = c ∙ ap zeros l }
 
   -- code_fitted: the length decides.
   module _ (out : List ℕ) {end : ℕ} {out′ : List ℕ} (h : Stored (zeros (length out)) 0 (recordOf z pyramid) end out′) where

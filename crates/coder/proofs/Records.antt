@@ -35,17 +35,17 @@ module _ {pyramid : List ℤ} {z : Size} {work : List ℕ} (g : Given pyramid z 
     first : Stage
     first = stageOf z work′ (record { counts = counts; place = place }) out
 
-    pub parts-begin : planes ≤ mostPlanes → Clear out place → place ≤ headerMost
-        → Given pyramid z work′ × (planes ≤ mostPlanes) × Going z (levelPlaces * planes) (stageOf z work′ (record { counts = counts; place = place }) out)
-    parts-begin a c l = (
-      given-same g (s .same),
-      a,
-      record {
-        sound = subst (SoundLists z) (sym (agree-same (s .lists))) (start-sound z (legal z (g .legal)));
-        clear = c;
-        near = omega arith;
-      },
-    )
+    pub parts-given : Given pyramid z work′
+    parts-given = given-same g (s .same)
+
+    pub parts-going : planes ≤ mostPlanes → Clear out place → place ≤ headerMost
+        → Going z (levelPlaces * planes) (stageOf z work′ (record { counts = counts; place = place }) out)
+    parts-going a c l =
+        record {
+          sound = subst (SoundLists z) (sym (agree-same (s .lists))) (start-sound z (legal z (g .legal)));
+          clear = c;
+          near = omega arith;
+        }
 
     pub parts-stored : (p : Progress) (work″ out″ : List ℕ)
         → Reached z work′ p work″ out″ (through pyramid z (partNames (levels z) planes) (stageOf z work′ (record { counts = counts; place = place }) out))
@@ -53,7 +53,8 @@ module _ {pyramid : List ℤ} {z : Size} {work : List ℕ} (g : Given pyramid z 
     unfolding first
     parts-stored p work″ out″ r =
         let names : List PartName = partNames (levels z) planes in
-        let same : bytesOfParts pyramid z names (first .lists) ≡ bytesOfParts pyramid z (partNames (levels z) planes) (start z) = ap (bytesOfParts pyramid z names) (agree-same (s .lists)) in
+        let same : bytesOfParts pyramid z names (first .lists) ≡ bytesOfParts pyramid z (partNames (levels z) planes) (start z)
+        = ap (bytesOfParts pyramid z names) (agree-same (s .lists)) in
         record {
           place =
               ap (λ x. x .place) (r .stage) ∙ through-place pyramid z names first ∙ ap (λ l. place + length l) same;
@@ -67,16 +68,14 @@ module _ {pyramid : List ℤ} {z : Size} {work : List ℕ} (g : Given pyramid z 
 
     module _ (lent cleared : List ℕ) (f : cleared ≡ zeros (length lent)) (place : ℕ) (out : List ℕ)
         (w : Wrote cleared 0 (version ∷ z .w ∷ z .h ∷ z .n ∷ planes ∷ []) place out) where
-      pub header-written : Given pyramid z work × (planes ≤ mostPlanes) × Clear out place × (place ≤ headerMost)
-      header-written =
-          let header : List ℕ = flat numberBytes (version ∷ z .w ∷ z .h ∷ z .n ∷ planes ∷ []) in (
-            g,
-            planes-few,
-            λ j h.
-                ap (λ l. getD l j 0) (w .bytes) ∙ getD-sets-behind cleared 0 header j 0 (omega (arith, w .place))
-                ∙ ap (λ l. getD l j 0) f ∙ zeros-clear (length lent) j,
-            omega (arith, wrote-near w),
-          )
+      pub header-clear : Clear out place
+      header-clear j h =
+          let header : List ℕ = flat numberBytes (version ∷ z .w ∷ z .h ∷ z .n ∷ planes ∷ []) in
+          ap (λ l. getD l j 0) (w .bytes) ∙ getD-sets-behind cleared 0 header j 0 (omega (arith, w .place))
+          ∙ ap (λ l. getD l j 0) f ∙ zeros-clear (length lent) j
+
+      pub header-short : place ≤ headerMost
+      header-short = omega (arith, wrote-near w)
 
       pub record-stored : (end : ℕ) (out′ : List ℕ) → Stored out place (bytesOfParts pyramid z (partNames (levels z) planes) (start z)) end out′
           → Stored (zeros (length lent)) 0 (recordOf z pyramid) end out′

@@ -81,7 +81,9 @@ fn write_part(
     progress: Progress,
 ) -> Progress
     requires { ⌜ Due (now pyramid) z plane level (now work) (stageOf z (now work) progress (now out)) ⌝ }
-    ensures { λ r. ⌜ Reached z (now (work .entry)) r (now (work .exit)) (now (out .exit)) (onward (now (pyramid .entry)) z (named plane level) (stageOf z (now (work .entry)) progress (now (out .entry)))) ⌝ }
+    ensures { λ r.
+        ⌜ Reached z (now (work .entry)) r (now (work .exit)) (now (out .exit))
+        (onward (now (pyramid .entry)) z (named plane level) (stageOf z (now (work .entry)) progress (now (out .entry)))) ⌝ }
 {
     let place = progress.place;
     let counts = progress.counts;
@@ -115,7 +117,9 @@ fn write_plane(
     progress: Progress,
 ) -> Progress
     requires { ⌜ Given (now pyramid) z (now work) × (plane .0 < mostPlanes) × Going z levelPlaces (stageOf z (now work) progress (now out)) ⌝ }
-    ensures { λ r. ⌜ Reached z (now (work .entry)) r (now (work .exit)) (now (out .exit)) (through (now (pyramid .entry)) z (partsOfPlane (plane .0) (levels z)) (stageOf z (now (work .entry)) progress (now (out .entry)))) ⌝ }
+    ensures { λ r.
+        ⌜ Reached z (now (work .entry)) r (now (work .exit)) (now (out .exit))
+        (through (now (pyramid .entry)) z (partsOfPlane (plane .0) (levels z)) (stageOf z (now (work .entry)) progress (now (out .entry)))) ⌝ }
 {
     let mut reached = progress;
     let mut left = z.n + 1;
@@ -136,7 +140,9 @@ fn write_planes(
     progress: Progress,
 ) -> Progress
     requires { ⌜ Given (now pyramid) z (now work) × (planes ≤ mostPlanes) × Going z (levelPlaces * planes) (stageOf z (now work) progress (now out)) ⌝ }
-    ensures { λ r. ⌜ Reached z (now (work .entry)) r (now (work .exit)) (now (out .exit)) (through (now (pyramid .entry)) z (partNames (levels z) planes) (stageOf z (now (work .entry)) progress (now (out .entry)))) ⌝ }
+    ensures { λ r.
+        ⌜ Reached z (now (work .entry)) r (now (work .exit)) (now (out .exit))
+        (through (now (pyramid .entry)) z (partNames (levels z) planes) (stageOf z (now (work .entry)) progress (now (out .entry)))) ⌝ }
 {
     let mut reached = progress;
     let mut done = 0;
@@ -193,7 +199,9 @@ fn code_fitted(pyramid: &[i32], z: Size, out: &mut [u8], work: &mut [u32]) -> Co
 
 // The outcome, with the workspace as the passes leave it.
 fn code_or_refuse(pyramid: &[i32], z: Size, out: &mut [u8], work: &mut [u32]) -> Coded
-    ensures { λ r. ⌜ Answered (coding (now (pyramid .entry)) z (length (now (out .entry))) (length (now (work .entry)))) (now (out .entry)) r (now (out .exit)) ⌝ }
+    ensures { λ r.
+        ⌜ Answered (coding (now (pyramid .entry)) z (length (now (out .entry))) (length (now (work .entry))))
+        (now (out .entry)) r (now (out .exit)) ⌝ }
 {
     let verdict = judged(pyramid, z, work.len());
     match verdict {

@@ -1,7 +1,5 @@
 -- `coder::code` meets its contract: `Coding`, for every input.
-use mathlib.Core.Path.{ap, _∙_}
 use borrow.Author.Needs.{needs}
-use Rattle.rules.specs.Document.Notation.{zeros}
 use Rattle.coder.proofs.Outcomes.{code-answered}
 use Rattle.coder.proofs.code.Statement.{statement}
 use Rattle.coder.proofs.code.Tie as tie
@@ -19,7 +17,7 @@ same-length-2 : tie.Need-same-length-2
 same-length-2 c = search needs
 
 returns : tie.Need-returns
-returns c = code-answered _ _ (c .before .before .before .before .before .before .before .before .code-or-refuse .ensures) (c .before .before .zero-u32 .ensures ∙ ap zeros (c .before .before .before .before .before .work .given))
+returns c = search (needs, code-answered)
 
 pub code-spec : {M : Type 1} → statement M
 code-spec =

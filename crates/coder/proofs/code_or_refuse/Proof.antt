@@ -32,7 +32,7 @@ same-length-3 : tie.Need-same-length-3
 same-length-3 c = search needs
 
 returns-2 : tie.Need-returns-2
-returns-2 c = refusal-answered _ _ (c .before .before .before .before .before .before .before .before .before .before .args .work .now) (c .before .before .before .before .before .before .before .judged .ensures) _ (c .before .before .before .before .before .verdict .given .1) (c .before .before .refuse .ensures)
+returns-2 c = search (needs, refusal-answered)
 
 pub code-or-refuse-spec : {M : Type 1} → statement M
 code-or-refuse-spec =

@@ -1,5 +1,4 @@
 -- `coder::write_part`: the pass writes the body, the head comes before it.
-use mathlib.Core.Path.{refl}
 use borrow.Author.Needs.{needs}
 use Rattle.coder.proofs.Parts.{part-ready, part-bits, part-written}
 use Rattle.coder.proofs.write_part.Statement.{statement}

@@ -1,7 +1,7 @@
 -- `coder::write_parts`: the lists at their start, then all parts.
 use borrow.Author.Needs.{needs}
 use Rattle.coder.proofs.Outcomes.{stored-length}
-use Rattle.coder.proofs.Records.{parts-begin, parts-stored}
+use Rattle.coder.proofs.Records.{parts-given, parts-going, parts-stored}
 use Rattle.coder.proofs.write_parts.Statement.{statement}
 use Rattle.coder.proofs.write_parts.Tie as tie
 
@@ -9,7 +9,7 @@ start-requires : tie.Need-start-requires
 start-requires c κs = search needs
 
 write-planes-requires : tie.Need-write-planes-requires
-write-planes-requires c κs = parts-begin (c .before .before .before .before .before .before .before .before .pre .0) _ _ _ _ _ (c .before .before .before .before .start .ensures) (c .before .before .before .before .before .before .before .before .pre .1) (c .before .before .before .before .before .before .before .before .pre .2) (c .before .before .before .before .before .before .before .before .pre .3)
+write-planes-requires c κs = (search (needs, parts-given), search needs, search (needs, parts-going))
 
 returns : tie.Need-returns
 returns c = search (needs, parts-stored)

@@ -9,7 +9,8 @@ use Rattle.coder.proofs.write_plane.Statement.{statement}
 use Rattle.coder.proofs.write_plane.Tie as tie
 
 abbrev Inv-loop : tie.InvT-loop
-Inv-loop pyramid z plane out₀ work₀ reached₀ left₀ out work reached left = LevelsLeft pyramid z plane work₀ (stageOf z work₀ reached₀ out₀) left work (stageOf z work reached out)
+Inv-loop pyramid z plane out₀ work₀ reached₀ left₀ out work reached left =
+    LevelsLeft pyramid z plane work₀ (stageOf z work₀ reached₀ out₀) left work (stageOf z work reached out)
 
 abbrev μ-loop : tie.MeasureT-loop
 μ-loop pyramid z plane out₀ work₀ reached₀ left₀ out work reached left = left
@@ -30,7 +31,9 @@ loop-less : tie.Need-loop-less Inv-loop μ-loop
 loop-less c = search needs
 
 loop-again : tie.Need-loop-again Inv-loop μ-loop
-loop-again c = levels-turn _ _ _ (omega arith) (c .before .before .before .before .before .before .before .before .loop .inv) (c .before .before .before .before .write-part .ensures)
+loop-again c =
+    levels-turn _ _ _ (omega arith) (c .before .before .before .before .before .before .before .before .loop .inv)
+    (c .before .before .before .before .write-part .ensures)
 
 same-length : tie.Need-same-length Inv-loop μ-loop
 same-length c = search needs

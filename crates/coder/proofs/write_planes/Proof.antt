@@ -7,7 +7,8 @@ use Rattle.coder.proofs.write_planes.Statement.{statement}
 use Rattle.coder.proofs.write_planes.Tie as tie
 
 abbrev Inv-loop : tie.InvT-loop
-Inv-loop pyramid z planes out₀ work₀ reached₀ done₀ out work reached done = PlanesDone pyramid z planes work₀ (stageOf z work₀ reached₀ out₀) done work (stageOf z work reached out)
+Inv-loop pyramid z planes out₀ work₀ reached₀ done₀ out work reached done =
+    PlanesDone pyramid z planes work₀ (stageOf z work₀ reached₀ out₀) done work (stageOf z work reached out)
 
 abbrev μ-loop : tie.MeasureT-loop
 μ-loop pyramid z planes out₀ work₀ reached₀ done₀ out work reached done = planes - done

@@ -1,7 +1,7 @@
 -- `coder::write_record`: header, then all parts.
 use borrow.Author.Needs.{needs}
 use Rattle.coder.proofs.Outcomes.{stored-room}
-use Rattle.coder.proofs.Records.{planes-few, header-written, record-stored}
+use Rattle.coder.proofs.Records.{planes-few, planes-few, header-clear, header-short, record-stored}
 use Rattle.coder.proofs.write_record.Statement.{statement}
 use Rattle.coder.proofs.write_record.Tie as tie
 
@@ -15,7 +15,7 @@ header-requires : tie.Need-header-requires
 header-requires c κs = search (needs, planes-few)
 
 write-parts-requires : tie.Need-write-parts-requires
-write-parts-requires c κs = header-written (c .before .before .before .before .before .before .before .before .before .before .before .before .before .pre) _ (c .before .before .before .before .before .before .planes-in .ensures) (c .before .before .before .before .before .before .before .before .before .before .before .before .before .args .out .now) _ (c .before .before .before .before .before .before .before .before .before .zero-u8 .ensures) _ _ (c .before .before .before .before .header .ensures)
+write-parts-requires c κs = (search needs, search (needs, planes-few), search (needs, header-clear), search (needs, header-short))
 
 returns : tie.Need-returns
 returns c = search (needs, record-stored)
