@@ -1,3 +1,4 @@
+-- `decoder::decode`: header, pyramid, workspace, parts.
 use Rattle.decoder.proofs.LawsAnswer.{area-fits, row-fits, work-fits, header-lent, decoding-refused, decoding-length, decoding-work, decoding-parts}
 use Rattle.decoder.proofs.LawsAnswer.{answered-decoding, refusing-decoding}
 use borrow.Author.Needs.{needs}

@@ -1,3 +1,4 @@
+-- `decoder::decode_parts`: the walk begins, and goes on to its end.
 use Rattle.decoder.proofs.LawsWalk.{lent-opening, walking-first, begun-answered}
 use borrow.Author.Needs.{needs}
 use Rattle.decoder.proofs.decode_parts.Statement.{statement}

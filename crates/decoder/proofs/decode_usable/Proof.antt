@@ -1,3 +1,4 @@
+-- `decoder::decode_usable`: the bits asked for decide.
 use Rattle.decoder.proofs.LawsPart.{part-fits, part-unfit}
 use Rattle.decoder.proofs.LawsPart.{level-within}
 use borrow.Author.Needs.{needs}

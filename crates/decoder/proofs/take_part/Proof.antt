@@ -1,3 +1,4 @@
+-- `decoder::take_part`: decoded if it is usable, else walked over.
 use Rattle.rules.specs.Document.Layout.{nameOf}
 use Rattle.decoder.proofs.LawsPart.{part-decoded, part-over}
 use Rattle.decoder.proofs.LawsPart.{level-within}

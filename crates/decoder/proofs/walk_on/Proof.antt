@@ -1,3 +1,4 @@
+-- `decoder::walk_on`: one turn, by what `next` gives.
 use Rattle.decoder.proofs.LawsPart.{read-taking, turned-part, turned-tail, turned-refused}
 use borrow.Author.Needs.{needs}
 use Rattle.decoder.proofs.walk_on.Statement.{statement}

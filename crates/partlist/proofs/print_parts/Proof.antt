@@ -1,3 +1,4 @@
+-- `partlist::print_parts`: the cursor's place rises from part to part.
 use Prim.Native.Nat.{_-_}
 use lib.ListN.{length}
 use Rattle.survey.specs.AsServing.{part-ends}

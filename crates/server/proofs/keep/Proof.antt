@@ -1,3 +1,4 @@
+-- `server::keep`: a part that is asked for is copied, any other is not.
 use Rattle.server.proofs.Laws.{kept-coarse, kept-low, kept-whole}
 use borrow.Author.Needs.{needs}
 use Rattle.server.proofs.keep.Statement.{statement}

@@ -1,3 +1,4 @@
+-- `server::legal_ask`: level, then plane.
 use Rattle.server.proofs.Laws.{ask-low, ask-high, ask-plane}
 use borrow.Author.Needs.{needs}
 use Rattle.server.proofs.legal_ask.Statement.{statement}

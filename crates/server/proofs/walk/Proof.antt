@@ -1,3 +1,4 @@
+-- `server::walk`: what `next` gives goes on, ends or refuses the walk; the cursor's place rises.
 use Prim.Native.Nat.{_-_}
 use lib.ListN.{length}
 use Rattle.record.specs.Walk.{next-falls}

@@ -1,3 +1,4 @@
+-- `survey::listed`: the length decides first.
 use mathlib.Core.Path.{sym, _∙_}
 use Rattle.survey.specs.AsServing.{listed-short, listed-long}
 use borrow.Author.Needs.{needs}

@@ -1,3 +1,4 @@
+-- `survey::part_at`: by what was read of the header.
 use Rattle.record.specs.Walk.{found-legal}
 use Rattle.survey.proofs.Laws.{found-at}
 use borrow.Author.Needs.{needs}

@@ -1,3 +1,4 @@
+-- `survey::survey_of`: by what was read of the header.
 use Rattle.record.specs.Walk.{header-found}
 use Rattle.survey.proofs.Laws.{surveyed}
 use borrow.Author.Needs.{needs}

@@ -1,3 +1,4 @@
+-- `record::read::body`: what lies between a body's start and its end.
 use Rattle.record.proofs.Laws.{body-between}
 use borrow.Author.Needs.{needs}
 use Rattle.record.proofs.read.body.Statement.{statement}

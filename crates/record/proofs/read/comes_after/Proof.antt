@@ -1,3 +1,4 @@
+-- `record::read::comes_after`: the order of parts, by the plane first.
 use Rattle.record.proofs.Laws.{after-in-plane, after-by-plane}
 use borrow.Author.Needs.{needs}
 use Rattle.record.proofs.read.comes_after.Statement.{statement}

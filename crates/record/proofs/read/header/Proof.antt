@@ -1,3 +1,4 @@
+-- `record::read::header`: the version, then the four other numbers.
 use Rattle.rules.specs.Document.Numbers.{readHeader}
 use Rattle.record.proofs.Laws.{head-stop, head-step, version-right, version-wrong}
 use borrow.Author.Needs.{needs}

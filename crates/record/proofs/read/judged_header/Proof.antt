@@ -1,3 +1,4 @@
+-- `record::read::judged_header`: size and planes, cause by cause.
 use Rattle.record.proofs.Laws.{judged-legal, judged-planes, judged-size}
 use borrow.Author.Needs.{needs}
 use Rattle.record.proofs.read.judged_header.Statement.{statement}

@@ -1,3 +1,4 @@
+-- `record::read::legal_head`: a head's tests, one after the other.
 use Rattle.record.proofs.Laws.{head-plane, head-low, head-high, head-bits, head-order, depth-small, limit-small, half-small}
 use borrow.Author.Needs.{needs}
 use Rattle.record.proofs.read.legal_head.Statement.{statement}

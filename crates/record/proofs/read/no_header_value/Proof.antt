@@ -1,3 +1,4 @@
+-- `record::read::no_header_value`: by what the number was.
 use Rattle.rules.specs.Document.Numbers.{headNumber}
 use Rattle.record.specs.Named.{unreadHeader}
 use Rattle.record.proofs.Laws.{header-told}

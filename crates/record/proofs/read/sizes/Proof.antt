@@ -1,3 +1,4 @@
+-- `record::read::sizes`: four numbers, each of which may end it, then all judged.
 use Rattle.rules.specs.Document.Numbers.{readSizes}
 use Rattle.record.proofs.Laws.{head-stop, head-step}
 use borrow.Author.Needs.{needs}

@@ -1,3 +1,4 @@
+-- `record::read::whole_part`: whole, cut short, or with a padding bit set.
 use Rattle.record.proofs.Laws.{whole-cut, whole-clear, whole-padded}
 use borrow.Author.Needs.{needs}
 use Rattle.record.proofs.read.whole_part.Statement.{statement}

@@ -1,3 +1,4 @@
+-- `record::write::dimensions`: three numbers, one after the other.
 use native.Mathlib.Omega.{arith}
 use Rattle.record.proofs.Writing.{wrote-three, after-one, after-two, width-small, height-small, count-small}
 use borrow.Author.Needs.{needs}

@@ -1,3 +1,4 @@
+-- `record::write::head`: three numbers, one after the other.
 use native.Mathlib.Omega.{arith}
 use Rattle.record.proofs.Writing.{wrote-three, after-one, after-two}
 use borrow.Author.Needs.{needs}

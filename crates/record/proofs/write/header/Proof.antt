@@ -1,3 +1,4 @@
+-- `record::write::header`: the version, three numbers, the planes.
 use native.Mathlib.Omega.{arith}
 use Rattle.record.proofs.Writing.{wrote-header, after-version, after-three}
 use borrow.Author.Needs.{needs}

@@ -1,3 +1,4 @@
+-- `record::write::put_head`: the body makes way, then the head is written.
 use Rattle.record.proofs.Writing.{number-some, headed-fits, headed-of}
 use borrow.Author.Needs.{needs}
 use Rattle.record.proofs.write.put_head.Statement.{statement}
