@@ -49,8 +49,8 @@ extern "C" {
  * several refusals would be due, the description of the call tells which is
  * given.
  *
- * The numbers are fixed: none will change its meaning. Since 0.2.0 there is 12,
- * which has taken one cause from 6 and from 8.
+ * The numbers are fixed: none will change its meaning. Before 0.1.0 there was
+ * no 12, which has taken one cause from 6 and from 8.
  *
  * A number in a record is malformed in one of two ways. It goes on after four
  * bytes: that is 6 in the header and 8 in a part. Or it is in long form, of
