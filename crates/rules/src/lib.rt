@@ -14,7 +14,7 @@ pub const CODE_PLACES: usize = 3;
 
 pub const SERVE_PLACES: usize = 4;
 
-pub const DECODE_PLACES: usize = 3 + LEVEL_PLACES;
+pub const DECODE_PLACES: usize = 3 + 2 * LEVEL_PLACES;
 
 // Planes and levels are counted apart: a place for one never accepts the other.
 pub struct Plane(pub usize);
@@ -66,6 +66,7 @@ pub struct Decoded {
     pub verdict: Verdict,
     pub tail: usize,
     pub reached: [Plane; LEVEL_PLACES],
+    pub skipped: [usize; LEVEL_PLACES],
 }
 
 // A number read: its value and the place after it, or why it is none.

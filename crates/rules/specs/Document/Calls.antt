@@ -1,7 +1,7 @@
 -- What each call answers and what it leaves in the memory lent to it, for every input: document 01's "Order", "Refused" and "Accepted".
 use mathlib.Core.Path.{_≡_}
 use mathlib.Core.List.{List, [], _∷_, _++_, map}
-use mathlib.Core.Bool.{Bool, true, false, cond, _&&_}
+use mathlib.Core.Bool.{Bool, true, false, cond, not, _&&_}
 use Prim.Native.Nat.{ℕ, zero, suc, _+_, _-_, _*_}
 use lib.Dec.{leb, ltb, eqb}
 use lib.ListN.{length, getD, take, replicate}
@@ -19,7 +19,7 @@ use Rattle.rules.specs.declared.Header.{Header}
 use Rattle.rules.specs.declared.HeaderRead.{HeaderRead}
 use Rattle.rules.specs.declared.HeaderRead.the-variants as header
 use Rattle.rules.specs.declared.Part.{Part}
-use Rattle.rules.specs.Document.Notation.{flat, lowest, zeros}
+use Rattle.rules.specs.Document.Notation.{count, flat, lowest, zeros}
 use Rattle.rules.specs.Document.Pyramid.{legalSize, area, family, mostMagnitude, magnitude}
 use Rattle.rules.specs.Document.Passes.{Course, Reader, State, PartName, start, after, from, decoded}
 use Rattle.rules.specs.Document.Layout.{recordOf, bitAt, bodyOf, wholeOf, nameOf, usable, reached}
@@ -113,6 +113,7 @@ pub record Picture : Type 0 where
   pub pyramid : List ℤ
   pub tail : ℕ
   pub reached : List Plane
+  pub skipped : List ℕ
 
 abbrev pub levelPlaces : ℕ
 levelPlaces = 6
@@ -123,9 +124,17 @@ reachedPlane h there k = record { 0 = cond (leb k (topLevel h)) (reached (topLev
 unfoldable pub reachedPlanes : Header → List PartName → List Plane
 reachedPlanes h there = map (reachedPlane h there) (from 1 levelPlaces)
 
+-- W8: "the number of its parts that were present whole and not usable, by 01's definition of usable", for each level.
+unfoldable pub skippedParts : Header → List PartName → ℕ → ℕ
+skippedParts h there k = count (λ x. eqb (x .level) k && not (usable (topLevel h) (h .planes) there x)) there
+
+unfoldable pub skippedCounts : Header → List PartName → List ℕ
+skippedCounts h there = map (skippedParts h there) (from 1 levelPlaces)
+
 unfoldable pub pictured : Header → List PartName → Ending → Progress → Result Picture
 pictured h there e (unfit at) = refused (refusal.Fit at)
-pictured h there e (going st v) = onEnding e (λ t. accepted (record { pyramid = v; tail = t; reached = reachedPlanes h there }))
+pictured h there e (going st v) =
+    onEnding e (λ t. accepted (record { pyramid = v; tail = t; reached = reachedPlanes h there; skipped = skippedCounts h there }))
 
 unfoldable pub decodedParts : Header → List ℕ → Reading → Result Picture
 decodedParts h s r =
@@ -164,8 +173,9 @@ decodeOut room (refused r) = replicate room (pos 0)
 decodeOut room (accepted x) = x .pyramid
 
 unfoldable pub decodeAnswer : Result Picture → Decoded
-decodeAnswer (refused r) = record { verdict = Refused r; tail = 0; reached = replicate levelPlaces (record { 0 = 0 }) }
-decodeAnswer (accepted x) = record { verdict = Accepted; tail = x .tail; reached = x .reached }
+decodeAnswer (refused r) =
+    record { verdict = Refused r; tail = 0; reached = replicate levelPlaces (record { 0 = 0 }); skipped = zeros levelPlaces }
+decodeAnswer (accepted x) = record { verdict = Accepted; tail = x .tail; reached = x .reached; skipped = x .skipped }
 
 -- The public routines. An output or workspace is named twice: what it held before the call, and what it holds after (′). "Workspace: all 0
 -- after every call. The input is only read."
@@ -183,7 +193,8 @@ pub record Decoding (s : List ℕ) (out : List ℤ) (work : List ℕ) (answer : 
   pub writes : out′ ≡ decodeOut (length out) (decoding s (length out) (length work))
   pub clears : work′ ≡ zeros (length work)
 
--- "Coding answers number, place, length; serving also the tail length; decoding number, place, tail length and six reached planes."
+-- "Coding answers number, place, length; serving also the tail length; decoding number, place, tail length and six reached planes." W8: and the
+-- counts of skipped parts behind them.
 unfoldable pub codeNumbers : Coded → List ℕ
 codeNumbers a = verdictNumber (a .verdict) ∷ verdictPlace (a .verdict) ∷ a .length ∷ []
 
@@ -193,8 +204,13 @@ serveNumbers a = verdictNumber (a .verdict) ∷ verdictPlace (a .verdict) ∷ a 
 unfoldable pub planeIn : List Plane → ℕ → ℕ
 planeIn planes i = getD planes i (record { 0 = 0 }) .0
 
+unfoldable pub countIn : List ℕ → ℕ → ℕ
+countIn counts i = getD counts i 0
+
 unfoldable pub decodeNumbers : Decoded → List ℕ
-decodeNumbers a = verdictNumber (a .verdict) ∷ verdictPlace (a .verdict) ∷ a .tail ∷ map (planeIn (a .reached)) (from 0 levelPlaces)
+decodeNumbers a =
+    verdictNumber (a .verdict) ∷ verdictPlace (a .verdict) ∷ a .tail
+    ∷ map (planeIn (a .reached)) (from 0 levelPlaces) ++ map (countIn (a .skipped)) (from 0 levelPlaces)
 
 -- "An exported call writes its answer, in the order told below, to the front of a lent slice of 64-bit numbers, the rest 0, and returns the
 -- first of them. A slice shorter than the answer gives 5 before any other check, with that slice and the output all 0."
@@ -205,7 +221,7 @@ abbrev pub servePlaces : ℕ
 servePlaces = 4
 
 abbrev pub decodePlaces : ℕ
-decodePlaces = 3 + levelPlaces
+decodePlaces = 3 + 2 * levelPlaces
 
 unfoldable pub returned : ℕ → List ℕ → List ℕ → ℕ
 returned places answer numbers = cond (leb places (length answer)) (getD numbers 0 0) (refusalNumber refusal.Room)

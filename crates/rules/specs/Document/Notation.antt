@@ -10,6 +10,7 @@
 --
 --   any t xs        some element of xs passes the test t
 --   every t xs      each element of xs passes it
+--   count t xs      how many elements of xs pass it
 --   flat f xs       the lists f x, for each x of xs in order, joined
 --   greatest m xs   the greatest m x of all x in xs, 0 if there is none
 --   lowest t m      the lowest number under m that passes the test t, m if none does
@@ -27,6 +28,10 @@ any t (x ∷ xs) = t x || any t xs
 unfoldable pub every : {X : Type 0} → (X → Bool) → List X → Bool
 every t [] = true
 every t (x ∷ xs) = t x && every t xs
+
+unfoldable pub count : {X : Type 0} → (X → Bool) → List X → ℕ
+count t [] = 0
+count t (x ∷ xs) = cond (t x) (suc (count t xs)) (count t xs)
 
 unfoldable pub flat : {X Y : Type 0} → (X → List Y) → List X → List Y
 flat f [] = []

@@ -7,4 +7,5 @@ pub mod PartCases
 pub mod Stands
 pub mod Walk
 pub mod WholeParts
+pub mod Skipped
 pub mod Local

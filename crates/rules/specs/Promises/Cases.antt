@@ -9,7 +9,7 @@ use lib.IntN.{ℤ, pos, negsuc}
 use Rattle.rules.specs.declared.Size.{Size}
 use Rattle.rules.specs.declared.Number.{Number}
 use Rattle.rules.specs.declared.Number.the-variants.{Value, TooManyBytes, LongForm}
-use Rattle.rules.specs.Document.Notation.{any, every, flat, greatest, lowest, ifAny, zeros}
+use Rattle.rules.specs.Document.Notation.{any, every, count, flat, greatest, lowest, ifAny, zeros}
 use Rattle.rules.specs.Document.Pyramid.{legalSide, legalSize, magnitude, negative, within, levelUpTo, levelOf, block, offspringLL, offspringAt}
 use Rattle.rules.specs.Document.Pyramid.{offspringOf, generations, descendantsOf, log2Up, earlierPlanesOf, log2Down, planesOf}
 use Rattle.rules.specs.Document.Passes.{members, inLevel, tested, tests, opened, added, weighed, visited, visits, turns, sets, refines, pass}
@@ -22,9 +22,10 @@ use Rattle.rules.specs.Document.Numbers.{headNumber, judgedHeader, readS
 use Rattle.rules.specs.Document.Numbers.{readPart, goOn, readFrom, readParts}
 use Rattle.rules.specs.Document.Calls.{Result, unless, workFor, firstOver, fitted, coding, onHeader, onEnding, legalAsk, keptOf, servedBytes}
 use Rattle.rules.specs.Document.Calls.{Portion, portioned, serving}
-use Rattle.rules.specs.Document.Calls.{used, onward, decodeParts, Picture, reachedPlane, reachedPlanes, pictured, decodedParts, decoding}
+use Rattle.rules.specs.Document.Calls.{used, onward, decodeParts, Picture, reachedPlane, reachedPlanes, skippedParts, skippedCounts, pictured}
+use Rattle.rules.specs.Document.Calls.{decodedParts, decoding}
 use Rattle.rules.specs.Document.Calls.{filled, codeOut, codeAnswer, serveOut, serveAnswer, decodeOut, decodeAnswer, codeNumbers, serveNumbers}
-use Rattle.rules.specs.Document.Calls.{planeIn, decodeNumbers, codePlaces, servePlaces, decodePlaces, reported}
+use Rattle.rules.specs.Document.Calls.{planeIn, countIn, decodeNumbers, codePlaces, servePlaces, decodePlaces, reported}
 
 -- Opening one of these opens a section's definitions.
 unfoldable pub opensPyramid : Unit {0}
@@ -32,7 +33,7 @@ unfolding legalSide legalSize magnitude negative within levelUpTo levelOf log2Up
 opensPyramid = tt
 
 unfoldable pub opensNotation : Unit {0}
-unfolding any every flat greatest lowest ifAny
+unfolding any every count flat greatest lowest ifAny
 opensNotation = tt
 
 unfoldable pub opensFamily : Unit {0}
@@ -80,7 +81,7 @@ unfolding unless firstOver fitted coding onHeader onEnding legalAsk keptOf serve
 opensCalls = tt
 
 unfoldable pub opensDecoding : Unit {0}
-unfolding used onward decodeParts reachedPlane reachedPlanes pictured decodedParts decoding
+unfolding used onward decodeParts reachedPlane reachedPlanes skippedParts skippedCounts pictured decodedParts decoding
 opensDecoding = tt
 
 unfoldable pub opensOutputs : Unit {0}
@@ -88,7 +89,7 @@ unfolding filled codeOut serveOut decodeOut
 opensOutputs = tt
 
 unfoldable pub opensAnswers : Unit {0}
-unfolding opensOutputs codeAnswer serveAnswer decodeAnswer codeNumbers serveNumbers planeIn decodeNumbers reported
+unfolding opensOutputs codeAnswer serveAnswer decodeAnswer codeNumbers serveNumbers planeIn countIn decodeNumbers reported
 opensAnswers = tt
 
 -- The document's record: N = 1, 4 x 4, rows 4 -1 0 0 / 2 0 0 -3 / 0 0 1 0 / 0 0 0 0.
@@ -322,7 +323,11 @@ abbrev pub behindHeader : List ℕ → Shown
 behindHeader s = decodes (0x01 ∷ 0x04 ∷ 0x04 ∷ 0x01 ∷ 0x03 ∷ s)
 
 abbrev pub refuses : ℕ → ℕ → Shown
-refuses number place = pyramid (number ∷ place ∷ 0 ∷ 0 ∷ 0 ∷ 0 ∷ 0 ∷ 0 ∷ 0 ∷ []) (replicate 16 (pos 0))
+refuses number place = pyramid ((number ∷ place ∷ []) ++ zeros 13) (replicate 16 (pos 0))
+
+-- an accepted decoding of two levels, level 1 first: its tail, the plane that each level reached, and how many of its parts were skipped
+abbrev pub prints : ℕ → ℕ × ℕ → ℕ × ℕ → List ℤ → Shown
+prints tail m k = pyramid ((0 ∷ 0 ∷ tail ∷ m .0 ∷ m .1 ∷ 0 ∷ 0 ∷ 0 ∷ 0 ∷ k .0 ∷ k .1 ∷ []) ++ zeros 4)
 
 unfoldable pub table : List Row
 table =
@@ -335,21 +340,21 @@ table =
     ∷ (read (readNumber (0x80 ∷ 0x80 ∷ 0x80 ∷ 0x80 ∷ []) 0) is read TooManyBytes)
     -- P6 the record above, there and back; served whole. P7 all zero 4 x 4, N = 1: 01 04 04 01 00; all zero 8 x 4.
     ∷ (codes example four 30 is bytes (0 ∷ 0 ∷ 30 ∷ []) thirty)
-    ∷ (decodes thirty is pyramid (0 ∷ 0 ∷ 0 ∷ 0 ∷ 0 ∷ 0 ∷ 0 ∷ 0 ∷ 0 ∷ []) example)
+    ∷ (decodes thirty is prints 0 (0, 0) (0, 0) example)
     ∷ (serves thirty 1 0 is bytes (0 ∷ 0 ∷ 30 ∷ 0 ∷ []) thirty)
     ∷ (codes (replicate 16 (pos 0)) four 5 is bytes (0 ∷ 0 ∷ 5 ∷ []) (0x01 ∷ 0x04 ∷ 0x04 ∷ 0x01 ∷ 0x00 ∷ []))
     ∷ (codes (replicate 32 (pos 0)) (record { w = 8; h = 4; n = 1 }) 5 is bytes (0 ∷ 0 ∷ 5 ∷ []) (0x01 ∷ 0x08 ∷ 0x04 ∷ 0x01 ∷ 0x00 ∷ []))
     -- P8 served for r = 2, p = 0: 17 bytes; decoded, the LL band is right and all else 0.
     ∷ (serves thirty 2 0 is bytes (0 ∷ 0 ∷ 17 ∷ 0 ∷ []) (servedAtTwo ++ zeros 13))
-    ∷ (decodes servedAtTwo is pyramid (0 ∷ 0 ∷ 0 ∷ 3 ∷ 0 ∷ 0 ∷ 0 ∷ 0 ∷ 0 ∷ []) (rowsOf (pos 4) (negsuc 0) (pos 2) (pos 0) (pos 0) (pos 0)))
+    ∷ (decodes servedAtTwo is prints 0 (3, 0) (0, 0) (rowsOf (pos 4) (negsuc 0) (pos 2) (pos 0) (pos 0) (pos 0)))
     -- P9 served for r = 1, p = 1: 21 bytes; decoded 4 0 / 2 0 in the LL band, -2 at (1,3), else 0.
     ∷ (serves thirty 1 1 is bytes (0 ∷ 0 ∷ 21 ∷ 0 ∷ []) (servedToPlaneOne ++ zeros 9))
     ∷ (decodes servedToPlaneOne
-    is pyramid (0 ∷ 0 ∷ 0 ∷ 1 ∷ 1 ∷ 0 ∷ 0 ∷ 0 ∷ 0 ∷ []) (rowsOf (pos 4) (pos 0) (pos 2) (pos 0) (negsuc 1) (pos 0)))
-    -- P10 part (1,2) lost: 4 at (0,0), else 0; reached 2 at both levels.
-    ∷ (decodes without12 is pyramid (0 ∷ 0 ∷ 0 ∷ 2 ∷ 2 ∷ 0 ∷ 0 ∷ 0 ∷ 0 ∷ []) (rowsOf (pos 4) (pos 0) (pos 0) (pos 0) (pos 0) (pos 0)))
-    -- P11 part (1,1) lost: LL band exact, reached 0; level 1 all 0, reached 2. Served whole it is the same 26 bytes.
-    ∷ (decodes without11 is pyramid (0 ∷ 0 ∷ 0 ∷ 2 ∷ 0 ∷ 0 ∷ 0 ∷ 0 ∷ 0 ∷ []) (rowsOf (pos 4) (negsuc 0) (pos 2) (pos 0) (pos 0) (pos 0)))
+    is prints 0 (1, 1) (0, 0) (rowsOf (pos 4) (pos 0) (pos 2) (pos 0) (negsuc 1) (pos 0)))
+    -- P10 part (1,2) lost: 4 at (0,0), else 0; reached 2 at both levels. W8: two parts of level 1 skipped and one of level 2.
+    ∷ (decodes without12 is prints 0 (2, 2) (2, 1) (rowsOf (pos 4) (pos 0) (pos 0) (pos 0) (pos 0) (pos 0)))
+    -- P11 part (1,1) lost: LL band exact, reached 0; level 1 all 0, reached 2, one part skipped. Served whole it is the same 26 bytes.
+    ∷ (decodes without11 is prints 0 (2, 0) (1, 0) (rowsOf (pos 4) (negsuc 0) (pos 2) (pos 0) (pos 0) (pos 0)))
     ∷ (serves without11 1 0 is bytes (0 ∷ 0 ∷ 26 ∷ 0 ∷ []) without11)
     -- P12 in 8 x 8, N = 2: (0,1) has the block at (0,2), (1,2) the block at (2,4).
     ∷ (numbers (offspringOf eight (0 * 8 + 1)) is numbers (2 ∷ 3 ∷ 10 ∷ 11 ∷ []))
@@ -360,19 +365,19 @@ table =
     -- W5: 5 alone in 4 x 4, by either count: 29 bytes and 37, and both decode to it
     ∷ (codes five four 29 is bytes (0 ∷ 0 ∷ 29 ∷ []) fiveBytes)
     ∷ (numbers (recordWith four (earlierPlanesIn five) five) is numbers fiveBefore)
-    ∷ (decodes fiveBytes is pyramid (zeros 9) five)
-    ∷ (decodes fiveBefore is pyramid (zeros 9) five)
+    ∷ (decodes fiveBytes is prints 0 (0, 0) (0, 0) five)
+    ∷ (decodes fiveBefore is prints 0 (0, 0) (0, 0) five)
     -- "its first 29 bytes decode with a tail of 4"
     ∷ (decodes (take 29 thirty)
-    is pyramid (0 ∷ 0 ∷ 4 ∷ 1 ∷ 0 ∷ 0 ∷ 0 ∷ 0 ∷ 0 ∷ []) (rowsOf (pos 4) (negsuc 0) (pos 2) (pos 0) (negsuc 1) (pos 0)))
+    is prints 4 (1, 0) (0, 0) (rowsOf (pos 4) (negsuc 0) (pos 2) (pos 0) (negsuc 1) (pos 0)))
     -- a part of 0 bits, here (0,1), is written too
     ∷ (codes single eight 16 is bytes (0 ∷ 0 ∷ 16 ∷ []) singleBytes)
     -- "serving: 11, the parts": no level 3, then the part at fault
     ∷ (serves padSet 3 0 is bytes (11 ∷ 0 ∷ 0 ∷ 0 ∷ []) (zeros 9))
     ∷ (serves padSet 1 0 is bytes (9 ∷ 5 ∷ 0 ∷ 0 ∷ []) (zeros 9))
     -- "10 FIT: a usable part's bits run out or are left over"; "the first part at fault decides", here before 9
-    ∷ (decodes bitsRunOut is pyramid (10 ∷ 5 ∷ 0 ∷ 0 ∷ 0 ∷ 0 ∷ 0 ∷ 0 ∷ 0 ∷ []) (replicate 16 (pos 0)))
-    ∷ (decodes bitsLeftOver is pyramid (10 ∷ 5 ∷ 0 ∷ 0 ∷ 0 ∷ 0 ∷ 0 ∷ 0 ∷ 0 ∷ []) (replicate 16 (pos 0)))
+    ∷ (decodes bitsRunOut is refuses 10 5)
+    ∷ (decodes bitsLeftOver is refuses 10 5)
     -- "its three numbers in turn .., the first that isn't a value deciding; the other causes of 8": cut off, so a tail
     ∷ (serves cutInHead 1 0 is bytes (0 ∷ 0 ∷ 5 ∷ 1 ∷ []) (0x01 ∷ 0x04 ∷ 0x04 ∷ 0x01 ∷ 0x03 ∷ 0x00 ∷ []))
     -- W7: (2, 0) then (1, 1), (1, 1) then (2, 0), and the larger of both at once: 13 bytes; of the first 29 bytes only the first serving tells a tail
@@ -396,9 +401,9 @@ table =
     ∷ (behindHeader (0x02 ∷ 0x02 ∷ 0x80 ∷ 0x00 ∷ 0x80 ∷ []) is refuses 12 5)
     ∷ (behindHeader (0x02 ∷ 0x80 ∷ 0x80 ∷ 0x80 ∷ 0x80 ∷ []) is refuses 8 5)
     ∷ (behindHeader (0x7F ∷ 0x80 ∷ 0x00 ∷ []) is refuses 12 5)
-    ∷ (behindHeader (0x7F ∷ 0x7F ∷ []) is pyramid (0 ∷ 0 ∷ 2 ∷ 3 ∷ 3 ∷ 0 ∷ 0 ∷ 0 ∷ 0 ∷ []) (replicate 16 (pos 0)))
+    ∷ (behindHeader (0x7F ∷ 0x7F ∷ []) is prints 2 (3, 3) (0, 0) (replicate 16 (pos 0)))
     ∷ (behindHeader (0x02 ∷ 0x02 ∷ 0x05 ∷ 0x80 ∷ 0x02 ∷ 0x80 ∷ [])
-    is pyramid (0 ∷ 0 ∷ 2 ∷ 3 ∷ 2 ∷ 0 ∷ 0 ∷ 0 ∷ 0 ∷ []) (rowsOf (pos 4) (pos 0) (pos 0) (pos 0) (pos 0) (pos 0)))
+    is prints 2 (3, 2) (0, 0) (rowsOf (pos 4) (pos 0) (pos 0) (pos 0) (pos 0) (pos 0)))
     ∷ []
 
 unfoldable pub opensDocument : Unit {0}

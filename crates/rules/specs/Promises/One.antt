@@ -40,9 +40,10 @@ serving-refused = laws.serving-refused
 pub decoding-refused : {s : List ℕ} {out : List ℤ} {work : List ℕ} {answer : Decoded} {out′ : List ℤ} {work′ : List ℕ}
     → Decoding s out work answer out′ work′
     → Exactly (DecodingCase s (length out) (length work)) decodingNumbers (answer .verdict)
-    ((answer .tail ≡ 0) × (answer .reached ≡ replicate levelPlaces (record { 0 = 0 })) × (out′ ≡ replicate (length out) (pos 0))
+    ((answer .tail ≡ 0) × (answer .reached ≡ replicate levelPlaces (record { 0 = 0 })) × (answer .skipped ≡ zeros levelPlaces)
+    × (out′ ≡ replicate (length out) (pos 0)) × (work′ ≡ zeros (length work)))
+    (λ x. (answer .tail ≡ x .tail) × (answer .reached ≡ x .reached) × (answer .skipped ≡ x .skipped) × (out′ ≡ x .pyramid)
     × (work′ ≡ zeros (length work)))
-    (λ x. (answer .tail ≡ x .tail) × (answer .reached ≡ x .reached) × (out′ ≡ x .pyramid) × (work′ ≡ zeros (length work)))
 decoding-refused = laws.decoding-refused
 
 -- "A slice shorter than the answer gives 5 before any other check, with that slice and the output all 0." In one that is long

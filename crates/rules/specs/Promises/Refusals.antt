@@ -23,6 +23,7 @@ use Rattle.rules.specs.Document.Passes.{State, PartName, start, decoded}
 use Rattle.rules.specs.Document.Layout.{readNumber, version, bytesFor, recordOf, bitAt, bodyOf, nameOf}
 use Rattle.rules.specs.Document.Numbers.{Ending, tail, fault, topLevel}
 use Rattle.rules.specs.Document.Calls.{Result, refused, accepted, workFor, servedBytes, Portion, going, decodeParts, Picture, reachedPlanes}
+use Rattle.rules.specs.Document.Calls.{skippedCounts}
 use Rattle.rules.specs.Promises.Vocabulary.{Legal, LegalHead, Usable}
 
 -- 1 SIZE of a header: "W, H, N or planes not legal".
@@ -182,4 +183,9 @@ pub data DecodingCase (s : List ℕ) (room work : ℕ) : Result Picture → Type
       → Parts h s ps e → FirstUnfit h s ps at → DecodingCase s room work (refused (refusal.Fit at))
   DECODED : {h : Header} {ps : List Part} {t : ℕ} {st : State} {v : List ℤ} → HeaderCase s (header.Header h) → room ≡ area (h .size)
       → workFor (h .size) ≤ work → Parts h s ps (tail t) → Fitting h s ps ps st v
-      → DecodingCase s room work (accepted (record { pyramid = v; tail = t; reached = reachedPlanes h (map nameOf ps) }))
+      → DecodingCase s room work (accepted (record {
+        pyramid = v;
+        tail = t;
+        reached = reachedPlanes h (map nameOf ps);
+        skipped = skippedCounts h (map nameOf ps);
+      }))

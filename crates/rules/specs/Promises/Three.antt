@@ -1,26 +1,30 @@
 -- Demand 3. Of the record that the coder writes, whatever parts arrive, by serving or by loss, the last of them cut perhaps: decoding with
 -- buffers of the stated sizes accepts, gives each coefficient its sign and its magnitude rounded toward zero to a multiple of 2^m, zero where
--- that gives zero, and reports that m for each level, 0 beyond level N + 1. `Rounded`, in Vocabulary, says this field by field.
+-- that gives zero, and reports that m for each level, 0 beyond level N + 1, and how many of the level's parts are there and not usable. `Rounded`,
+-- in Vocabulary, says this field by field.
 use mathlib.Core.Path.{_≡_}
-use mathlib.Core.List.{List}
+use mathlib.Core.List.{List, map}
 use mathlib.Core.Bool.{Bool, false}
-use Prim.Native.Nat.{ℕ, _<_, _-_, suc, _≤_, _^_}
-use lib.Dec.{leb}
+use Prim.Native.Nat.{ℕ, _<_, _+_, _-_, suc, _≤_, _^_}
+use lib.Dec.{leb, eqb}
 use lib.ListN.{getD}
 use lib.IntN.{ℤ, pos}
 use Rattle.rules.specs.declared.Size.{Size}
 use Rattle.rules.specs.declared.Decoded.{Decoded}
 use Rattle.rules.specs.declared.Header.{Header}
 use Rattle.rules.specs.declared.HeaderRead.the-variants as header
+use Rattle.rules.specs.Document.Notation.{count}
 use Rattle.rules.specs.Document.Pyramid.{area, levelOf, magnitude}
 use Rattle.rules.specs.Document.Passes.{PartName}
-use Rattle.rules.specs.Document.Layout.{recordOf, planesIn, earlierPlanesIn, partsWith, partsOf, usable, reached}
-use Rattle.rules.specs.Document.Numbers.{readHeader}
+use Rattle.rules.specs.Document.Layout.{recordOf, planesIn, earlierPlanesIn, partsWith, partsOf, nameOf, usable, reached}
+use Rattle.rules.specs.Document.Numbers.{readHeader, readParts, topLevel}
 use Rattle.rules.specs.Document.Calls.{coding, accepted, decoding, Portion, serving, Result, Picture, planeIn, Decoding, AfsDecode}
+use Rattle.rules.specs.Document.Calls.{skippedParts}
 use Rattle.rules.specs.Promises.Vocabulary.{Codable, PlaneCount, Stated, Rounded, names, wholeIn, kept, tailIn, arrived, recordBytes, asked, Near, at}
 use Rattle.rules.specs.Promises.Vocabulary.{Named, present, mostDecoded}
 use Rattle.rules.specs.Laws.Calls.Arrived as laws
 use Rattle.rules.specs.Laws.Reading.Usable as usables
+use Rattle.rules.specs.Laws.Reading.Skipped as skips
 use Rattle.rules.specs.Laws.Rounding.Magnitudes as magnitudes
 
 -- What coding accepts, and what it then writes.
@@ -83,6 +87,13 @@ module _ (top planes : ℕ) (there : List PartName) where
 pub loss-shows : (top planes : ℕ) (there : List PartName) (n k : ℕ) → Named top planes (at n k) → present there (at n k) ≡ false
     → (j : ℕ) → j ≤ k → n < reached top planes there j
 loss-shows = usables.loss-shows
+
+-- What is told is complete: of whatever bytes are read, the skipped parts of a level and the used ones, one for each plane from the reached one on,
+-- are all of its parts that are there.
+pub used-and-skipped : (h : Header) (s : List ℕ) (k : ℕ) → 1 ≤ k → k ≤ topLevel h
+    → skippedParts h (map nameOf (readParts h s .parts)) k + (h .planes - reached (topLevel h) (h .planes) (map nameOf (readParts h s .parts)) k)
+    ≡ count (λ x. eqb (x .level) k) (map nameOf (readParts h s .parts))
+used-and-skipped = skips.used-and-skipped
 
 -- Whatever bytes decoding accepts, every magnitude is below 2^planes, planes being what the header says, and no more than 131,071; so whatever is
 -- given and whatever is answered, no greater one is left in the output.

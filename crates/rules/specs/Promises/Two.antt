@@ -12,6 +12,7 @@ use Rattle.rules.specs.declared.Verdict.the-variants.{Accepted}
 use Rattle.rules.specs.declared.Served.{Served}
 use Rattle.rules.specs.declared.Header.{Header}
 use Rattle.rules.specs.declared.HeaderRead.the-variants as header
+use Rattle.rules.specs.Document.Notation.{zeros}
 use Rattle.rules.specs.Document.Pyramid.{levels}
 use Rattle.rules.specs.Document.Passes.{partNames, PartName}
 use Rattle.rules.specs.Document.Layout.{partsWith, recordWith, reached, earlierPlanesIn, recordOf}
@@ -51,16 +52,16 @@ module _ {z : Size} {pyramid : List ℤ} (c : Codable z pyramid) {planes : ℕ} 
       (tailIn n (kept keep (partsWith z planes pyramid))) room)
   demand2-serving-on = laws.demand2-serving-on c count
 
-  -- A whole record decodes to the pyramid, every level to plane 0.
+  -- A whole record decodes to the pyramid, every level to plane 0, and no part is skipped.
   module _ (room work : ℕ) (sizes : Stated z room work) where
     pub demand2-whole : decoding (recordWith z planes pyramid) room work
-        ≡ accepted (record { pyramid = pyramid; tail = 0; reached = replicate levelPlaces (record { 0 = 0 }) })
+        ≡ accepted (record { pyramid = pyramid; tail = 0; reached = replicate levelPlaces (record { 0 = 0 }); skipped = zeros levelPlaces })
     demand2-whole = laws.demand2-whole c count room work sizes
 
 -- "Records written earlier are still accepted .. and decode to the same pyramid" (W5).
 module _ {z : Size} {pyramid : List ℤ} (c : Codable z pyramid) (room work : ℕ) (sizes : Stated z room work) where
   pub earlier-whole : decoding (recordWith z (earlierPlanesIn pyramid) pyramid) room work
-      ≡ accepted (record { pyramid = pyramid; tail = 0; reached = replicate levelPlaces (record { 0 = 0 }) })
+      ≡ accepted (record { pyramid = pyramid; tail = 0; reached = replicate levelPlaces (record { 0 = 0 }); skipped = zeros levelPlaces })
   earlier-whole = laws.earlier-whole c room work sizes
 
   pub earlier-same : decoding (recordWith z (earlierPlanesIn pyramid) pyramid) room work ≡ decoding (recordOf z pyramid) room work

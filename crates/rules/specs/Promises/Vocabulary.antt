@@ -44,7 +44,7 @@ use mathlib.Core.Bool.{Bool, true, cond, _&&_, false}
 use mathlib.Core.Logic.{_⊎_, _↔_}
 use Prim.Native.Nat.{ℕ, _≤_, _%_, _^_, _+_, _/_, _*_, suc, _<_, _-_, max, zero}
 use lib.Dec.{leb, eqb}
-use lib.ListN.{length, take, getD}
+use lib.ListN.{length, take, drop, getD}
 use lib.IntN.{ℤ, natAbs, _-ℤ_, pos}
 use Rattle.rules.specs.declared.Size.{Size}
 use Rattle.rules.specs.declared.Refusal.{Refusal}
@@ -56,7 +56,7 @@ use Rattle.rules.specs.declared.Decoded.{Decoded}
 use Rattle.rules.specs.declared.Header.{Header}
 use Rattle.rules.specs.declared.HeaderRead.the-variants as header
 use Rattle.rules.specs.declared.Part.{Part}
-use Rattle.rules.specs.Document.Notation.{any, flat, zeros}
+use Rattle.rules.specs.Document.Notation.{any, count, flat, zeros}
 use Rattle.rules.specs.Document.Pyramid.{leastSide, greatestSide, mostDecompositions, legalSize, area, mostMagnitude, magnitude, mostPlanes, below0}
 use Rattle.rules.specs.Document.Pyramid.{negative, levels, levelOf}
 use Rattle.rules.specs.Document.Passes.{PartName, signed, partNames}
@@ -65,7 +65,7 @@ use Rattle.rules.specs.Document.Layout.{partsWith}
 use Rattle.rules.specs.Document.Numbers.{topLevel, follows, mostBits, headed, readParts, tail, verdictNumber, refusalNumber, verdictPlace, refusalPlace}
 use Rattle.rules.specs.Document.Numbers.{readHeader}
 use Rattle.rules.specs.Document.Calls.{firstOver, workFor, Result, Picture, accepted, levelPlaces, planeIn, refused, Portion, legalAsk, serving}
-use Rattle.rules.specs.Document.Calls.{portioned, Serving, servePlaces, AfsServe}
+use Rattle.rules.specs.Document.Calls.{portioned, Serving, servePlaces, AfsServe, skippedParts, countIn}
 use Rattle.rules.specs.Promises.Cases.{cases-hold}
 
 -- SIZES AND PARTS
@@ -224,6 +224,13 @@ pub record Rounded (z : Size) (planes : ℕ) (pyramid : List ℤ) (there : List 
   pub six : length (picture .reached) ≡ levelPlaces
   pub reports : (k : ℕ) → 1 ≤ k → k ≤ levels z → planeIn (picture .reached) (k - 1) ≡ reached (levels z) planes there k
   pub beyond : (k : ℕ) → levels z < k → planeIn (picture .reached) (k - 1) ≡ 0
+  -- So are the parts of each level that are there and not usable: so many that with the used ones, one for each plane from m on, they are all of
+  -- the level that are there. Beyond level N + 1 there are none.
+  pub six-counts : length (picture .skipped) ≡ levelPlaces
+  pub skips : (k : ℕ) → 1 ≤ k → k ≤ levels z → countIn (picture .skipped) (k - 1) ≡ skippedParts (headerOf z planes) there k
+  pub used-and-skipped : (k : ℕ) → 1 ≤ k → k ≤ levels z
+      → countIn (picture .skipped) (k - 1) + (planes - planeIn (picture .reached) (k - 1)) ≡ count (λ x. eqb (x .level) k) there
+  pub skips-beyond : (k : ℕ) → levels z < k → countIn (picture .skipped) (k - 1) ≡ 0
   -- The tail's length is that of the part that is cut.
   pub tail : picture .tail ≡ cut
 
@@ -377,9 +384,9 @@ pub record Serves {bytes s : List ℕ} (x : Selected bytes s) (r p : ℕ) (serve
   pub told : tail ≡ cutBytes x
 
 -- Of decoding, where the parts `there` arrived whole and `cut` bytes of one more. It came back with a number and a place, and told a tail and, for
--- each level k, `plane k`; out′ and work′ are the output and the workspace that it left.
-pub record Decodes (z : Size) (planes : ℕ) (pyramid : List ℤ) (there : List PartName) (cut : ℕ) (number place tail : ℕ) (plane : ℕ → ℕ) (out′ : List ℤ)
-    (work work′ : List ℕ) : Type 0 where
+-- each level k, `plane k` and `skip k`; out′ and work′ are the output and the workspace that it left.
+pub record Decodes (z : Size) (planes : ℕ) (pyramid : List ℤ) (there : List PartName) (cut : ℕ) (number place tail : ℕ) (plane skip : ℕ → ℕ)
+    (out′ : List ℤ) (work work′ : List ℕ) : Type 0 where
   -- It is accepted.
   pub accepts : number ≡ 0
   pub nowhere : place ≡ 0
@@ -395,14 +402,25 @@ pub record Decodes (z : Size) (planes : ℕ) (pyramid : List ℤ) (there : List 
   -- So what was lost shows: a part (n, k) of the record that did not arrive whole makes the plane told for level k greater than n, and that of
   -- every finer level too.
   pub shows : (n k : ℕ) → Named (levels z) planes (at n k) → present there (at n k) ≡ false → (j : ℕ) → 1 ≤ j → j ≤ k → n < plane j
+  -- The parts of the level that arrived whole and are not usable are counted: with the used ones, one for each plane from m on, they are all of
+  -- the level that arrived. Beyond level N + 1 there are none.
+  pub skips : (k : ℕ) → 1 ≤ k → k ≤ levels z → skip k ≡ skippedParts (headerOf z planes) there k
+  pub used-and-skipped : (k : ℕ) → 1 ≤ k → k ≤ levels z → skip k + (planes - plane k) ≡ count (λ x. eqb (x .level) k) there
+  pub skips-beyond : (k : ℕ) → levels z < k → skip k ≡ 0
   -- The tail is what arrived of the part that was cut, and the workspace is all 0.
   pub tails : tail ≡ cut
   pub clears : work′ ≡ zeros (length work)
 
--- The planes that an export tells, level 1 first, behind number, place and tail.
+-- The planes that an export tells, level 1 first, behind number, place and tail; and the counts of skipped parts behind them.
 abbrev pub planesTold : List ℕ → ℕ → ℕ
-planesTold told k = getD told (3 + (k - 1)) 0
+planesTold told k = getD (take levelPlaces (drop 3 told)) (k - 1) 0
+
+abbrev pub countsTold : List ℕ → ℕ → ℕ
+countsTold told k = getD (take levelPlaces (drop (3 + levelPlaces) told)) (k - 1) 0
 
 -- And those that the routine tells.
 abbrev pub planesAnswered : Decoded → ℕ → ℕ
 planesAnswered told k = planeIn (told .reached) (k - 1)
+
+abbrev pub countsAnswered : Decoded → ℕ → ℕ
+countsAnswered told k = countIn (told .skipped) (k - 1)

@@ -4,11 +4,11 @@ use mathlib.Core.Path.{_≡_, refl, ap, ap₂, sym, _∙_, subst, subst₂}
 use mathlib.Core.List.{List, [], _∷_, _++_, map}
 use mathlib.Core.Bool.{Bool, true, false, cond, _&&_}
 use mathlib.Core.Logic.{⊎-elim}
-use Prim.Native.Nat.{ℕ, zero, suc, _+_, _-_, _≤_, _<_}
+use Prim.Native.Nat.{ℕ, _+_, _-_, _≤_, _<_}
 use native.Mathlib.Omega.{arith}
 use native.Mathlib.Decide.{decLt, decLe}
-use lib.ListN.{length, getD, take, drop, replicate, length-append, replicate-append-replicate}
-use lib.Seq.{take-all, take-append-seam, getD-append-add, ext-getD}
+use lib.ListN.{length, getD, take, drop, replicate, length-append, replicate-append-replicate, List·getD-eq-default}
+use lib.Seq.{take-all, take-append-seam, ext-getD}
 use lib.IntN.{ℤ}
 use borrow.Author.Tests.{le-leb}
 use Rattle.rules.specs.declared.Size.{Size}
@@ -28,7 +28,7 @@ use Rattle.rules.specs.Document.Calls.{workFor, unless, legalAsk, portio
 use Rattle.rules.specs.Document.Calls.{Result, refused, accepted, Portion, Picture, coding, serving, decoding, filled, codeOut, codeAnswer}
 use Rattle.rules.specs.Document.Calls.{serveOut, serveAnswer}
 use Rattle.rules.specs.Document.Calls.{decodeOut, decodeAnswer, codeNumbers, serveNumbers, decodeNumbers, codePlaces, servePlaces, decodePlaces}
-use Rattle.rules.specs.Document.Calls.{levelPlaces, planeIn}
+use Rattle.rules.specs.Document.Calls.{levelPlaces, planeIn, countIn}
 use Rattle.rules.specs.Document.Calls.{Coding, Serving, Decoding, AfsCode, AfsServe, AfsDecode}
 use Rattle.rules.specs.Laws.Counting.Sums.{flat-append}
 use Rattle.rules.specs.Laws.Family.Sizes.{legal}
@@ -41,11 +41,11 @@ use Rattle.rules.specs.Laws.Counting.Booleans.{selection-both}
 use Rattle.rules.specs.Laws.Bytes.BodyBack.{packed-length, packed-clear, packed-bit, first-length, body-bit}
 use Rattle.rules.specs.Promises.Vocabulary.{bitsFrom, headerOf, partAt, selection, recordBytes, Codable, PlaneCount, Stated, enoughRoom, names, kept}
 use Rattle.rules.specs.Promises.Vocabulary.{asked, wholeIn, tailIn, arrived, towardZero, Rounded, ReadsAs, partsIn, keptIn, Selected, wholeParts}
-use Rattle.rules.specs.Promises.Vocabulary.{cutBytes, Recorded, Serves, Decodes, planesTold, planesAnswered}
+use Rattle.rules.specs.Promises.Vocabulary.{cutBytes, Recorded, Serves, Decodes, planesTold, planesAnswered, countsTold, countsAnswered}
 use Rattle.rules.specs.Laws.Bytes.PartBack.{part-body}
 use Rattle.rules.specs.Laws.Bytes.RecordBack.{beforeAll, parts-map}
 use Rattle.rules.specs.Laws.Rounding.Arrival.{header-read, parts-stand, AllThere, CutIn, all-or-cut, arrived-reads, arrived-selection, legal-order}
-use Rattle.rules.specs.Laws.Rounding.Run.{blank-same, kept-legal}
+use Rattle.rules.specs.Laws.Rounding.Run.{map-from, map-length, blank-same, kept-legal}
 use Rattle.rules.specs.Laws.Serving.Parts.{kept-wholes, serves-read, served-read}
 use Rattle.rules.specs.Laws.Calls.Arrived.{coding-codable, this-count, demand3, printed-near}
 use Rattle.rules.specs.Laws.Calls.Whole.{demand2-names, demand2-record, demand2-whole}
@@ -319,7 +319,8 @@ module _ {z : Size} {planes : ℕ} {pyramid : List ℤ} {bytes : List ℕ} (w : 
     abbrev its-picture : Picture
     its-picture = rounded .picture
 
-    decoding-answered : answer ≡ record { verdict = Accepted; tail = its-picture .tail; reached = its-picture .reached }
+    decoding-answered : answer
+        ≡ record { verdict = Accepted; tail = its-picture .tail; reached = its-picture .reached; skipped = its-picture .skipped }
     unfolding decodeAnswer
     decoding-answered = d .answers ∙ ap decodeAnswer (rounded .accepts)
 
@@ -328,10 +329,10 @@ module _ {z : Size} {planes : ℕ} {pyramid : List ℤ} {bytes : List ℕ} (w : 
     decoding-printed = d .writes ∙ ap (decodeOut (length out)) (rounded .accepts)
 
     pub decoding-decodes : Decodes z planes pyramid (names (wholeParts x)) (cutBytes x) (verdictNumber (answer .verdict)) (verdictPlace (answer .verdict))
-        (answer .tail) (planesAnswered answer) out′ work work′
+        (answer .tail) (planesAnswered answer) (countsAnswered answer) out′ work work′
     decoding-decodes =
         subst₂ (λ (a : Decoded) o. Decodes z planes pyramid (names (wholeParts x)) (cutBytes x) (verdictNumber (a .verdict)) (verdictPlace (a .verdict))
-        (a .tail) (planesAnswered a) o work work′) (sym decoding-answered) (sym decoding-printed)
+        (a .tail) (planesAnswered a) (countsAnswered a) o work work′) (sym decoding-answered) (sym decoding-printed)
         (record {
           accepts = refl;
           nowhere = refl;
@@ -343,6 +344,9 @@ module _ {z : Size} {planes : ℕ} {pyramid : List ℤ} {bytes : List ℕ} (w : 
           shows = λ n k named lost j a b.
               subst (λ m. n < m) (sym (rounded .reports j a (omega (arith, named .upTo))))
               (loss-shows (levels z) planes (names (wholeParts x)) n k named lost j b);
+          skips = rounded .skips;
+          used-and-skipped = rounded .used-and-skipped;
+          skips-beyond = rounded .skips-beyond;
           tails = rounded .tail;
           clears = d .clears;
         })
@@ -379,49 +383,46 @@ module _ {s : List ℕ} {r p : ℕ} {out answer out′ answer′ : List ℕ} (v 
           subst (λ a. Serves x r p (take (getD a 2 0) out′) (getD a 3 0) × (getD a 2 0 ≤ length out′)) (sym (c .3))
           (serving-serves (c .1) e w x, serving-wrote (c .1) e .1)
 
--- The places of a decoding's answer: behind number, place and tail the six planes, level 1 first, and behind them 0.
-told-six : (a : Decoded) (rest : List ℕ) (i : ℕ) → i < levelPlaces → getD (decodeNumbers a ++ rest) (3 + i) 0 ≡ planeIn (a .reached) i
-unfolding decodeNumbers from
-told-six a rest zero l = refl
-told-six a rest (suc zero) l = refl
-told-six a rest (suc (suc zero)) l = refl
-told-six a rest (suc (suc (suc zero))) l = refl
-told-six a rest (suc (suc (suc (suc zero)))) l = refl
-told-six a rest (suc (suc (suc (suc (suc zero))))) l = refl
-told-six a rest (suc (suc (suc (suc (suc (suc i)))))) l = absurd (omega arith)
-
-told-plane : (a : Decoded) (more i : ℕ) → (levelPlaces ≤ i → planeIn (a .reached) i ≡ 0)
-    → getD (decodeNumbers a ++ zeros more) (3 + i) 0 ≡ planeIn (a .reached) i
-unfolding decodeNumbers from
-told-plane a more i past = by (decLt i levelPlaces)
+-- What is told of the levels, place by place, and behind the last place 0.
+told-place : (f : ℕ → ℕ) (i : ℕ) → (levelPlaces ≤ i → f i ≡ 0) → getD (map f (from 0 levelPlaces)) i 0 ≡ f i
+told-place f i past = by (decLt i levelPlaces)
   where
-    by : Dec (i < levelPlaces) → getD (decodeNumbers a ++ zeros more) (3 + i) 0 ≡ planeIn (a .reached) i
-    by (yes l) = told-six a (zeros more) i l
+    by : Dec (i < levelPlaces) → getD (map f (from 0 levelPlaces)) i 0 ≡ f i
+    by (yes l) = let e : 0 + i ≡ i = omega arith in map-from f 0 0 levelPlaces i l ∙ ap f e
     by (no l) =
-        let e : 3 + i ≡ length (decodeNumbers a) + (i - levelPlaces) = omega arith in
-        ap (λ (j : ℕ). getD (decodeNumbers a ++ zeros more) j 0) e ∙ getD-append-add (decodeNumbers a) (zeros more) (i - levelPlaces) 0
-        ∙ blank-same 0 more (i - levelPlaces) ∙ sym (past (omega arith))
+        List·getD-eq-default (map f (from 0 levelPlaces)) 0 {n = i} (omega (arith, map-length f 0 levelPlaces)) ∙ sym (past (omega arith))
+
+module _ (a : Decoded) (rest : List ℕ) (k : ℕ) where
+  told-plane : (levelPlaces ≤ k - 1 → planeIn (a .reached) (k - 1) ≡ 0) → planesTold (decodeNumbers a ++ rest) k ≡ planesAnswered a k
+  unfolding decodeNumbers from
+  told-plane past = unfold from in told-place (planeIn (a .reached)) (k - 1) past
+
+  told-count : (levelPlaces ≤ k - 1 → countIn (a .skipped) (k - 1) ≡ 0) → countsTold (decodeNumbers a ++ rest) k ≡ countsAnswered a k
+  unfolding decodeNumbers from
+  told-count past = unfold from in told-place (countIn (a .skipped)) (k - 1) past
 
 module _ {z : Size} {planes : ℕ} {pyramid : List ℤ} {bytes : List ℕ} (w : Recorded z planes pyramid bytes) {s : List ℕ} (x : Selected bytes s) {out : List ℤ}
     {work answer : List ℕ} {number : ℕ} {out′ : List ℤ} {work′ answer′ : List ℕ} (d : AfsDecode s out work answer number out′ work′ answer′)
     (sizes : Stated z (length out) (length work)) (places : decodePlaces ≤ length answer) where
   pub afsDecode-prints : Decodes z planes pyramid (names (wholeParts x)) (cutBytes x) number (getD answer′ 1 0) (getD answer′ 2 0) (planesTold answer′)
-      out′ work work′
+      (countsTold answer′) out′ work work′
   unfolding decodeNumbers
   afsDecode-prints =
       let a = afsDecode-decodes d places in
       let y = decoding-decodes w x (a .1) sizes in
       let few : levels z ≤ levelPlaces = omega (arith, legal z (w .codable .legal-size) .few) in
-      let past : (i : ℕ) → levelPlaces ≤ i → planeIn (a .0 .reached) i ≡ 0
-      = λ i l. let e : i ≡ suc i - 1 = omega arith in ap (planeIn (a .0 .reached)) e ∙ y .beyond (suc i) (omega arith) in
-      let same-planes : (k : ℕ) → planesTold (decodeNumbers (a .0) ++ zeros (length answer - decodePlaces)) k ≡ planesAnswered (a .0) k
-      = λ k. told-plane (a .0) (length answer - decodePlaces) (k - 1) (past (k - 1)) in
-      subst₂ (λ (n : ℕ) (t : List ℕ). Decodes z planes pyramid (names (wholeParts x)) (cutBytes x) n (getD t 1 0) (getD t 2 0) (planesTold t) out′ work work′)
+      let rest : List ℕ = zeros (length answer - decodePlaces) in
+      let planes-told : (k : ℕ) → planesTold (decodeNumbers (a .0) ++ rest) k ≡ planesAnswered (a .0) k
+      = λ k. told-plane (a .0) rest k (λ l. y .beyond k (omega arith)) in
+      let counts-told : (k : ℕ) → countsTold (decodeNumbers (a .0) ++ rest) k ≡ countsAnswered (a .0) k
+      = λ k. told-count (a .0) rest k (λ l. y .skips-beyond k (omega arith)) in
+      subst₂ (λ (n : ℕ) (t : List ℕ).
+      Decodes z planes pyramid (names (wholeParts x)) (cutBytes x) n (getD t 1 0) (getD t 2 0) (planesTold t) (countsTold t) out′ work work′)
       (sym (a .2)) (sym (a .3))
-      (subst (λ (f : ℕ → ℕ).
-      Decodes z planes pyramid (names (wholeParts x)) (cutBytes x) (verdictNumber (a .0 .verdict)) (verdictPlace (a .0 .verdict)) (a .0 .tail) f out′
+      (subst₂ (λ (f g : ℕ → ℕ).
+      Decodes z planes pyramid (names (wholeParts x)) (cutBytes x) (verdictNumber (a .0 .verdict)) (verdictPlace (a .0 .verdict)) (a .0 .tail) f g out′
       work work′)
-      (λ i k. sym (same-planes k) i) y)
+      (λ i k. sym (planes-told k) i) (λ i k. sym (counts-told k) i) y)
 
 -- What holds of every selection of the record holds of a selection of one.
 module _ {z : Size} {planes : ℕ} {pyramid : List ℤ} {bytes s t : List ℕ} (w : Recorded z planes pyramid bytes) (x : Selected bytes s) (y : Selected s t) where
@@ -431,17 +432,19 @@ module _ {z : Size} {planes : ℕ} {pyramid : List ℤ} {bytes s t : List ℕ} (
   pub decoding-again : {out : List ℤ} {work : List ℕ} {answer : Decoded} {out′ : List ℤ} {work′ : List ℕ} → Decoding t out work answer out′ work′
       → Stated z (length out) (length work)
       → Decodes z planes pyramid (names (wholeParts y)) (cutBytes y) (verdictNumber (answer .verdict)) (verdictPlace (answer .verdict)) (answer .tail)
-      (planesAnswered answer) out′ work work′
+      (planesAnswered answer) (countsAnswered answer) out′ work work′
   decoding-again {work = work} {answer = a} {out′ = out′} {work′ = work′} d sizes =
       holds-again (λ ps n.
-      Decodes z planes pyramid ps n (verdictNumber (a .verdict)) (verdictPlace (a .verdict)) (a .tail) (planesAnswered a) out′ work work′) (λ u.
-      decoding-decodes w u d sizes)
+      Decodes z planes pyramid ps n (verdictNumber (a .verdict)) (verdictPlace (a .verdict)) (a .tail) (planesAnswered a) (countsAnswered a) out′
+      work work′) (λ u. decoding-decodes w u d sizes)
 
   pub afsDecode-again : {out : List ℤ} {work answer : List ℕ} {number : ℕ} {out′ : List ℤ} {work′ answer′ : List ℕ}
       → AfsDecode t out work answer number out′ work′ answer′ → Stated z (length out) (length work) → decodePlaces ≤ length answer
-      → Decodes z planes pyramid (names (wholeParts y)) (cutBytes y) number (getD answer′ 1 0) (getD answer′ 2 0) (planesTold answer′) out′ work work′
+      → Decodes z planes pyramid (names (wholeParts y)) (cutBytes y) number (getD answer′ 1 0) (getD answer′ 2 0) (planesTold answer′)
+      (countsTold answer′) out′ work work′
   afsDecode-again {work = work} {number = number} {out′ = out′} {work′ = work′} {answer′ = answer′} d sizes places =
-      holds-again (λ ps n. Decodes z planes pyramid ps n number (getD answer′ 1 0) (getD answer′ 2 0) (planesTold answer′) out′ work work′) (λ u.
+      holds-again (λ ps n.
+      Decodes z planes pyramid ps n number (getD answer′ 1 0) (getD answer′ 2 0) (planesTold answer′) (countsTold answer′) out′ work work′) (λ u.
       afsDecode-prints w u d sizes places)
 
 -- With nothing left out and nothing cut.
@@ -449,11 +452,12 @@ no-planes : List Plane
 no-planes = replicate levelPlaces (record { 0 = 0 })
 
 blank-answer : Decoded
-blank-answer = record { verdict = Accepted; tail = 0; reached = no-planes }
+blank-answer = record { verdict = Accepted; tail = 0; reached = no-planes; skipped = zeros levelPlaces }
 
 module _ {z : Size} {planes : ℕ} {pyramid : List ℤ} {bytes : List ℕ} (w : Recorded z planes pyramid bytes) {out : List ℤ} {work : List ℕ} {answer : Decoded}
     {out′ : List ℤ} {work′ : List ℕ} (d : Decoding bytes out work answer out′ work′) (sizes : Stated z (length out) (length work)) where
-  whole-decoded : decoding bytes (length out) (length work) ≡ accepted (record { pyramid = pyramid; tail = 0; reached = no-planes })
+  whole-decoded : decoding bytes (length out) (length work)
+      ≡ accepted (record { pyramid = pyramid; tail = 0; reached = no-planes; skipped = zeros levelPlaces })
   unfolding no-planes
   whole-decoded = ap (λ b. decoding b (length out) (length work)) (w .its-bytes) ∙ demand2-whole (w .codable) (w .count) (length out) (length work) sizes
 
@@ -469,17 +473,21 @@ module _ {z : Size} {planes : ℕ} {pyramid : List ℤ} {bytes : List ℕ} (w : 
   unfolding planeIn blank-answer no-planes
   whole-planes k = ap (λ a. planesAnswered a k) whole-answered ∙ ap (λ (p : Plane). p .0) (blank-same (record { 0 = 0 }) levelPlaces (k - 1))
 
+  whole-counts : (k : ℕ) → countsAnswered answer k ≡ 0
+  unfolding countIn blank-answer
+  whole-counts k = ap (λ a. countsAnswered a k) whole-answered ∙ blank-same 0 levelPlaces (k - 1)
+
   pub decoding-whole : (answer .verdict ≡ Accepted) × (out′ ≡ pyramid) × (answer .tail ≡ 0) × ((k : ℕ) → planesAnswered answer k ≡ 0)
-      × (work′ ≡ zeros (length work))
+      × ((k : ℕ) → countsAnswered answer k ≡ 0) × (work′ ≡ zeros (length work))
   unfolding blank-answer
   decoding-whole =
-      (ap (λ a. a .verdict) whole-answered, whole-printed, ap (λ a. a .tail) whole-answered, whole-planes, d .clears)
+      (ap (λ a. a .verdict) whole-answered, whole-printed, ap (λ a. a .tail) whole-answered, whole-planes, whole-counts, d .clears)
 
 module _ {z : Size} {planes : ℕ} {pyramid : List ℤ} {bytes : List ℕ} (w : Recorded z planes pyramid bytes) {out : List ℤ} {work answer : List ℕ} {number : ℕ}
     {out′ : List ℤ} {work′ answer′ : List ℕ} (d : AfsDecode bytes out work answer number out′ work′ answer′)
     (sizes : Stated z (length out) (length work)) (places : decodePlaces ≤ length answer) where
   blank-numbers : decodeNumbers blank-answer ≡ zeros decodePlaces
-  unfolding decodeNumbers blank-answer no-planes planeIn from
+  unfolding decodeNumbers blank-answer no-planes planeIn countIn from
   blank-numbers = refl
 
   pub afsDecode-whole : (number ≡ 0) × (out′ ≡ pyramid) × (answer′ ≡ zeros (length answer)) × (work′ ≡ zeros (length work))

@@ -184,17 +184,18 @@ serving-refused {s = s} {r = r} {p = p} {out = out} {answer = answer} x =
 pub decoding-refused : {s : List ℕ} {out : List ℤ} {work : List ℕ} {answer : Decoded} {out′ : List ℤ} {work′ : List ℕ}
     → Decoding s out work answer out′ work′
     → Exactly (DecodingCase s (length out) (length work)) decodingNumbers (answer .verdict)
-    ((answer .tail ≡ 0) × (answer .reached ≡ replicate levelPlaces (record { 0 = 0 })) × (out′ ≡ replicate (length out) (pos 0))
+    ((answer .tail ≡ 0) × (answer .reached ≡ replicate levelPlaces (record { 0 = 0 })) × (answer .skipped ≡ zeros levelPlaces)
+    × (out′ ≡ replicate (length out) (pos 0)) × (work′ ≡ zeros (length work)))
+    (λ x. (answer .tail ≡ x .tail) × (answer .reached ≡ x .reached) × (answer .skipped ≡ x .skipped) × (out′ ≡ x .pyramid)
     × (work′ ≡ zeros (length work)))
-    (λ x. (answer .tail ≡ x .tail) × (answer .reached ≡ x .reached) × (out′ ≡ x .pyramid) × (work′ ≡ zeros (length work)))
 unfolding decodeAnswer decodeOut verdictOf
 decoding-refused {s = s} {out = out} {work = work} {answer = answer} {out′ = out′} x =
     let y : Result Picture = decoding s (length out) (length work) in
     let c : DecodingCase s (length out) (length work) y = decoding-case s (length out) (length work) in
     exactly (DecodingCase s (length out) (length work)) y c (decoding-is s (length out) (length work)) decodingNumbers (decoding-gives c)
     (answer .verdict) (ap (λ a. a .verdict) (x .answers) ∙ verdict y)
-    _ (λ r e. let a = x .answers ∙ ap decodeAnswer e in (ap (λ a. a .tail) a, ap (λ a. a .reached) a, written e, x .clears))
-    _ (λ q e. let a = x .answers ∙ ap decodeAnswer e in (ap (λ a. a .tail) a, ap (λ a. a .reached) a, written e, x .clears))
+    _ (λ r e. let a = x .answers ∙ ap decodeAnswer e in (ap (λ a. a .tail) a, ap (λ a. a .reached) a, ap (λ a. a .skipped) a, written e, x .clears))
+    _ (λ q e. let a = x .answers ∙ ap decodeAnswer e in (ap (λ a. a .tail) a, ap (λ a. a .reached) a, ap (λ a. a .skipped) a, written e, x .clears))
   where
     written : {y : Result Picture} → decoding s (length out) (length work) ≡ y → out′ ≡ decodeOut (length out) y
     written e = x .writes ∙ ap (decodeOut (length out)) e

@@ -1,5 +1,5 @@
--- Demand 2, for Promises/Two: the coder's record has every part, what is served of it, and that with every part there every level reaches plane 0,
--- so that a whole record decodes to the pyramid.
+-- Demand 2, for Promises/Two: the coder's record has every part, what is served of it, and that with every part there every level reaches plane 0
+-- and none is skipped, so that a whole record decodes to the pyramid.
 use mathlib.Core.Path.{_≡_, refl, ap, sym, _∙_, subst}
 use mathlib.Core.List.{List, [], _∷_, _++_, append-assoc}
 use mathlib.Core.Bool.{Bool, true}
@@ -13,17 +13,18 @@ use borrow.Author.Tests.{leb-true}
 use Rattle.rules.specs.declared.Size.{Size}
 use Rattle.rules.specs.declared.Plane.{Plane}
 use Rattle.rules.specs.declared.Refusal.the-variants as refusal
-use Rattle.rules.specs.Document.Notation.{any, every}
+use Rattle.rules.specs.Document.Notation.{any, every, zeros}
 use Rattle.rules.specs.Document.Pyramid.{levels, levelOf, family, magnitude, negative}
 use Rattle.rules.specs.Document.Passes.{PartName, partNames, start}
-use Rattle.rules.specs.Document.Layout.{partsWith, recordWith, earlierPlanesIn, recordOf, reached}
-use Rattle.rules.specs.Document.Calls.{accepted, unless, legalAsk, portioned, serving, levelPlaces, planeIn, decoding}
+use Rattle.rules.specs.Document.Layout.{partsWith, recordWith, earlierPlanesIn, recordOf, usable, reached}
+use Rattle.rules.specs.Document.Calls.{accepted, unless, legalAsk, portioned, serving, levelPlaces, planeIn, countIn, decoding}
 use Rattle.rules.specs.Laws.Counting.Booleans.{both, either-right}
 use Rattle.rules.specs.Laws.Counting.Sums.{all-of}
-use Rattle.rules.specs.Laws.Reading.Parts.{name-same, present-append, every-name}
+use Rattle.rules.specs.Laws.Reading.Parts.{name-same, present-append, every-name, names-named}
 use Rattle.rules.specs.Promises.Vocabulary.{at, Named, present, headerOf, recordBytes, Codable, Stated, PlaneCount, names, kept, asked, wholeIn, tailIn}
 use Rattle.rules.specs.Promises.Vocabulary.{arrived, Rounded, ReadsAs}
 use Rattle.rules.specs.Laws.Reading.Usable.{every-usable, usable-reached, reached-within}
+use Rattle.rules.specs.Laws.Reading.Skipped.{skipped-none}
 use Rattle.rules.specs.Laws.Bytes.RecordBack.{coded-names}
 use Rattle.rules.specs.Laws.Rounding.TowardZero.{toward-all, signed-itself}
 use Rattle.rules.specs.Laws.Rounding.Arrival.{record-reads, arrived-reads, selection-all}
@@ -50,15 +51,21 @@ pub demand2-every : (z : Size) (planes : ℕ) (pyramid : List ℤ) (p : PartName
     → present (names (partsWith z planes pyramid)) p ≡ true
 demand2-every z planes pyramid p n = rw (demand2-names z planes pyramid) (all-present (levels z) planes p n)
 
--- Where every part is there, every level reached plane 0.
+-- Where every part is there, all are usable: every level reached plane 0, and none is skipped.
+all-usable : (top planes : ℕ) (p : PartName) → usable top planes (partNames top planes) p ≡ true
+all-usable top planes p = every-usable top planes (partNames top planes) p (λ q n a b. all-present top planes q n)
+
 all-reached : (top planes k : ℕ) → reached top planes (partNames top planes) k ≡ 0
 all-reached top planes k = by (decLt 0 planes)
   where
     by : Dec (0 < planes) → reached top planes (partNames top planes) k ≡ 0
     by (no l) = omega (arith, reached-within top planes (partNames top planes) k)
     by (yes l) =
-        let u = every-usable top planes (partNames top planes) (at 0 k) (λ q n a b. all-present top planes q n) in
-        omega (arith, leb-true (reached top planes (partNames top planes) k) 0 (sym (usable-reached top planes (partNames top planes) 0 k l) ∙ u))
+        omega (
+          arith,
+          leb-true (reached top planes (partNames top planes) k) 0
+              (sym (usable-reached top planes (partNames top planes) 0 k l) ∙ all-usable top planes (at 0 k)),
+        )
 
 module _ {z : Size} {pyramid : List ℤ} (c : Codable z pyramid) {planes : ℕ} (count : PlaneCount pyramid planes) where
   -- It reads as its header and these parts, and has no tail.
@@ -86,7 +93,7 @@ module _ {z : Size} {pyramid : List ℤ} (c : Codable z pyramid) {planes : ℕ} 
       (kept-legal z (c .legal-size) planes pyramid keep) n)
       (c .legal-size) (count .few) r p room
 
-  -- A whole record decodes to the pyramid, every level to plane 0.
+  -- A whole record decodes to the pyramid, every level to plane 0, and no part is skipped.
   module _ (room work : ℕ) (sizes : Stated z room work) where
     whole : Rounded z planes pyramid (partNames (levels z) planes) 0 (decoding (recordWith z planes pyramid) room work)
     whole =
@@ -105,6 +112,17 @@ module _ {z : Size} {pyramid : List ℤ} (c : Codable z pyramid) {planes : ℕ} 
         by (yes l) = whole .reports (suc i) (omega arith) l ∙ all-reached (levels z) planes (suc i)
         by (no l) = whole .beyond (suc i) (omega arith)
 
+    skipped0 : (i : ℕ) → countIn (whole .picture .skipped) i ≡ 0
+    skipped0 i =
+        let e : suc i - 1 ≡ i = omega arith in
+        ap (countIn (whole .picture .skipped)) (sym e) ∙ by (decLe (suc i) (levels z))
+      where
+        by : Dec (suc i ≤ levels z) → countIn (whole .picture .skipped) (suc i - 1) ≡ 0
+        by (yes l) =
+            whole .skips (suc i) (omega arith) l
+            ∙ skipped-none (headerOf z planes) (partNames (levels z) planes) (names-named (levels z) planes) (λ p n. all-usable (levels z) planes p) (suc i)
+        by (no l) = whole .skips-beyond (suc i) (omega arith)
+
     same-value : (q : ℕ) → q < length (whole .picture .pyramid) → getD (whole .picture .pyramid) q (pos 0) ≡ getD pyramid q (pos 0)
     unfolding magnitude negative
     same-value q l =
@@ -118,20 +136,26 @@ module _ {z : Size} {pyramid : List ℤ} (c : Codable z pyramid) {planes : ℕ} 
         (λ j. record { 0 = reached0 i j })
         ∙ sym (getD-replicate levelPlaces i (record { 0 = 0 }) (record { 0 = 0 }) (omega (arith, whole .six)))
 
+    same-count : (i : ℕ) → i < length (whole .picture .skipped) → getD (whole .picture .skipped) i 0 ≡ getD (zeros levelPlaces) i 0
+    unfolding countIn
+    same-count i l = skipped0 i ∙ sym (getD-replicate levelPlaces i 0 0 (omega (arith, whole .six-counts)))
+
     pub demand2-whole : decoding (recordWith z planes pyramid) room work
-        ≡ accepted (record { pyramid = pyramid; tail = 0; reached = replicate levelPlaces (record { 0 = 0 }) })
+        ≡ accepted (record { pyramid = pyramid; tail = 0; reached = replicate levelPlaces (record { 0 = 0 }); skipped = zeros levelPlaces })
     demand2-whole =
         let a : whole .picture .pyramid ≡ pyramid
         = ext-getD (pos 0) (whole .picture .pyramid) pyramid (whole .sized ∙ sym (c .sized)) same-value in
         let none : Plane = record { 0 = 0 } in
         let b : whole .picture .reached ≡ replicate levelPlaces (record { 0 = 0 })
         = ext-getD (record { 0 = 0 }) (whole .picture .reached) _ (whole .six ∙ sym (length-replicate levelPlaces none)) same-plane in
-        whole .accepts ∙ ap accepted (λ i. record { pyramid = a i; tail = whole .tail i; reached = b i })
+        let d : whole .picture .skipped ≡ zeros levelPlaces
+        = ext-getD 0 (whole .picture .skipped) _ (whole .six-counts ∙ sym (length-replicate {A = ℕ} levelPlaces 0)) same-count in
+        whole .accepts ∙ ap accepted (λ i. record { pyramid = a i; tail = whole .tail i; reached = b i; skipped = d i })
 
 -- "Records written earlier are still accepted .. and decode to the same pyramid" (W5).
 module _ {z : Size} {pyramid : List ℤ} (c : Codable z pyramid) (room work : ℕ) (sizes : Stated z room work) where
   pub earlier-whole : decoding (recordWith z (earlierPlanesIn pyramid) pyramid) room work
-      ≡ accepted (record { pyramid = pyramid; tail = 0; reached = replicate levelPlaces (record { 0 = 0 }) })
+      ≡ accepted (record { pyramid = pyramid; tail = 0; reached = replicate levelPlaces (record { 0 = 0 }); skipped = zeros levelPlaces })
   earlier-whole = demand2-whole c (earlier-count c) room work sizes
 
   pub earlier-same : decoding (recordWith z (earlierPlanesIn pyramid) pyramid) room work ≡ decoding (recordOf z pyramid) room work

@@ -9,7 +9,7 @@
 --   Every P xs    P of each q that stands in xs: All, said by count
 use mathlib.Core.Path.{_≡_, refl, ap, ap₂, sym, _∙_, subst}
 use mathlib.Core.List.{List, [], _∷_, _++_, map, append-assoc}
-use mathlib.Core.Bool.{Bool, true, false, _&&_, _||_, true≢false, false≢true}
+use mathlib.Core.Bool.{Bool, true, false, cond, _&&_, _||_, true≢false, false≢true}
 use mathlib.Core.Logic.{_≢_}
 use Prim.Native.Nat.{ℕ, zero, suc, _+_, _*_, _≤_, _<_}
 use native.Mathlib.Omega.{arith}
@@ -18,7 +18,7 @@ use native.Mathlib.Nat.{mul-le-mul, mul-le-mul-left}
 use lib.Dec.{eqb, ltb}
 use lib.ListN.{length}
 use borrow.Author.Tests.{eq-eqb, ne-eqb, lt-ltb, le-ltb}
-use Rattle.rules.specs.Document.Notation.{any, flat, ifAny}
+use Rattle.rules.specs.Document.Notation.{any, count, flat, ifAny}
 use Rattle.rules.specs.Document.Passes.{from}
 
 unfoldable pub All : {X : Type 0} → (X → Type 0) → List X → Type 0
@@ -286,6 +286,25 @@ any-at t xs q i h = go (any t xs) refl
     go false e = absurd (true≢false (sym h ∙ any-false t xs e q i))
 
 -- from of the passes: each number of a range once
+-- How many pass a test: of one more at the end, and of such that don't.
+count-sum : {X : Type 0} (t : X → Bool) (xs : List X) → count t xs ≡ sum (λ x. one (t x)) xs
+unfolding count sum one
+count-sum t [] = refl
+count-sum t (x ∷ xs) = by (t x) (count-sum t xs)
+  where
+    by : (b : Bool) → count t xs ≡ sum (λ x. one (t x)) xs → cond b (suc (count t xs)) (count t xs) ≡ one b + sum (λ x. one (t x)) xs
+    by true e = omega arith
+    by false e = omega arith
+
+pub count-last : {X : Type 0} (t : X → Bool) (xs : List X) (x : X) → count t (xs ++ (x ∷ [])) ≡ count t xs + one (t x)
+unfolding sum
+count-last t xs x =
+    omega (arith, count-sum t (xs ++ (x ∷ [])), count-sum t xs, sum-append (λ x. one (t x)) xs (x ∷ []))
+
+pub count-none : {X : Type 0} (t : X → Bool) (xs : List X) → All (λ x. t x ≡ false) xs → count t xs ≡ 0
+unfolding one
+count-none t xs a = count-sum t xs ∙ sum-zero (λ x. one (t x)) xs (all-then _ _ xs (λ x e. ap one e) a)
+
 pub from-add : (a m k : ℕ) → from a (m + k) ≡ from a m ++ from (a + m) k
 unfolding from
 from-add a zero k = let e : 0 + k ≡ k = omega arith in let f : a + 0 ≡ a = omega arith in rw (e, f)

@@ -16,8 +16,8 @@ use Rattle.rules.specs.Document.Notation.{flat}
 use Rattle.rules.specs.Document.Pyramid.{mostPlanes, legalSize}
 use Rattle.rules.specs.Document.Passes.{PartName}
 use Rattle.rules.specs.Document.Layout.{headerBytes, CodedPart, partBytes}
-use Rattle.rules.specs.Document.Numbers.{readHeader, follows, tail, readParts}
-use Rattle.rules.specs.Promises.Vocabulary.{ReadsAs, names, kept, wholeIn, tailIn, arrived, headerOf, recordBytes, partsAt, selection}
+use Rattle.rules.specs.Document.Numbers.{readHeader, follows, tail, readParts, topLevel}
+use Rattle.rules.specs.Promises.Vocabulary.{Named, ReadsAs, names, kept, wholeIn, tailIn, arrived, headerOf, recordBytes, partsAt, selection}
 use Rattle.rules.specs.Laws.Counting.Booleans.{not-test, selection-both}
 use Rattle.rules.specs.Laws.Counting.Sums.{All, all-then, map-all}
 use Rattle.rules.specs.Laws.Reading.Parts.{InOrder, After, follows-after, after-follows, order-front, order-behind, legal-head}
@@ -199,8 +199,13 @@ arrived-selection keep n before ps order = ⊎-elim there cut (all-or-cut n (kep
           ∙ kept-earlier before (wholeIn n (kept keep ps)) (c .q) (c .later) (subst (λ x. InOrder before (names x)) (c .parts) order),
     )
 
--- Parts that may stand in a record are in order.
+-- Parts that may stand in a record are in order, and each is one that the record may have.
 pub legal-order : (h : Header) (before : PartName) (ps : List CodedPart) → LegalParts h before ps → InOrder before (names ps)
 unfolding LegalParts InOrder
 legal-order h before [] ok = tt
 legal-order h before (p ∷ ps) ok = (legal-head h before (p .name) (length (p .bits)) (ok .0) .in-order, legal-order h (p .name) ps (ok .1))
+
+pub legal-named : (h : Header) (before : PartName) (ps : List CodedPart) → LegalParts h before ps → All (Named (topLevel h) (h .planes)) (names ps)
+unfolding LegalParts All
+legal-named h before [] ok = tt
+legal-named h before (p ∷ ps) ok = (legal-head h before (p .name) (length (p .bits)) (ok .0) .named, legal-named h (p .name) ps (ok .1))

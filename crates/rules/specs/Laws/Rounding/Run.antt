@@ -6,39 +6,41 @@ use mathlib.Core.Bool.{Bool, true, false, cond, true≢false}
 use Prim.Native.Nat.{ℕ, zero, suc, _+_, _-_, _^_, _≤_, _<_}
 use native.Mathlib.Omega.{arith}
 use native.Mathlib.Decide.{ℕ-discrete, decLt}
-use lib.Dec.{ltb}
+use lib.Dec.{ltb, eqb}
 use lib.ListN.{length, getD, replicate, length-replicate, getD-replicate, List·getD-eq-default}
 use lib.IntN.{ℤ, pos, natAbs}
 use borrow.Author.Tests.{le-leb, lt-leb, lt-ltb, eq-eqb}
 use Rattle.rules.specs.declared.Size.{Size}
 use Rattle.rules.specs.declared.Plane.{Plane}
 use Rattle.rules.specs.declared.Header.{Header}
+use Rattle.rules.specs.Document.Notation.{count}
 use Rattle.rules.specs.Document.Pyramid.{legalSize, area, levels, levelOf, family, below0, magnitude, negative, mostPlanes}
 use Rattle.rules.specs.Document.Passes.{State, start, from, PartName, partNames, signed}
 use Rattle.rules.specs.Document.Layout.{headerBytes, CodedPart, partsWith, nameOf, reached}
 use Rattle.rules.specs.Document.Numbers.{tail, topLevel}
 use Rattle.rules.specs.Document.Calls.{accepted, unless, workFor, onHeader, onEnding, Progress, going, unfit, decodeParts, levelPlaces}
-use Rattle.rules.specs.Document.Calls.{reachedPlane, reachedPlanes, planeIn}
+use Rattle.rules.specs.Document.Calls.{reachedPlane, reachedPlanes, planeIn, skippedParts, skippedCounts, countIn}
 use Rattle.rules.specs.Document.Calls.{pictured, decodedParts, decoding}
 use Rattle.rules.specs.Laws.Counting.Sums.{sum, one, one-most, is, _∈_, All, Every, all-then, all-every, from-length, from-all, from-once}
 use Rattle.rules.specs.Laws.Family.Sizes.{legal}
 use Rattle.rules.specs.Promises.Vocabulary.{Legal, present, headerOf, partsAt, selection, Stated, names, kept, wholeIn, tailIn, arrived, towardZero}
-use Rattle.rules.specs.Promises.Vocabulary.{Rounded, ReadsAs}
+use Rattle.rules.specs.Promises.Vocabulary.{Rounded, ReadsAs, Named}
 use Rattle.rules.specs.Laws.Offspring.Level.{level-most, level-least}
 use Rattle.rules.specs.Laws.Offspring.Lawful.{lawful}
 use Rattle.rules.specs.Laws.Offspring.Start.{start-top, start-else}
 use Rattle.rules.specs.Laws.State.Parts.{partNames-levels, codedParts-bits}
 use Rattle.rules.specs.Laws.State.Record.{start-sound}
-use Rattle.rules.specs.Laws.Reading.Parts.{absent, names-named, names-in-order}
+use Rattle.rules.specs.Laws.Reading.Parts.{InOrder, absent, names-named, names-in-order}
 use Rattle.rules.specs.Laws.Reading.Usable.{usable-there, usable-reached, reached-within, reached-falls}
+use Rattle.rules.specs.Laws.Reading.Skipped.{used-and-skipped-there, skipped-beyond}
 use Rattle.rules.specs.Laws.Bytes.RecordBack.{beforeAll, LegalParts, parts-names, selection-legal, coded-legal}
 use Rattle.rules.specs.Laws.Rounding.TowardZero.{signed-magnitude, signed-sign}
 use Rattle.rules.specs.Laws.Rounding.KnownState.{known-value}
 use Rattle.rules.specs.Laws.Rounding.Rebuilt.{rebuilt, OnTheWay, Ended, rebuilt-ends}
 use Rattle.rules.specs.Laws.Rounding.Followed.{Arrives, decodes-rebuilt}
-use Rattle.rules.specs.Laws.Rounding.Arrival.{header-read, parts-stand, arrived-reads, arrived-selection, legal-order}
+use Rattle.rules.specs.Laws.Rounding.Arrival.{header-read, parts-stand, arrived-reads, arrived-selection, legal-order, legal-named}
 
--- The reached planes, place by place.
+-- The reached planes and the counts, place by place.
 pub map-from : {X : Type 0} (f : ℕ → X) (d : X) (a m i : ℕ) → i < m → getD (map f (from a m)) i d ≡ f (a + i)
 unfolding from
 map-from f d a zero i l = absurd (omega arith)
@@ -76,6 +78,30 @@ module _ (h : Header) (there : List PartName) where
           ap (λ (x : Plane). x .0)
           (List·getD-eq-default (map (reachedPlane h there) (from 1 levelPlaces)) (record { 0 = 0 }) {n = k - 1}
           (omega (arith, map-length (reachedPlane h there) 1 levelPlaces)))
+
+  counts-six : length (skippedCounts h there) ≡ levelPlaces
+  unfolding skippedCounts
+  counts-six = map-length (skippedParts h there) 1 levelPlaces
+
+  counts-level : (k : ℕ) → 1 ≤ k → k ≤ levelPlaces → countIn (skippedCounts h there) (k - 1) ≡ skippedParts h there k
+  unfolding countIn skippedCounts
+  counts-level k a b =
+      let e : 1 + (k - 1) ≡ k = omega arith in
+      map-from (skippedParts h there) 0 1 levelPlaces (k - 1) (omega arith) ∙ ap (skippedParts h there) e
+
+  counts-all : (before : PartName) → InOrder before there → All (Named (topLevel h) (h .planes)) there → (k : ℕ) → 1 ≤ k → k ≤ topLevel h
+      → topLevel h ≤ levelPlaces
+      → countIn (skippedCounts h there) (k - 1) + (h .planes - planeIn (reachedPlanes h there) (k - 1)) ≡ count (λ x. eqb (x .level) k) there
+  counts-all before order named k a b c =
+      rw (counts-level k a (omega arith), reports-level k a b c) (used-and-skipped-there h before there order named k a b)
+
+  counts-beyond : All (Named (topLevel h) (h .planes)) there → (k : ℕ) → topLevel h < k → countIn (skippedCounts h there) (k - 1) ≡ 0
+  unfolding countIn
+  counts-beyond named k a = by (decLt (k - 1) levelPlaces)
+    where
+      by : Dec (k - 1 < levelPlaces) → getD (skippedCounts h there) (k - 1) 0 ≡ 0
+      by (yes l) = counts-level k (omega arith) (omega arith) ∙ skipped-beyond h there named k a
+      by (no l) = List·getD-eq-default (skippedCounts h there) 0 {n = k - 1} (omega (arith, counts-six))
 
 -- What passed a test is not there if it does not pass.
 kept-passes : (keep : PartName → Bool) (ps : List CodedPart) → All (λ p. keep p ≡ true) (names (kept keep ps))
@@ -185,7 +211,7 @@ module _ (z : Size) (ok : legalSize z ≡ true) (planes : ℕ) (few : planes ≤
         (sizes : Stated z room work) where
       accepts-read : (s : State) (v : List ℤ)
           → rebuilt (family z) (magnitude pyramid) (negative pyramid) R (partNames (levels z) planes) (start z) blank ≡ going s v
-          → decoding bytes room work ≡ accepted (record { pyramid = v; tail = cut; reached = reachedPlanes h there })
+          → decoding bytes room work ≡ accepted (record { pyramid = v; tail = cut; reached = reachedPlanes h there; skipped = skippedCounts h there })
       unfolding decoding onHeader unless decodedParts pictured onEnding
       accepts-read s v e =
           let same : map nameOf (partsAt (length (headerBytes z planes)) (kept keep (partsWith z planes pyramid))) ≡ there
@@ -213,13 +239,19 @@ module _ (z : Size) (ok : legalSize z ≡ true) (planes : ℕ) (few : planes ≤
               known-value (magnitude pyramid) (negative pyramid) (w .sound) R (reached-falls (levels z) planes there) (w .known) q (counted q l)
               (level-least z Z q l) (level-most z q)
 
+          all-named : All (Named (levels z) planes) there
+          all-named = legal-named h (beforeAll planes) (kept keep (partsWith z planes pyramid)) (kept-legal z ok planes pyramid keep)
+
+          in-order : InOrder (beforeAll planes) there
+          in-order = legal-order h (beforeAll planes) (kept keep (partsWith z planes pyramid)) (kept-legal z ok planes pyramid keep)
+
           by : (g : Progress) → rebuilt (family z) (magnitude pyramid) (negative pyramid) R (partNames (levels z) planes) (start z) blank ≡ g
               → Ended (family z) (magnitude pyramid) (negative pyramid) R (levels z) all (area z) g
               → Rounded z planes pyramid there cut (decoding bytes room work)
           by (unfit place) e w = absurd w
           by (going s v) e w =
               record {
-                picture = record { pyramid = v; tail = cut; reached = reachedPlanes h there };
+                picture = record { pyramid = v; tail = cut; reached = reachedPlanes h there; skipped = skippedCounts h there };
                 accepts = accepts-read s v e;
                 sized = w .sized;
                 values = value s v w;
@@ -231,6 +263,10 @@ module _ (z : Size) (ok : legalSize z ≡ true) (planes : ℕ) (few : planes ≤
                 six = reports-six h there;
                 reports = λ k a b. reports-level h there k a b (omega (arith, Z .few));
                 beyond = reports-beyond h there;
+                six-counts = counts-six h there;
+                skips = λ k a b. counts-level h there k a (omega (arith, Z .few));
+                used-and-skipped = λ k a b. counts-all h there (beforeAll planes) in-order all-named k a b (omega (arith, Z .few));
+                skips-beyond = counts-beyond h there all-named;
                 tail = refl;
               }
 
