@@ -1,12 +1,12 @@
 -- The planes reached, held level 1 first: what they are before any part and after one, and the test whether a part is usable.
 use mathlib.Core.Path.{_≡_, refl, ap, ap₂, sym, _∙_}
 use mathlib.Core.List.{List, [], _∷_, map}
-use mathlib.Core.Bool.{Bool, true, false, cond, _&&_}
+use mathlib.Core.Bool.{true, false, cond}
 use Prim.Native.Nat.{ℕ, zero, suc, _+_, _-_, _≤_, _<_}
 use native.Mathlib.Omega.{arith}
 use native.Mathlib.Decide.{decLe}
 use lib.Dec.{leb, eqb}
-use lib.ListN.{length, getD, set, replicate, List·getD-eq-default}
+use lib.ListN.{length, set, replicate, List·getD-eq-default}
 use borrow.Author.Tests.{le-leb, lt-leb, eq-eqb, ne-eqb}
 use Rattle.rules.specs.declared.Size.{Size}
 use Rattle.rules.specs.declared.Plane.{Plane}
@@ -16,9 +16,11 @@ use Rattle.rules.specs.Document.Numbers.{topLevel}
 use Rattle.rules.specs.Document.Passes.{PartName, from}
 use Rattle.rules.specs.Document.Layout.{reached}
 use Rattle.rules.specs.Document.Calls.{levelPlaces, planeIn, reachedPlane, reachedPlanes}
+use Rattle.rules.specs.Laws.Counting.Booleans.{both-false}
 use Rattle.rules.specs.Laws.Family.Sizes.{legal}
 use Rattle.rules.specs.Laws.Reading.Usable.{reached-none, reached-beyond}
 use Rattle.rules.specs.Laws.Reading.OneWalk.{usableNow, reachedNow}
+use Rattle.rules.specs.Laws.Rounding.Run.{map-from}
 
 -- the plane that level k reached, of planes that stand level 1 first
 abbrev pub reachedAt : List Plane → ℕ → ℕ
@@ -48,32 +50,22 @@ pub usableNow-same : (R S : ℕ → ℕ) (p : PartName) → 1 ≤ p .level → (
 unfolding usableNow
 usableNow-same R S p f e = rw (e (p .level) f, e (suc (p .level)) (omega arith))
 
-neither : (b : Bool) → b && false ≡ false
-neither true = refl
-neither false = refl
-
--- Planes level by level.
-pub from-at : (f : ℕ → Plane) (q m i : ℕ) (d : Plane) → i < m → getD (map f (from q m)) i d ≡ f (q + i)
-unfolding from
-from-at f q zero i d l = absurd (omega arith)
-from-at f q (suc m) zero d l = ap f (omega arith)
-from-at f q (suc m) (suc i) d l = let e : suc q + i ≡ q + suc i = omega arith in from-at f (suc q) m i d (omega arith) ∙ ap f e
-
-from-same : (f g : ℕ → Plane) (q m : ℕ) → ((j : ℕ) → q ≤ j → f j ≡ g j) → map f (from q m) ≡ map g (from q m)
+-- Lists of one thing a level.
+pub from-same : {X : Type 0} (f g : ℕ → X) (q m : ℕ) → ((j : ℕ) → q ≤ j → f j ≡ g j) → map f (from q m) ≡ map g (from q m)
 unfolding from
 from-same f g q zero h = refl
-from-same f g q (suc m) h = ap₂ (λ (x : Plane) (l : List Plane). x ∷ l) (h q (omega arith)) (from-same f g (suc q) m (λ j l. h j (omega arith)))
+from-same f g q (suc m) h = ap₂ (λ x l. x ∷ l) (h q (omega arith)) (from-same f g (suc q) m (λ j l. h j (omega arith)))
 
-from-set : (f g : ℕ → Plane) (q m i : ℕ) (x : Plane) → x ≡ g (q + i) → ((j : ℕ) → q ≤ j → (j ≡ q + i → ⊥) → f j ≡ g j)
+pub from-set : {X : Type 0} (f g : ℕ → X) (q m i : ℕ) (x : X) → x ≡ g (q + i) → ((j : ℕ) → q ≤ j → (j ≡ q + i → ⊥) → f j ≡ g j)
     → set (map f (from q m)) i x ≡ map g (from q m)
 unfolding from
 from-set f g q zero i x e h = refl
 from-set f g q (suc m) zero x e h =
     let n : q + 0 ≡ q = omega arith in
-    ap₂ (λ (y : Plane) (l : List Plane). y ∷ l) (e ∙ ap g n) (from-same f g (suc q) m (λ j l. h j (omega arith) (λ a. omega arith)))
+    ap₂ (λ y l. y ∷ l) (e ∙ ap g n) (from-same f g (suc q) m (λ j l. h j (omega arith) (λ a. omega arith)))
 from-set f g q (suc m) (suc i) x e h =
     let n : q + suc i ≡ suc q + i = omega arith in
-    ap₂ (λ (y : Plane) (l : List Plane). y ∷ l) (h q (omega arith) (λ a. omega arith))
+    ap₂ (λ y l. y ∷ l) (h q (omega arith) (λ a. omega arith))
     (from-set f g (suc q) m i x (e ∙ ap g n) (λ j l d. h j (omega arith) (λ a. d (omega arith))))
 
 pub size-levels : (z : Size) → legalSize z ≡ true → levels z ≤ levelPlaces
@@ -89,7 +81,7 @@ module _ (h : Header) (there : List PartName) where
   unfolding planeIn reachedPlanes
   plane-at k f l =
       let e : 1 + (k - 1) ≡ k = omega arith in
-      ap (λ (x : Plane). x .0) (from-at (reachedPlane h there) 1 levelPlaces (k - 1) (record { 0 = 0 }) (omega arith) ∙ ap (reachedPlane h there) e)
+      ap (λ (x : Plane). x .0) (map-from (reachedPlane h there) (record { 0 = 0 }) 1 levelPlaces (k - 1) (omega arith) ∙ ap (reachedPlane h there) e)
 
   plane-reached : (k : ℕ) → reachedPlane h there k .0 ≡ reached (topLevel h) (h .planes) there k
   unfolding reachedPlane
@@ -134,7 +126,7 @@ module _ (h : Header) (there more : List PartName) (R : ℕ → ℕ) (p : PartNa
   unfolding reachedPlanes reachedPlane reachedNow
   reachedPlanes-over u =
       from-same (reachedPlane h there) (reachedPlane h more) 1 levelPlaces (λ j a.
-      rw (is j a, u, neither (eqb j (p .level)), was j))
+      rw (is j a, u, both-false (eqb j (p .level)), was j))
 
 -- Without any part: the first levels, as many as are done, have all planes before them, the others nothing.
 unfoldable pub notReached : ℕ → ℕ → ℕ → Plane

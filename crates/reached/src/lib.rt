@@ -1,11 +1,11 @@
-// The plane that each level reached, level 1 first, and what it says of the next part: whether it is usable.
+// The plane that each level reached, level 1 first, and what it says of the next part: whether it is usable; and how many parts of it were not.
 ghost use mathlib.Core.Path.{_≡_};
 ghost use mathlib.Core.Bool.{true};
 ghost use mathlib.Core.List.{[]};
-ghost use Prim.Native.Nat.{_-_, _≤_, _<_};
+ghost use Prim.Native.Nat.{_+_, _-_, _^_, _≤_, _<_};
 ghost use lib.ListN.{length, set};
 ghost use Rattle.rules.specs.Document.Pyramid.{legalSize, mostPlanes};
-ghost use Rattle.rules.specs.Document.Calls.{levelPlaces, reachedPlanes};
+ghost use Rattle.rules.specs.Document.Calls.{levelPlaces, reachedPlanes, countIn};
 ghost use Rattle.rules.specs.Laws.Reading.OneWalk.{usableNow};
 ghost use Rattle.record.specs.Named.{nameBy};
 ghost use Rattle.reached.specs.Planes.{reachedAt};
@@ -52,6 +52,17 @@ pub fn with_reached(
     let at = level.0 - 1;
     let mut next = reached;
     next[at] = plane;
+    next
+}
+
+// One more part of a level was skipped.
+pub fn with_skipped(skipped: [usize; LEVEL_PLACES], level: Level) -> [usize; LEVEL_PLACES]
+    requires { ⌜ (1 ≤ level .0) × (level .0 ≤ levelPlaces) × (countIn skipped (level .0 - 1) < 2 ^ 32) ⌝ }
+    ensures { λ r. ⌜ r ≡ set skipped (level .0 - 1) (countIn skipped (level .0 - 1) + 1) ⌝ }
+{
+    let at = level.0 - 1;
+    let mut next = skipped;
+    next[at] = skipped[at] + 1;
     next
 }
 

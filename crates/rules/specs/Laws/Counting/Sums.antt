@@ -286,7 +286,7 @@ any-at t xs q i h = go (any t xs) refl
     go false e = absurd (true≢false (sym h ∙ any-false t xs e q i))
 
 -- from of the passes: each number of a range once
--- How many pass a test: of one more at the end, and of such that don't.
+-- How many pass a test: of one more at the end, of such that don't, and at most.
 count-sum : {X : Type 0} (t : X → Bool) (xs : List X) → count t xs ≡ sum (λ x. one (t x)) xs
 unfolding count sum one
 count-sum t [] = refl
@@ -304,6 +304,11 @@ count-last t xs x =
 pub count-none : {X : Type 0} (t : X → Bool) (xs : List X) → All (λ x. t x ≡ false) xs → count t xs ≡ 0
 unfolding one
 count-none t xs a = count-sum t xs ∙ sum-zero (λ x. one (t x)) xs (all-then _ _ xs (λ x e. ap one e) a)
+
+pub count-most : {X : Type 0} (t : X → Bool) (xs : List X) → count t xs ≤ length xs
+count-most t xs =
+    let ones : sum (λ x. 1) xs ≡ length xs = sum-one (λ x. 1) xs (all-of _ xs (λ x. refl)) in
+    omega (arith, count-sum t xs, ones, sum-le (λ x. one (t x)) (λ x. 1) xs (all-of _ xs (λ x. one-most (t x))))
 
 pub from-add : (a m k : ℕ) → from a (m + k) ≡ from a m ++ from (a + m) k
 unfolding from
