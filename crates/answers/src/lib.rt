@@ -1,15 +1,15 @@
 // The document's number and place for each verdict, made in one function each; and each answer's numbers at the front of a lent slice.
 ghost use mathlib.Core.Path.{_≡_};
 ghost use mathlib.Core.List.{map};
-ghost use Prim.Native.Nat.{_+_, _≤_};
+ghost use Prim.Native.Nat.{_+_, _*_, _≤_};
 ghost use lib.ListN.{length};
 ghost use lib.Seq.{sets};
 ghost use Rattle.rules.specs.Document.Passes.{from};
 ghost use Rattle.rules.specs.Document.Numbers.{refusalNumber, refusalPlace, verdictNumber, verdictPlace};
-ghost use Rattle.rules.specs.Document.Calls.{levelPlaces, codePlaces, servePlaces, decodePlaces, codeNumbers, serveNumbers, planeIn, decodeNumbers};
+ghost use Rattle.rules.specs.Document.Calls.{levelPlaces, codePlaces, servePlaces, decodePlaces, codeNumbers, serveNumbers, planeIn, countIn, decodeNumbers};
 ghost use Rattle.survey.specs.Surveyed.{surveyPlaces, surveyNumbers};
 ghost use Rattle.pictures.specs.Document.Calls.{greyReadNumbers, greyWrittenNumbers, greyPlaces};
-ghost use Rattle.answers.specs.Report.{verdictNumbers, Reported};
+ghost use Rattle.answers.specs.Report.{verdictNumbers, levelNumbers, Reported};
 use pictures::GreyRead;
 use pictures::GreyWritten;
 use rules::Coded;
@@ -125,6 +125,29 @@ fn store_planes(planes: [Plane; LEVEL_PLACES], answer: &mut [u64], at: usize)
     }
 }
 
+// The counts of skipped parts, likewise.
+fn store_counts(counts: [usize; LEVEL_PLACES], answer: &mut [u64], at: usize)
+    requires { ⌜ at + levelPlaces ≤ length (now answer) ⌝ }
+    ensures { λ _. ⌜ now (answer .exit) ≡ sets (now (answer .entry)) at (map (countIn counts) (from 0 levelPlaces)) ⌝ }
+{
+    let mut i = 0;
+    while i < LEVEL_PLACES {
+        answer[at + i] = counts[i] as u64;
+        i += 1;
+    }
+}
+
+// What decoding says of each level: the planes, and the counts behind them.
+fn store_levels(a: Decoded, answer: &mut [u64], at: usize)
+    requires { ⌜ at + 2 * levelPlaces ≤ length (now answer) ⌝ }
+    ensures { λ _. ⌜ now (answer .exit) ≡ sets (now (answer .entry)) at (levelNumbers a) ⌝ }
+{
+    let reached = a.reached;
+    store_planes(reached, answer, at);
+    let skipped = a.skipped;
+    store_counts(skipped, answer, at + LEVEL_PLACES);
+}
+
 pub fn report_decoded(a: Decoded, answer: &mut [u64]) -> u64
     requires { ⌜ decodePlaces ≤ length (now answer) ⌝ }
     ensures { λ n. ⌜ Reported (decodeNumbers a) (now (answer .entry)) n (now (answer .exit)) ⌝ }
@@ -132,8 +155,7 @@ pub fn report_decoded(a: Decoded, answer: &mut [u64]) -> u64
     let v = a.verdict;
     let n = report_verdict(v, answer);
     answer[2] = a.tail as u64;
-    let reached = a.reached;
-    store_planes(reached, answer, 3);
+    store_levels(a, answer, 3);
     n
 }
 

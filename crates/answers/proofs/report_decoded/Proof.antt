@@ -2,7 +2,7 @@
 use mathlib.Core.List.{_∷_}
 use native.Mathlib.Omega.{arith}
 use lib.ListN.{length-set}
-use Rattle.answers.specs.Report.{verdictNumbers}
+use Rattle.answers.specs.Report.{verdictNumbers, levelNumbers}
 use Rattle.rules.specs.Document.Passes.{from}
 use Rattle.rules.specs.Document.Calls.{decodeNumbers}
 use Rattle.answers.proofs.Laws.{reported-more, reported-length}
@@ -16,14 +16,14 @@ report-verdict-requires c κs = search needs
 slice-write-answer : tie.Need-slice-write-answer
 slice-write-answer c = search needs
 
-store-planes-requires : tie.Need-store-planes-requires
-store-planes-requires c κs = simp length-set (omega arith)
+store-levels-requires : tie.Need-store-levels-requires
+store-levels-requires c κs = simp length-set (omega arith)
 
 returns : tie.Need-returns
-unfolding verdictNumbers decodeNumbers from
+unfolding verdictNumbers decodeNumbers levelNumbers from
 returns c =
-    let verdict = c .before .before .before .before .before .before .before .report-verdict .ensures in
-    reported-more (_ ∷ _) verdict (omega arith) (omega arith) (c .before .before .store-planes .ensures)
+    let verdict = c .before .before .before .before .before .before .report-verdict .ensures in
+    reported-more (_ ∷ _) verdict (omega arith) (omega arith) (c .before .before .store-levels .ensures)
 
 same-length : tie.Need-same-length
 unfolding decodeNumbers from
@@ -32,4 +32,4 @@ same-length c = reported-length (returns c) (omega arith)
 pub report-decoded-spec : {M : Type 1} → statement M
 report-decoded-spec =
     tie.close
-    (tie.spec report-verdict-requires slice-write-answer store-planes-requires same-length returns)
+    (tie.spec report-verdict-requires slice-write-answer store-levels-requires same-length returns)

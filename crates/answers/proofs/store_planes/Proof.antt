@@ -8,7 +8,7 @@ use Rattle.answers.proofs.store_planes.Statement.{statement}
 use Rattle.answers.proofs.store_planes.Tie as tie
 
 abbrev Inv-loop : tie.InvT-loop
-Inv-loop answer₀ at planes i₀ answer i = Storing planes answer₀ at i answer
+Inv-loop answer₀ at planes i₀ answer i = Storing (planeIn planes) answer₀ at i answer
 
 abbrev μ-loop : tie.MeasureT-loop
 μ-loop answer₀ at planes i₀ answer i = levelPlaces - i
