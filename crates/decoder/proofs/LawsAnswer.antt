@@ -36,11 +36,11 @@ module _ (x : Result Picture) (out between : List ℤ) (work since : List ℕ) (
         clears = t .clears ∙ ap (λ (n : ℕ). replicate n 0) b;
       }
 
-  pub answered-accepted : (tail : ℕ) (reached : List Plane) (answer : Decoded) (work′ : List ℕ)
-      → x ≡ accepted (record { pyramid = between; tail = tail; reached = reached })
-      → Accepting tail reached since answer work′ → Answered x out work answer between work′
+  pub answered-accepted : (tail : ℕ) (reached : List Plane) (skipped : List ℕ) (answer : Decoded) (work′ : List ℕ)
+      → x ≡ accepted (record { pyramid = between; tail = tail; reached = reached; skipped = skipped })
+      → Accepting tail reached skipped since answer work′ → Answered x out work answer between work′
   unfolding decodeOut decodeAnswer
-  answered-accepted tail reached answer work′ e t =
+  answered-accepted tail reached skipped answer work′ e t =
       record {
         answers = t .answers ∙ ap decodeAnswer (sym e);
         writes = ap (decodeOut (length out)) (sym e);

@@ -31,12 +31,12 @@ use Rattle.record.specs.Walk.{nextOf, next-stands}
 use Rattle.parts.specs.Standing.{stateOf, Agree, Small, PartDecoded}
 use Rattle.rules.specs.Document.Calls.{levelPlaces}
 use Rattle.reached.specs.Planes.{reachedAt, size-levels}
-use Rattle.decoder.specs.Walking.{fitting, gone, usedOn, metOn, metPart, Past, Taking, Taken, Standing, Turned}
+use Rattle.decoder.specs.Walking.{fitting, gone, oneMore, usedOn, metOn, metPart, Past, Taking, Taken, Standing, Turned}
 
 -- a usable part, decoded
-module _ (s : List ℕ) (z : Size) (p : Part) (old : List Plane) (counts : Counts) (out : List ℤ) (work : List ℕ) (body : List ℕ) (b : body ≡ bodyOf s p)
-    (r : Passed) (out′ : List ℤ) (work′ : List ℕ) (d : PartDecoded body z (p .plane) (p .level) work counts out r work′ out′)
-    (reached : List Plane) (q : reached ≡ set old (p .level .0 - 1) (p .plane)) (next : Walk) (past : Past p reached (r .counts) next) where
+module _ (s : List ℕ) (z : Size) (p : Part) (old : List Plane) (skipped : List ℕ) (counts : Counts) (out : List ℤ) (work : List ℕ) (body : List ℕ)
+    (b : body ≡ bodyOf s p) (r : Passed) (out′ : List ℤ) (work′ : List ℕ) (d : PartDecoded body z (p .plane) (p .level) work counts out r work′ out′)
+    (reached : List Plane) (q : reached ≡ set old (p .level .0 - 1) (p .plane)) (next : Walk) (past : Past p reached skipped (r .counts) next) where
   course : Course Reader
   course = decoded (family z) (nameOf p) (bitAt (bodyOf s p)) (stateOf z work counts) out
 
@@ -45,12 +45,12 @@ module _ (s : List ℕ) (z : Size) (p : Part) (old : List Plane) (counts : Count
   same-course = ap (λ (x : List ℕ). decoded (family z) (nameOf p) (bitAt x) (stateOf z work counts) out) b
 
   decoded-taken : (f : Found) → f ≡ fitting p course
-      → Taken z p (usedOn s z p old (stateOf z work counts) out) out work (record { found = f; walk = next }) out′ work′
+      → Taken z p (usedOn s z p old skipped (stateOf z work counts) out) out work (record { found = f; walk = next }) out′ work′
   unfolding course usedOn gone nameOf
   decoded-taken f e =
       record {
         finds = e;
-        past = record { over = past .over; reaches = past .reaches ∙ q; fills = refl };
+        past = record { over = past .over; reaches = past .reaches ∙ q; skips = past .skips; fills = refl };
         lists =
             subst (λ (x : Course Reader). Agree (stateOf z work′ (next .counts)) (after (p .level .0) x (stateOf z work counts))) same-course
             (record { lists = λ k. ap (λ (x : Counts). stateOf z work′ x k) (past .fills) ∙ d .lists .lists k });
@@ -60,14 +60,15 @@ module _ (s : List ℕ) (z : Size) (p : Part) (old : List Plane) (counts : Count
       }
 
   pub part-fits : r .at .at ≡ p .bits
-      → Taken z p (usedOn s z p old (stateOf z work counts) out) out work (record { found = found.Part; walk = next }) out′ work′
+      → Taken z p (usedOn s z p old skipped (stateOf z work counts) out) out work (record { found = found.Part; walk = next }) out′ work′
   unfolding course fitting nameOf
   part-fits e =
       let t : course .side .taken ≡ p .bits = sym (d .taken ∙ ap (λ (x : Course Reader). x .side .taken) same-course) ∙ e in
       decoded-taken found.Part (rw (eq-eqb (course .side .taken) (p .bits) t))
 
   pub part-unfit : (r .at .at ≡ p .bits → ⊥)
-      → Taken z p (usedOn s z p old (stateOf z work counts) out) out work (record { found = found.Refused (refusal.Fit (p .place)); walk = next }) out′ work′
+      → Taken z p (usedOn s z p old skipped (stateOf z work counts) out) out work
+      (record { found = found.Refused (refusal.Fit (p .place)); walk = next }) out′ work′
   unfolding course fitting nameOf
   part-unfit e =
       let t : course .side .taken ≡ r .at .at = sym (d .taken ∙ ap (λ (x : Course Reader). x .side .taken) same-course) in
@@ -80,21 +81,22 @@ pub small-more : (a b : ℕ) (v : List ℤ) → a ≤ b → Small a v → Small 
 small-more a b v l h = record { under = λ q. omega (arith, h .under q) }
 
 -- any whole part: b is what was found of it
-module _ (s : List ℕ) (z : Size) (p : Part) (old : List Plane) (counts : Counts) (out : List ℤ) (work : List ℕ) (b : Bool)
+module _ (s : List ℕ) (z : Size) (p : Part) (old : List Plane) (skipped : List ℕ) (counts : Counts) (out : List ℤ) (work : List ℕ) (b : Bool)
     (e : b ≡ usableNow (reachedAt old) (nameOf p)) where
-  pub part-decoded : b ≡ true → (r : Turn) (out′ : List ℤ) (work′ : List ℕ) → Taken z p (usedOn s z p old (stateOf z work counts) out) out work r out′ work′
-      → Taken z p (metOn s z p old (stateOf z work counts) out) out work r out′ work′
+  pub part-decoded : b ≡ true → (r : Turn) (out′ : List ℤ) (work′ : List ℕ)
+      → Taken z p (usedOn s z p old skipped (stateOf z work counts) out) out work r out′ work′
+      → Taken z p (metOn s z p old skipped (stateOf z work counts) out) out work r out′ work′
   unfolding metOn
   part-decoded t r out′ work′ h = rw (sym e ∙ t) h
 
-  pub part-over : b ≡ false → (next : Walk) → Past p old counts next
-      → Taken z p (metOn s z p old (stateOf z work counts) out) out work (record { found = found.Part; walk = next }) out work
+  pub part-over : b ≡ false → (more : List ℕ) → more ≡ oneMore p skipped → (next : Walk) → Past p old more counts next
+      → Taken z p (metOn s z p old skipped (stateOf z work counts) out) out work (record { found = found.Part; walk = next }) out work
   unfolding metOn
-  part-over t next past =
+  part-over t more q next past =
       rw (sym e ∙ t)
       (record {
         finds = refl;
-        past = record { over = past .over; reaches = past .reaches; fills = refl };
+        past = record { over = past .over; reaches = past .reaches; skips = past .skips ∙ q; fills = refl };
         lists = record { lists = λ k. ap (λ (x : Counts). stateOf z work x k) (past .fills) };
         writes = refl;
         same = refl;
@@ -122,6 +124,7 @@ module _ (h : Header) (s : List ℕ) (w : Walk) (out : List ℤ) (work : List �
         ends = q .end;
         within = q .within;
         six = t .six;
+        few = t .few (p .level .0 - 1);
       }
 
   turned-as : (x : PartRead) → y ≡ x → (r : Turn) (out′ : List ℤ) (work′ : List ℕ) → Turned h s w out work x r out′ work′

@@ -1,11 +1,11 @@
 -- The walk over all parts of a record: the lists and the pyramid are what the parts that came by make of those at the start.
 use mathlib.Core.Path.{_≡_, refl, ap, ap₂, sym, _∙_, subst}
-use mathlib.Core.List.{List, [], _∷_, _++_, map, append-assoc}
+use mathlib.Core.List.{List, [], _∷_, _++_, map, append-assoc, map-append}
 use mathlib.Core.Bool.{Bool, true, false, cond}
 use Prim.Native.Nat.{ℕ, _+_, _-_, _≤_, _<_, _^_}
 use native.Mathlib.Omega.{arith}
 use native.Mathlib.Decide.{decLe, decLt}
-use lib.ListN.{length, getD, set, replicate, getD-replicate, List·getD-eq-default, length-replicate}
+use lib.ListN.{length, getD, set, replicate, getD-replicate, List·getD-eq-default, length-replicate, length-append, length-map}
 use lib.IntN.{ℤ, pos, natAbs}
 use Rattle.rules.specs.declared.Plane.{Plane}
 use Rattle.rules.specs.declared.Refusal.{Refusal}
@@ -24,7 +24,7 @@ use Rattle.rules.specs.Document.Layout.{nameOf, usable, reached}
 use Rattle.rules.specs.Document.Numbers.{tail, fault, Reading, readParts, topLevel}
 use Rattle.rules.specs.Document.Notation.{zeros}
 use Rattle.rules.specs.Document.Calls.{levelPlaces, Result, refused, accepted, going, unfit, onward, decodeParts, onEnding, Picture}
-use Rattle.rules.specs.Document.Calls.{reachedPlanes, pictured, decodedParts, decodeOut}
+use Rattle.rules.specs.Document.Calls.{reachedPlanes, skippedCounts, countIn, pictured, decodedParts, decodeOut}
 use Rattle.rules.specs.Laws.Counting.Booleans.{clash}
 use Rattle.rules.specs.Laws.Family.Sizes.{legal}
 use Rattle.rules.specs.Laws.Reading.Parts.{After, follows-after}
@@ -37,13 +37,18 @@ use Rattle.record.specs.declared.walk.Cursor.{Cursor}
 use Rattle.record.specs.Named.{named}
 use Rattle.record.specs.Walk.{nextOf, pastOf, left, Stands, stands-first, next-stands, next-falls, stands-past, stands-tail, stands-fault}
 use Rattle.parts.specs.Standing.{stateOf, agree-same, Small}
-use Rattle.decoder.specs.Walking.{Outcome, gone, usedOn, metOn, metPart, Taken, Standing, Turned, Opening, Begun, Lent, Walking}
+use Rattle.decoder.specs.Walking.{Outcome, gone, oneMore, usedOn, metOn, metPart, Taken, Standing, Turned, Opening, Begun, Lent, Walking}
 use Rattle.decoder.specs.Walking.{Answered, Refusing, Accepting}
 use Rattle.decoder.specs.Walking.{order, bound, names, begin}
+use Rattle.reached.specs.Skips.{skippedBy, skippedBy-none, skippedBy-all, skippedBy-most, skippedBy-used, skippedBy-over}
 use Rattle.reached.specs.Planes.{reachedAt, usableNow-same, size-levels, six-planes, reachedAt-planes, reachedPlanes-used, reachedPlanes-over}
 use Rattle.decoder.proofs.LawsPart.{small-more}
 use Rattle.decoder.proofs.LawsAnswer.{answered-refused, answered-accepted}
 use Rattle.decoder.proofs.LawsOutcome.{taken-alike, met-part, met-refused, met-no-tail}
+
+-- what is accepted where no part is left
+abbrev atEnd : List ℕ → List ℤ → Walk → Result Picture
+atEnd s out w = accepted (record { pyramid = out; tail = length s - w .cursor .place; reached = w .reached; skipped = w .skipped })
 
 -- the start
 zeros-small : (n b : ℕ) → 0 < b → Small b (replicate n (pos 0))
@@ -79,6 +84,7 @@ module _ (h : Header) (s : List ℕ) (out : List ℤ) (work : List ℕ) (l : Len
         lists = start (h .size);
         decodes = ap (going (start (h .size))) (sym v);
         reaches = b .reaches;
+        skips = b .skips ∙ sym (skippedBy-none h (names h s));
         agrees = b .lists;
         sound = start-sound (h .size) (legal (h .size) (header-legal lent-header));
         few = omega (arith, o, header-planes lent-header);
@@ -99,20 +105,32 @@ module _ (h : Header) (s : List ℕ) (w : Walk) (out : List ℤ) (work : List �
         planes = header-planes whole-header;
         room = W .lent .room;
         six = ap length (W .reaches) ∙ six-planes h (map nameOf (W .seen));
+        few = λ i.
+            omega (
+              arith,
+              ap (λ (x : List ℕ). countIn x i) (W .skips),
+              skippedBy-most h (names h s) (map nameOf (W .seen)) i,
+              length-map (W .seen) nameOf,
+              W .few,
+            );
         sound = subst (SoundLists (h .size)) (sym (agree-same (W .agrees))) (W .sound);
         small = small-more _ (2 ^ 29) out (omega arith) (W .small);
       }
 
   -- No part is left: all parts came by.
   walking-tail : nextOf h s (w .cursor) ≡ part.Tail
-      → decodedParts h s (readParts h s) ≡ accepted (record { pyramid = out; tail = length s - w .cursor .place; reached = w .reached })
+      → decodedParts h s (readParts h s) ≡ atEnd s out w
   unfolding decodedParts pictured onEnding
   walking-tail e =
       let all : readParts h s ≡ record { parts = W .seen; ending = tail (length s - w .cursor .place) }
       = stands-tail h s (w .cursor) part.Tail (sym e) (W .seen) (W .stands) refl in
       let g : decodeParts h s (map nameOf (W .seen)) (W .seen) (begin h) ≡ going (W .lists) out
       = ap (λ (x : Reading). decodeParts h s (map nameOf (x .parts)) (W .seen) (begin h)) (sym all) ∙ W .decodes in
-      rw (all, g) (ap (λ (x : List Plane). accepted (record { pyramid = out; tail = length s - w .cursor .place; reached = x })) (sym (W .reaches)))
+      let n : skippedCounts h (map nameOf (W .seen)) ≡ w .skipped
+      = sym (W .skips ∙ ap (λ (x : Reading). skippedBy h (map nameOf (x .parts)) (map nameOf (W .seen))) all ∙ skippedBy-all h (map nameOf (W .seen))) in
+      rw (all, g)
+      (ap₂ (λ (x : List Plane) (y : List ℕ). accepted (record { pyramid = out; tail = length s - w .cursor .place; reached = x; skipped = y }))
+      (sym (W .reaches)) n)
 
   walking-fault : (v : Refusal) → nextOf h s (w .cursor) ≡ part.Refused v → decodedParts h s (readParts h s) ≡ refused v
   unfolding decodedParts pictured onEnding
@@ -166,7 +184,7 @@ module _ (h : Header) (s : List ℕ) (w : Walk) (out : List ℤ) (work : List �
         ∙ test-held
 
     abbrev met : Outcome
-    met = metOn s (h .size) p (w .reached) (W .lists) out
+    met = metOn s (h .size) p (w .reached) (w .skipped) (W .lists) out
 
     met-reached : met .reached ≡ reachedPlanes h (map nameOf came)
     unfolding metOn usedOn gone R nameOf
@@ -176,8 +194,8 @@ module _ (h : Header) (s : List ℕ) (w : Walk) (out : List ℤ) (work : List �
         is k f = reached-read h s (record { plane = h .planes; level = 0 }) (h .end) (W .seen) p (later) wholes k f
 
         cases : (b : Bool) → usableNow (reachedAt (w .reached)) (nameOf p) ≡ b
-            → cond b (usedOn s (h .size) p (w .reached) (W .lists) out)
-            (record { found = found.Part; lists = W .lists; pyramid = out; reached = w .reached }) .reached
+            → cond b (usedOn s (h .size) p (w .reached) (w .skipped) (W .lists) out)
+            (record { found = found.Part; lists = W .lists; pyramid = out; reached = w .reached; skipped = oneMore p (w .skipped) }) .reached
             ≡ reachedPlanes h (map nameOf came)
         cases true u =
             ap (λ (x : List Plane). set x (p .level .0 - 1) (p .plane)) (W .reaches)
@@ -187,6 +205,25 @@ module _ (h : Header) (s : List ℕ) (w : Walk) (out : List ℤ) (work : List �
             W .reaches
             ∙ reachedPlanes-over h (map nameOf (W .seen)) (map nameOf came) R (nameOf p) (p .plane) refl
             (whole .legal .named .from1) (whole .legal .named .upTo) (λ k. refl) is (test-held ∙ u)
+
+    met-skipped : met .skipped ≡ skippedBy h (names h s) (map nameOf came)
+    unfolding metOn usedOn gone nameOf
+    met-skipped = cases (usableNow (reachedAt (w .reached)) (nameOf p)) refl
+      where
+        last : map nameOf came ≡ map nameOf (W .seen) ++ (nameOf p ∷ [])
+        last = map-append nameOf (W .seen) (p ∷ [])
+
+        cases : (b : Bool) → usableNow (reachedAt (w .reached)) (nameOf p) ≡ b
+            → cond b (usedOn s (h .size) p (w .reached) (w .skipped) (W .lists) out)
+            (record { found = found.Part; lists = W .lists; pyramid = out; reached = w .reached; skipped = oneMore p (w .skipped) }) .skipped
+            ≡ skippedBy h (names h s) (map nameOf came)
+        cases true u =
+            W .skips ∙ skippedBy-used h (names h s) (map nameOf (W .seen)) (nameOf p) (test ∙ u) ∙ ap (skippedBy h (names h s)) (sym last)
+        cases false u =
+            ap (oneMore p) (W .skips)
+            ∙ skippedBy-over h (names h s) (map nameOf (W .seen)) (nameOf p) (test ∙ u) (whole .legal .named .from1)
+            (omega (arith, whole .legal .named .upTo, size-levels (h .size) (header-legal whole-header)))
+            ∙ ap (skippedBy h (names h s)) (sym last)
 
     -- what all parts up to this one, and all parts, make of the start
     decodes-came : decodeParts h s (names h s) came (begin h) ≡ onward h s (names h s) p (going (W .lists) out)
@@ -218,26 +255,26 @@ module _ (h : Header) (s : List ℕ) (w : Walk) (out : List ℤ) (work : List �
       taken : Taken (h .size) p met out work r out′ work′
       unfolding nameOf
       taken =
-          taken-alike s (h .size) p (w .reached)
+          taken-alike s (h .size) p (w .reached) (w .skipped)
           (stateOf (h .size) work (w .counts)) (W .lists) out (W .agrees) out work r out′ work′ T
 
       walking-unfit : (v : Refusal) → r .found ≡ found.Refused v → decodedParts h s (readParts h s) ≡ refused v
       unfolding decodedParts pictured
       walking-unfit v f =
           let m : (onward h s (names h s) p (going (W .lists) out) ≡ unfit (p .place)) × (v ≡ refusal.Fit (p .place))
-          = met-refused h s (names h s) p (w .reached) (W .lists) out test v (sym (taken .finds) ∙ f) in
+          = met-refused h s (names h s) p (w .reached) (w .skipped) (W .lists) out test v (sym (taken .finds) ∙ f) in
           let g : decodeParts h s (names h s) (readParts h s .parts) (begin h) ≡ unfit (p .place)
           = decodes-all ∙ ap (decodeParts h s (names h s) later) (m .0) ∙ decodeParts-unfit h s (names h s) later (p .place) in
           ap (pictured h (names h s) (readParts h s .ending)) g ∙ ap refused (sym (m .1))
 
       walking-no-tail : r .found ≡ found.Tail → ⊥
-      walking-no-tail f = met-no-tail h s (names h s) p (w .reached) (W .lists) out test (sym (taken .finds) ∙ f)
+      walking-no-tail f = met-no-tail h s (names h s) p (w .reached) (w .skipped) (W .lists) out test (sym (taken .finds) ∙ f)
 
       walking-on : r .found ≡ found.Part → length out′ ≡ length out → Walking h s (r .walk) out′ work′
       unfolding SoundProgress nameOf
       walking-on f n =
           let m : onward h s (names h s) p (going (W .lists) out) ≡ going (met .lists) (met .pyramid)
-          = met-part h s (names h s) p (w .reached) (W .lists) out test (sym (taken .finds) ∙ f) in
+          = met-part h s (names h s) p (w .reached) (w .skipped) (W .lists) out test (sym (taken .finds) ∙ f) in
           let o : order (named (r .walk .cursor .before)) ≡ order (nameOf p) = ap (λ (x : Cursor). order (named (x .before))) (taken .past .over) in
           record {
             lent = record { read = W .lent .read; whole = n ∙ W .lent .whole; room = omega (arith, W .lent .room, taken .same) };
@@ -246,12 +283,13 @@ module _ (h : Header) (s : List ℕ) (w : Walk) (out : List ℤ) (work : List �
             lists = met .lists;
             decodes = decodes-came ∙ m ∙ ap (going (met .lists)) (sym (taken .writes));
             reaches = taken .past .reaches ∙ met-reached;
+            skips = taken .past .skips ∙ met-skipped;
             agrees = taken .lists;
             sound =
                 subst (SoundProgress (h .size)) m
                 (onward-sound h (legal (h .size) (header-legal whole-header)) s (names h s) p
                 (record { from1 = whole .legal .named .from1; upTo = whole .legal .named .upTo }) (going (W .lists) out) (W .sound));
-            few = omega (arith, o, name-falls, W .few);
+            few = omega (arith, o, name-falls, W .few, length-append (W .seen) (p ∷ []));
             small = small-more _ _ out′ (omega (arith, o, name-falls, W .few)) (taken .grows _ (W .small));
           }
 
@@ -278,17 +316,16 @@ module _ (h : Header) (s : List ℕ) (w : Walk) (out : List ℤ) (work : List �
         cases (part.Refused v) e t = let i = t .finds in clash (cc)
 
     turn-tail : r .found ≡ found.Tail
-        → decodedParts h s (readParts h s) ≡ accepted (record { pyramid = out′; tail = length s - r .walk .cursor .place; reached = r .walk .reached })
+        → decodedParts h s (readParts h s) ≡ atEnd s out′ (r .walk)
     unfolding Turned
     turn-tail f = cases (nextOf h s (w .cursor)) refl T
       where
         cases : (x : PartRead) → nextOf h s (w .cursor) ≡ x → Turned h s w out work x r out′ work′
-            → decodedParts h s (readParts h s) ≡ accepted (record { pyramid = out′; tail = length s - r .walk .cursor .place; reached = r .walk .reached })
+            → decodedParts h s (readParts h s) ≡ atEnd s out′ (r .walk)
         cases (part.Part p) e t = absurd (walking-no-tail p e r out′ work′ t f)
         cases part.Tail e t =
             walking-tail e
-            ∙ ap₂ (λ (v : List ℤ) (x : Walk). accepted (record { pyramid = v; tail = length s - x .cursor .place; reached = x .reached }))
-            (sym (t .writes)) (sym (t .stays))
+            ∙ ap₂ (atEnd s) (sym (t .writes)) (sym (t .stays))
         cases (part.Refused v) e t = let i = t .finds in clash (cc)
 
     pub turn-within : r .found ≡ found.Tail → r .walk .cursor .place ≤ length s
@@ -319,10 +356,10 @@ module _ (h : Header) (s : List ℕ) (out : List ℤ) (work : List ℕ)
     (r : Turn) (out₂ : List ℤ) (work₂ : List ℕ) (T : Turned h s w out₁ work₁ (nextOf h s (w .cursor)) r out₂ work₂)
     (m : length out₂ ≡ length out₁) (n : length work₂ ≡ length work₁) where
   pub turn-accepts : (answer : Decoded) (work′ : List ℕ) → r .found ≡ found.Tail
-      → Accepting (length s - r .walk .cursor .place) (r .walk .reached) work₂ answer work′
+      → Accepting (length s - r .walk .cursor .place) (r .walk .reached) (r .walk .skipped) work₂ answer work′
       → Answered (decodedParts h s (readParts h s)) out work answer out₂ work′
   turn-accepts answer work′ f t =
-      answered-accepted (decodedParts h s (readParts h s)) out out₂ work work₂ (m ∙ j) (n ∙ k) _ _ answer work′
+      answered-accepted (decodedParts h s (readParts h s)) out out₂ work work₂ (m ∙ j) (n ∙ k) _ _ _ answer work′
       (turn-tail h s w out₁ work₁ W r out₂ work₂ T f) t
 
   pub turn-refuses : (v : Refusal) (answer : Decoded) (out′ : List ℤ) (work′ : List ℕ) → r .found ≡ found.Refused v

@@ -1,8 +1,9 @@
--- The walk over a record's parts: what a part makes of the lists, the pyramid and the planes reached, and the contracts of the walk's turns.
+-- The walk over a record's parts: what a part makes of the lists, the pyramid, the planes reached and the counts of skipped parts, and the contracts
+-- of the walk's turns.
 use mathlib.Core.Path.{_≡_}
 use mathlib.Core.List.{List, [], map}
 use mathlib.Core.Bool.{true, cond}
-use Prim.Native.Nat.{ℕ, suc, _+_, _-_, _*_, _≤_, _^_}
+use Prim.Native.Nat.{ℕ, suc, _+_, _-_, _*_, _≤_, _<_, _^_}
 use lib.Dec.{eqb}
 use lib.ListN.{length, set, replicate}
 use lib.IntN.{ℤ, pos}
@@ -28,55 +29,64 @@ use Rattle.rules.specs.Document.Passes.{PartName, State, Course, Reader, start,
 use Rattle.rules.specs.Document.Layout.{bytesFor, bitAt, bodyOf, nameOf}
 use Rattle.rules.specs.Document.Numbers.{readHeader, readParts}
 use Rattle.rules.specs.Document.Calls.{workFor, levelPlaces, Result, Progress, going, decodeParts, Picture, reachedPlanes, decodeOut, decodeAnswer}
+use Rattle.rules.specs.Document.Calls.{countIn}
 use Rattle.rules.specs.Laws.Reading.OneWalk.{usableNow}
 use Rattle.rules.specs.Laws.State.Record.{SoundLists}
 use Rattle.record.specs.Named.{named}
 use Rattle.record.specs.Walk.{firstOf, pastOf, Stands}
 use Rattle.reached.specs.Planes.{reachedAt}
+use Rattle.reached.specs.Skips.{skippedBy}
 use Rattle.parts.specs.Standing.{stateOf, Agree, Small, ReadyToDecode}
 
--- What becomes of a whole part: what is found, and the lists, the pyramid and the planes reached after it.
+-- What becomes of a whole part: what is found, and the lists, the pyramid, the planes reached and the counts of skipped parts after it.
 pub record Outcome : Type 0 where
   pub found : Found
   pub lists : State
   pub pyramid : List ℤ
   pub reached : List Plane
+  pub skipped : List ℕ
 
 -- "10 FIT: a usable part's bits run out or are left over"
 unfoldable pub fitting : Part → Course Reader → Found
 fitting p c = cond (eqb (c .side .taken) (p .bits)) found.Part (found.Refused (refusal.Fit (p .place)))
 
-unfoldable pub gone : Part → List Plane → State → Course Reader → Outcome
-gone p reached st c =
+unfoldable pub gone : Part → List Plane → List ℕ → State → Course Reader → Outcome
+gone p reached skipped st c =
     record {
       found = fitting p c;
       lists = after (p .level .0) c st;
       pyramid = c .side .pyramid;
       reached = set reached (p .level .0 - 1) (p .plane);
+      skipped = skipped;
     }
+
+-- one more part of its level that is walked over
+abbrev pub oneMore : Part → List ℕ → List ℕ
+oneMore p skipped = set skipped (p .level .0 - 1) (countIn skipped (p .level .0 - 1) + 1)
 
 module _ (s : List ℕ) (z : Size) (p : Part) where
   -- by the lists st and the pyramid v before it
-  unfoldable pub usedOn : List Plane → State → List ℤ → Outcome
-  usedOn reached st v = gone p reached st (decoded (family z) (nameOf p) (bitAt (bodyOf s p)) st v)
+  unfoldable pub usedOn : List Plane → List ℕ → State → List ℤ → Outcome
+  usedOn reached skipped st v = gone p reached skipped st (decoded (family z) (nameOf p) (bitAt (bodyOf s p)) st v)
 
   -- "Parts that are not usable are walked over, not decoded."
-  unfoldable pub metOn : List Plane → State → List ℤ → Outcome
-  metOn reached st v =
-      cond (usableNow (reachedAt reached) (nameOf p)) (usedOn reached st v)
-      (record { found = found.Part; lists = st; pyramid = v; reached = reached })
+  unfoldable pub metOn : List Plane → List ℕ → State → List ℤ → Outcome
+  metOn reached skipped st v =
+      cond (usableNow (reachedAt reached) (nameOf p)) (usedOn reached skipped st v)
+      (record { found = found.Part; lists = st; pyramid = v; reached = reached; skipped = oneMore p skipped })
 
   -- by the walk and the workspace
   abbrev pub decodedPart : Walk → List ℤ → List ℕ → Outcome
-  decodedPart w out work = usedOn (w .reached) (stateOf z work (w .counts)) out
+  decodedPart w out work = usedOn (w .reached) (w .skipped) (stateOf z work (w .counts)) out
 
   abbrev pub metPart : Walk → List ℤ → List ℕ → Outcome
-  metPart w out work = metOn (w .reached) (stateOf z work (w .counts)) out
+  metPart w out work = metOn (w .reached) (w .skipped) (stateOf z work (w .counts)) out
 
 -- the walk after a part
-pub record Past (p : Part) (reached : List Plane) (counts : Counts) (r : Walk) : Type 0 where
+pub record Past (p : Part) (reached : List Plane) (skipped : List ℕ) (counts : Counts) (r : Walk) : Type 0 where
   pub over : r .cursor ≡ pastOf p
   pub reaches : r .reached ≡ reached
+  pub skips : r .skipped ≡ skipped
   pub fills : r .counts ≡ counts
 
 -- what a part asks for
@@ -85,10 +95,11 @@ pub record Taking (s : List ℕ) (z : Size) (p : Part) (w : Walk) (out : List �
   pub ends : p .end ≡ p .body + bytesFor (p .bits)
   pub within : p .end ≤ length s
   pub six : length (w .reached) ≡ levelPlaces
+  pub few : countIn (w .skipped) (p .level .0 - 1) < 2 ^ 32
 
 pub record Taken (z : Size) (p : Part) (o : Outcome) (out : List ℤ) (work : List ℕ) (r : Turn) (out′ : List ℤ) (work′ : List ℕ) : Type 0 where
   pub finds : r .found ≡ o .found
-  pub past : Past p (o .reached) (r .walk .counts) (r .walk)
+  pub past : Past p (o .reached) (o .skipped) (r .walk .counts) (r .walk)
   pub lists : Agree (stateOf z work′ (r .walk .counts)) (o .lists)
   pub writes : out′ ≡ o .pyramid
   pub same : length work′ ≡ length work
@@ -100,6 +111,7 @@ pub record Standing (h : Header) (s : List ℕ) (w : Walk) (out : List ℤ) (wor
   pub planes : h .planes ≤ mostPlanes
   pub room : workFor (h .size) ≤ length work
   pub six : length (w .reached) ≡ levelPlaces
+  pub few : (i : ℕ) → countIn (w .skipped) i < 2 ^ 32
   pub sound : SoundLists (h .size) (stateOf (h .size) work (w .counts))
   pub small : Small (2 ^ 29) out
 
@@ -124,6 +136,7 @@ pub record Begun (h : Header) (out : List ℤ) (work : List ℕ) (r : Walk) (out
   pub blank : out′ ≡ replicate (length out) (pos 0)
   pub opens : r .cursor ≡ firstOf h
   pub reaches : r .reached ≡ reachedPlanes h []
+  pub skips : r .skipped ≡ zeros levelPlaces
   pub lists : Agree (stateOf (h .size) work′ (r .counts)) (start (h .size))
   pub same : length work′ ≡ length work
 
@@ -133,7 +146,7 @@ pub record Lent (h : Header) (s : List ℕ) (out : List ℤ) (work : List ℕ) :
   pub whole : length out ≡ area (h .size)
   pub room : workFor (h .size) ≤ length work
 
--- Names fall from part to part, and so does this number of a name; a part adds less than 2^17 to a magnitude.
+-- Names fall from part to part, and so does this number of a name: the parts are few, and a part adds less than 2^17 to a magnitude.
 abbrev pub order : PartName → ℕ
 order p = suc levelPlaces * p .plane + p .level
 
@@ -157,9 +170,10 @@ pub record Walking (h : Header) (s : List ℕ) (w : Walk) (out : List ℤ) (work
   pub lists : State
   pub decodes : decodeParts h s (names h s) seen (begin h) ≡ going lists out
   pub reaches : w .reached ≡ reachedPlanes h (map nameOf seen)
+  pub skips : w .skipped ≡ skippedBy h (names h s) (map nameOf seen)
   pub agrees : Agree (stateOf (h .size) work (w .counts)) lists
   pub sound : SoundLists (h .size) lists
-  pub few : order (named (w .cursor .before)) ≤ orders
+  pub few : length seen + order (named (w .cursor .before)) ≤ orders
   pub small : Small (bound (named (w .cursor .before))) out
 
 -- what is answered, and left in the memory lent, for a result
@@ -170,10 +184,10 @@ pub record Answered (x : Result Picture) (out : List ℤ) (work : List ℕ) (ans
 
 -- by the two ways that a call ends
 pub record Refusing (r : Refusal) (out : List ℤ) (work : List ℕ) (answer : Decoded) (out′ : List ℤ) (work′ : List ℕ) : Type 0 where
-  pub answers : answer ≡ record { verdict = verdict.Refused r; tail = 0; reached = replicate levelPlaces (record { 0 = 0 }) }
+  pub answers : answer ≡ record { verdict = verdict.Refused r; tail = 0; reached = replicate levelPlaces (record { 0 = 0 }); skipped = zeros levelPlaces }
   pub blank : out′ ≡ replicate (length out) (pos 0)
   pub clears : work′ ≡ zeros (length work)
 
-pub record Accepting (tail : ℕ) (reached : List Plane) (work : List ℕ) (answer : Decoded) (work′ : List ℕ) : Type 0 where
-  pub answers : answer ≡ record { verdict = verdict.Accepted; tail = tail; reached = reached }
+pub record Accepting (tail : ℕ) (reached : List Plane) (skipped : List ℕ) (work : List ℕ) (answer : Decoded) (work′ : List ℕ) : Type 0 where
+  pub answers : answer ≡ record { verdict = verdict.Accepted; tail = tail; reached = reached; skipped = skipped }
   pub clears : work′ ≡ zeros (length work)

@@ -18,10 +18,12 @@ use rules::Refusal;
 use rules::Size;
 use rules::Verdict;
 
-// Where the walk stands between two parts, the plane that each level reached, level 1 first, and how full the lists are.
+// Where the walk stands between two parts, the plane that each level reached, level 1 first, how many of its parts were skipped, and how full the
+// lists are.
 pub struct Walk {
     pub cursor: Cursor,
     pub reached: [Plane; LEVEL_PLACES],
+    pub skipped: [usize; LEVEL_PLACES],
     pub counts: Counts,
 }
 
@@ -47,17 +49,24 @@ fn first_walk(h: Header, pyramid: &mut [i32], work: &mut [u32]) -> Walk
     Walk {
         cursor: Cursor::first(h),
         reached: reached::none_reached(h),
+        skipped: [0usize; LEVEL_PLACES],
         counts,
     }
 }
 
 // After a part.
-fn walk_past(p: Part, reached: [Plane; LEVEL_PLACES], counts: Counts) -> Walk
-    ensures { λ r. ⌜ Past p reached counts r ⌝ }
+fn walk_past(
+    p: Part,
+    reached: [Plane; LEVEL_PLACES],
+    skipped: [usize; LEVEL_PLACES],
+    counts: Counts,
+) -> Walk
+    ensures { λ r. ⌜ Past p reached skipped counts r ⌝ }
 {
     Walk {
         cursor: Cursor::past(p),
         reached,
+        skipped,
         counts,
     }
 }
@@ -84,7 +93,13 @@ fn decode_usable(
     let passed = parts::decode_part(body, z, plane, level, work, counts, out);
     let asked = passed.at;
     let filled = passed.counts;
-    let next = walk_past(p, reached::with_reached(reached, plane, level), filled);
+    let skipped = walk.skipped;
+    let next = walk_past(
+        p,
+        reached::with_reached(reached, plane, level),
+        skipped,
+        filled,
+    );
     if asked.at == p.bits {
         return Turn {
             found: Found::Part,
@@ -97,7 +112,7 @@ fn decode_usable(
     }
 }
 
-// A whole part: decoded if it is usable, else walked over.
+// A whole part: decoded if it is usable, else walked over and counted.
 fn take_part(bytes: &[u8], z: Size, p: Part, walk: Walk, out: &mut [i32], work: &mut [u32]) -> Turn
     requires { ⌜ Taking (now bytes) z p walk (now out) (now work) ⌝ }
     ensures { λ r.
@@ -106,12 +121,14 @@ fn take_part(bytes: &[u8], z: Size, p: Part, walk: Walk, out: &mut [i32], work: 
 {
     let reached = walk.reached;
     let counts = walk.counts;
+    let skipped = walk.skipped;
+    let over = walk_past(p, reached, reached::with_skipped(skipped, p.level), counts);
     if reached::is_usable(reached, p.plane, p.level) {
         return decode_usable(bytes, z, p, walk, out, work);
     }
     Turn {
         found: Found::Part,
-        walk: walk_past(p, reached, counts),
+        walk: over,
     }
 }
 
@@ -146,19 +163,22 @@ fn refuse(r: Refusal, out: &mut [i32], work: &mut [u32]) -> Decoded
         verdict: Verdict::Refused(r),
         tail: 0,
         reached: [Plane(0); LEVEL_PLACES],
+        skipped: [0usize; LEVEL_PLACES],
     }
 }
 
 // Accepted: the pyramid stands, the workspace is all 0.
 fn accept(tail: usize, walk: Walk, work: &mut [u32]) -> Decoded
-    ensures { λ a. ⌜ Accepting tail (walk .reached) (now (work .entry)) a (now (work .exit)) ⌝ }
+    ensures { λ a. ⌜ Accepting tail (walk .reached) (walk .skipped) (now (work .entry)) a (now (work .exit)) ⌝ }
 {
     memory::zero_u32(work);
     let reached = walk.reached;
+    let skipped = walk.skipped;
     Decoded {
         verdict: Verdict::Accepted,
         tail,
         reached,
+        skipped,
     }
 }
 

@@ -6,6 +6,12 @@ use borrow.Author.Needs.{needs}
 use Rattle.decoder.proofs.take_part.Statement.{statement}
 use Rattle.decoder.proofs.take_part.Tie as tie
 
+with-skipped-requires : tie.Need-with-skipped-requires
+with-skipped-requires c κs = search (needs, level-within)
+
+walk-past-requires : tie.Need-walk-past-requires
+walk-past-requires c κs = search needs
+
 is-usable-requires : tie.Need-is-usable-requires
 is-usable-requires c κs = search (needs, level-within)
 
@@ -22,9 +28,6 @@ returns : tie.Need-returns
 unfolding nameOf
 returns c = search (needs, part-decoded)
 
-walk-past-requires : tie.Need-walk-past-requires
-walk-past-requires c κs = search needs
-
 returns-2 : tie.Need-returns-2
 unfolding nameOf
 returns-2 c = search (needs, part-over)
@@ -33,10 +36,11 @@ pub take-part-spec : {M : Type 1} → statement M
 take-part-spec =
     tie.close
     (tie.spec
+    with-skipped-requires
+    walk-past-requires
     is-usable-requires
     decode-usable-requires
     same-length
     same-length-2
     returns
-    walk-past-requires
     returns-2)
