@@ -6,17 +6,32 @@ use crate::lists::AllLists;
 use crate::passes::{run_part, Side};
 use crate::reading::{Part, Walk};
 use crate::refusal::{Cause, Refusal};
-use crate::size::{Level, Plane, MOST_LEVELS, MOST_PLANES};
+use crate::size::{Level, Plane, Shape, MOST_LEVELS, MOST_PLANES};
 use crate::slip::{Faithful, Slips};
 
-/// Number and place of a refusal, or 0, 0, the length of the record's tail
-/// and each level's reached plane, level 1 first.
+/// Number and place of a refusal, or 0, 0, the length of the record's tail,
+/// and each level's reached plane and number of parts that are there and can't
+/// be used, level 1 first.
 #[derive(Clone, Copy, Debug, Default, PartialEq, Eq)]
 pub struct DecodeAnswer {
     pub number: u64,
     pub place: u64,
     pub tail: u64,
     pub reached: [u64; MOST_LEVELS],
+    pub skipped: [u64; MOST_LEVELS],
+}
+
+impl DecodeAnswer {
+    /// In the order of the exported call.
+    pub fn numbers(&self) -> [u64; 3 + 2 * MOST_LEVELS] {
+        let mut numbers = [0; 3 + 2 * MOST_LEVELS];
+        let (first, levels) = numbers.split_at_mut(3);
+        let (reached, skipped) = levels.split_at_mut(MOST_LEVELS);
+        first.copy_from_slice(&[self.number, self.place, self.tail]);
+        reached.copy_from_slice(&self.reached);
+        skipped.copy_from_slice(&self.skipped);
+        numbers
+    }
 }
 
 /// Decodes a record into a pyramid of exactly its size. After a refusal the
@@ -49,12 +64,8 @@ fn decode_parts<S: Slips>(
 ) -> Result<DecodeAnswer, Refusal> {
     let mut walk = Walk::begin(record)?;
     let header = walk.header();
-    if out.len() != header.shape.area() {
-        return Err(Refusal::new(Cause::Length));
-    }
-    if work.len() < header.shape.workspace() {
-        return Err(Refusal::new(Cause::Work));
-    }
+    judge_lengths(header.shape, out.len(), work.len())?;
+    let mut present = Present::none_yet();
     let mut decoding = Decoding {
         header,
         out,
@@ -62,6 +73,7 @@ fn decode_parts<S: Slips>(
         usable: Usable::none_yet(header),
     };
     while let Some(part) = walk.next_part()? {
+        present.enter(part.plane, part.level);
         if S::TAKES_ABSENT_FOR_EMPTY {
             decoding.take_absent_before::<S>(Some((part.plane, part.level)), part.offset)?;
         }
@@ -72,11 +84,23 @@ fn decode_parts<S: Slips>(
     if S::TAKES_ABSENT_FOR_EMPTY {
         decoding.take_absent_before::<S>(None, record.len())?;
     }
+    let reached = decoding.usable.reached_planes();
     Ok(DecodeAnswer {
         tail: walk.tail() as u64,
-        reached: decoding.usable.reached_planes(),
+        reached,
+        skipped: present.below(reached),
         ..DecodeAnswer::default()
     })
+}
+
+fn judge_lengths(shape: Shape, out: usize, work: usize) -> Result<(), Refusal> {
+    if out != shape.area() {
+        return Err(Refusal::new(Cause::Length));
+    }
+    if work < shape.workspace() {
+        return Err(Refusal::new(Cause::Work));
+    }
+    Ok(())
 }
 
 /// A decoding under way.
@@ -130,6 +154,34 @@ impl Decoding<'_> {
             }
         }
         Ok(())
+    }
+}
+
+/// Which parts are there whole: of each level the planes, as bits.
+struct Present {
+    planes: [u32; MOST_LEVELS],
+}
+
+impl Present {
+    fn none_yet() -> Present {
+        Present {
+            planes: [0; MOST_LEVELS],
+        }
+    }
+
+    fn enter(&mut self, plane: Plane, level: Level) {
+        self.planes[level.0 as usize - 1] |= 1 << plane.0;
+    }
+
+    /// How many of each level lie below the plane that it reached. Usable
+    /// planes run without a gap from the top, so those are the parts that are
+    /// there and not usable, and nothing is counted on the walk.
+    fn below(&self, reached: [u64; MOST_LEVELS]) -> [u64; MOST_LEVELS] {
+        let mut counts = [0; MOST_LEVELS];
+        for (count, (planes, plane)) in counts.iter_mut().zip(self.planes.iter().zip(reached)) {
+            *count = (planes & ((1 << plane) - 1)).count_ones().into();
+        }
+        counts
     }
 }
 

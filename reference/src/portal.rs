@@ -9,8 +9,9 @@ use crate::refusal::Cause;
 pub const CODE_ANSWER: usize = 3;
 /// Number, place, length, tail length.
 pub const SERVE_ANSWER: usize = 4;
-/// Number, place, tail length, six reached planes.
-pub const DECODE_ANSWER: usize = 9;
+/// Number, place, tail length, six reached planes, six counts of parts that
+/// are there and not usable.
+pub const DECODE_ANSWER: usize = 15;
 /// Number, place, W, H, N, planes, whole parts, tail length.
 pub const SURVEY_ANSWER: usize = 8;
 /// Number, place, width, height.
@@ -52,12 +53,7 @@ pub fn afs_decode(record: &[u8], out: &mut [i32], work: &mut [u32], answer: &mut
         work.fill(0);
         return no_room_for(answer);
     }
-    let said = crate::decode(record, out, work);
-    let [r1, r2, r3, r4, r5, r6] = said.reached;
-    put(
-        answer,
-        &[said.number, said.place, said.tail, r1, r2, r3, r4, r5, r6],
-    )
+    put(answer, &crate::decode(record, out, work).numbers())
 }
 
 pub fn afs_survey(record: &[u8], answer: &mut [u64]) -> u64 {

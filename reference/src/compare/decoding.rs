@@ -1,14 +1,32 @@
 //! Cases of decoding.
 
 use super::lent::*;
-use super::{header_of, malformed, Case, Compared, Subject};
-use crate::generate::records::{any_record, Whole};
+use super::{header_of, malformed, Case, Compared, Subject, Wanted};
+use crate::generate::records::{any_record, strike_some, Pieces, Whole};
 use crate::generate::Chance;
 use crate::layout::Header;
 use crate::portal::DECODE_ANSWER;
 
+/// Accepted, with a part that is there and can't be used.
+const SKIPPED: &str = "parts skipped";
+
+pub fn sorts() -> Vec<(&'static str, Wanted)> {
+    vec![(SKIPPED, Wanted::AThirdOfAccepted)]
+}
+
+/// Any record, more often struck than not: what lacks a part is accepted, and
+/// others are skipped for it.
+fn any_or_struck(chance: &mut Chance, whole: &[u8]) -> Vec<u8> {
+    if chance.percent(40) {
+        return any_record(chance, whole);
+    }
+    let mut left = Pieces::of(whole);
+    strike_some(chance, &mut left);
+    any_record(chance, &left.together())
+}
+
 pub fn compare_decode(chance: &mut Chance, base: &Whole, subject: &dyn Subject) -> Compared {
-    let record = any_record(chance, &base.bytes);
+    let record = any_or_struck(chance, &base.bytes);
     let header = header_of(&record);
     let (length, work_length) = decode_room(chance, header);
     let answer_length = answer_length(chance, DECODE_ANSWER);
@@ -16,8 +34,7 @@ pub fn compare_decode(chance: &mut Chance, base: &Whole, subject: &dyn Subject) 
     let mut want_out = Lent::dirty(length, DIRTY_COEFFICIENT);
     let mut want_work = Lent::dirty(work_length, DIRTY_WORD);
     let said = crate::decode(&record, want_out.cells(), want_work.cells());
-    let [r1, r2, r3, r4, r5, r6] = said.reached;
-    let numbers = [said.number, said.place, said.tail, r1, r2, r3, r4, r5, r6];
+    let numbers = said.numbers();
     let (want, mut want_answer) = expected_answer(answer_length, &numbers);
     if answer_length < numbers.len() {
         want_out.cells().fill(0);
@@ -36,6 +53,9 @@ pub fn compare_decode(chance: &mut Chance, base: &Whole, subject: &dyn Subject) 
     check_input("the record", &record, &before)?;
     let mut sorts = malformed::sorts_of(&record, want, said.place);
     sorts.push(base.count.name());
+    if want == 0 && said.skipped.iter().any(|&count| count > 0) {
+        sorts.push(SKIPPED);
+    }
     Ok(Case::new(want, header.map(|header| header.shape)).sorted(sorts))
 }
 

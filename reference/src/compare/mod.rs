@@ -100,12 +100,15 @@ impl Routine {
             Routine::GreySize => grey_in::sorts_of_headers(),
             Routine::GreyIn => grey_in::sorts_of_files(),
             Routine::GreyOut => grey_out::SORTS.to_vec(),
-            Routine::Serve | Routine::Decode | Routine::Survey | Routine::Partlist => {
-                [malformed::sorts(), COUNTS.to_vec()].concat()
-            }
+            Routine::Decode => [records_sorts(), decoding::sorts()].concat(),
+            Routine::Serve | Routine::Survey | Routine::Partlist => records_sorts(),
             Routine::Code => Vec::new(),
         }
     }
+}
+
+fn records_sorts() -> Vec<(&'static str, Wanted)> {
+    [malformed::sorts(), COUNTS.to_vec()].concat()
 }
 
 /// The counts of planes of the records that cases begin from.
@@ -122,6 +125,7 @@ pub enum Wanted {
     One,
     AQuarter,
     AThird,
+    AThirdOfAccepted,
 }
 
 /// What a case is counted by: the answer's number, its shape, if it has a legal

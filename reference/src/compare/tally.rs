@@ -62,6 +62,10 @@ impl Tally {
                 Wanted::One => (count > 0, ""),
                 Wanted::AQuarter => (4 * count >= self.cases, "a quarter being "),
                 Wanted::AThird => (3 * count >= self.cases, "a third being "),
+                Wanted::AThirdOfAccepted => (
+                    3 * count >= self.answers[0],
+                    "a third of the accepted with ",
+                ),
             };
             Some(format!("{least}{name}")).filter(|_| !enough)
         });

@@ -19,6 +19,7 @@ fn take(record: &[u8]) -> u64 {
             place: decoding.place,
             tail: decoding.tail,
             reached: decoding.reached,
+            skipped: decoding.skipped,
             pyramid: (decoding.number == 0).then_some(pyramid),
         };
         assert!(outcome == literal::decode(record), "{record:02X?}");
@@ -119,6 +120,7 @@ fn invented_bits_are_accepted() {
         let record = invented(&mut chance, shape);
         let (answer, pyramid) = decoded(&record);
         assert_eq!((answer.number, answer.reached), (0, [0; 6]));
+        assert_eq!(answer.skipped, [0; 6]);
         let here = pyramid.iter().map(|c| c.unsigned_abs()).max().unwrap();
         largest = largest.max(here);
         assert_eq!(take(&record), 0);

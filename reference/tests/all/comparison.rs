@@ -177,16 +177,34 @@ fn tell(lent: &mut Lent, number: u64) {
 
 #[test]
 fn a_wrong_count_is_caught() {
-    // Length, tail, reached plane of level 6, whole parts; width, height,
-    // length, pixels that were clipped.
+    // Length, tail, reached plane of level 6, skipped parts of level 1 and of
+    // level 6, whole parts; width, height, length, pixels that were clipped.
     fails(Routine::Code, |lent| bump(lent, 2));
     fails(Routine::Serve, |lent| bump(lent, 3));
     fails(Routine::Decode, |lent| bump(lent, 8));
+    fails(Routine::Decode, |lent| bump(lent, 9));
+    fails(Routine::Decode, |lent| bump(lent, 14));
     fails(Routine::Survey, |lent| bump(lent, 6));
     fails(Routine::GreySize, |lent| bump(lent, 2));
     fails(Routine::GreyIn, |lent| bump(lent, 3));
     fails(Routine::GreyOut, |lent| bump(lent, 2));
     fails(Routine::GreyOut, |lent| bump(lent, 3));
+}
+
+/// Reached planes told in the place of the counts, and parts that were used
+/// counted for those that weren't.
+#[test]
+fn wrong_counts_of_skipped_parts_are_caught() {
+    fails(Routine::Decode, |lent| {
+        if lent.answer.len() >= 15 {
+            lent.answer.copy_within(3..9, 9);
+        }
+    });
+    fails(Routine::Decode, |lent| {
+        if lent.answer.len() >= 15 && lent.answer[9] > 0 {
+            lent.answer[9] -= 1;
+        }
+    });
 }
 
 #[test]
@@ -210,15 +228,15 @@ fn bump(lent: &mut Lent, at: usize) {
 fn an_answer_not_cleared_is_caught() {
     for routine in Routine::EXPORTED {
         fails(routine, |lent| {
-            if lent.answer.len() > 9 {
-                lent.answer[9] = 1;
-            }
             if lent.returned == 5 && !lent.answer.is_empty() {
                 lent.answer[0] = 5;
                 lent.answer[lent.answer.len() - 1] = 5;
             }
         });
     }
+    // Behind the last number.
+    fails(Routine::Survey, |lent| bump(lent, 8));
+    fails(Routine::Decode, |lent| bump(lent, 15));
 }
 
 #[test]

@@ -4,7 +4,7 @@
 
 use crate::helpers::*;
 use reference::generate::pyramids::{any_pyramid, pyramid, PyramidKind};
-use reference::generate::records::{strike_some, Pieces};
+use reference::generate::records::{strike_some, PartPieces, Pieces};
 use reference::generate::shapes::{any_shape, shape_of, SizeClass};
 use reference::generate::Chance;
 use reference::size::{Level, Plane, Shape};
@@ -22,7 +22,22 @@ fn check(pyramid: &[i32], shape: Shape, left: &Pieces, record: &[u8], tail: usiz
     assert_eq!((answer.number, answer.place), (0, 0));
     assert_eq!(answer.tail, tail as u64);
     assert_eq!(answer.reached, reached);
+    assert_eq!(answer.skipped, skipped(left, reached));
     assert!(decoded == rounded, "{shape:?}, reached {reached:?}");
+}
+
+/// "With it the answer is complete": of each level used and skipped parts are
+/// those that are there.
+fn skipped(left: &Pieces, reached: [u64; 6]) -> [u64; 6] {
+    let planes = u64::from(left.header[4][0]);
+    let levels = usize::from(left.header[3][0]) + 1;
+    let mut counts = [0; 6];
+    for level in 0..levels {
+        let of_level = |part: &&PartPieces| part.level.0 as usize == level + 1;
+        let there = left.parts.iter().filter(of_level).count() as u64;
+        counts[level] = there - (planes - reached[level]);
+    }
+    counts
 }
 
 fn check_whole(pyramid: &[i32], shape: Shape, left: &Pieces) {

@@ -10,8 +10,7 @@ fn p6_the_example_is_coded() {
 #[test]
 fn p6_the_example_is_decoded() {
     let (answer, pyramid) = decoded(&EXAMPLE);
-    assert_eq!((answer.number, answer.place, answer.tail), (0, 0, 0));
-    assert_eq!(answer.reached, [0; 6]);
+    assert_eq!(answer.numbers(), [0; 15]);
     assert_eq!(pyramid, EXAMPLE_PYRAMID);
 }
 
@@ -31,6 +30,7 @@ fn p8_served_for_level_2() {
     let (answer, pyramid) = decoded(&record);
     assert_eq!(answer.number, 0);
     assert_eq!(answer.reached, [3, 0, 0, 0, 0, 0]);
+    assert_eq!(answer.skipped, [0; 6]);
     assert_eq!(pyramid, [4, -1, 0, 0, 2, 0, 0, 0, 0, 0, 0, 0, 0, 0, 0, 0]);
 }
 
@@ -42,6 +42,7 @@ fn p9_served_for_plane_1() {
     let (answer, pyramid) = decoded(&record);
     assert_eq!(answer.number, 0);
     assert_eq!(answer.reached, [1, 1, 0, 0, 0, 0]);
+    assert_eq!(answer.skipped, [0; 6]);
     assert_eq!(pyramid, [4, 0, 0, 0, 2, 0, 0, -2, 0, 0, 0, 0, 0, 0, 0, 0]);
 }
 
@@ -50,6 +51,7 @@ fn p10_a_coarse_part_lost() {
     let (answer, pyramid) = decoded(&without(&EXAMPLE, &[(1, 2)]));
     assert_eq!(answer.number, 0);
     assert_eq!(answer.reached, [2, 2, 0, 0, 0, 0]);
+    assert_eq!(answer.skipped, [2, 1, 0, 0, 0, 0]);
     assert_eq!(pyramid, [4, 0, 0, 0, 0, 0, 0, 0, 0, 0, 0, 0, 0, 0, 0, 0]);
 }
 
@@ -58,6 +60,7 @@ fn p11_a_fine_part_lost() {
     let (answer, pyramid) = decoded(&without(&EXAMPLE, &[(1, 1)]));
     assert_eq!(answer.number, 0);
     assert_eq!(answer.reached, [2, 0, 0, 0, 0, 0]);
+    assert_eq!(answer.skipped, [1, 0, 0, 0, 0, 0]);
     assert_eq!(pyramid, [4, -1, 0, 0, 2, 0, 0, 0, 0, 0, 0, 0, 0, 0, 0, 0]);
 }
 

@@ -69,6 +69,7 @@ pub fn decode_into<S: Slips>(record: &[u8], out: usize, work: usize) -> (DecodeA
     } else {
         assert!(out.iter().all(|&c| c == 0), "output all 0");
         assert_eq!((answer.tail, answer.reached), (0, [0; 6]));
+        assert_eq!(answer.skipped, [0; 6]);
     }
     (answer, out)
 }

@@ -263,6 +263,7 @@ pub struct Outcome {
     pub place: u64,
     pub tail: u64,
     pub reached: [u64; 6],
+    pub skipped: [u64; 6],
     pub pyramid: Option<Vec<i32>>,
 }
 
@@ -376,13 +377,18 @@ pub fn decode(record: &[u8]) -> Outcome {
     }
 
     let mut reached = [0; 6];
+    let mut skipped = [0; 6];
     for level in 1..=n + 1 {
         let lowest = (0..planes).find(|&plane| usable.contains(&(plane, level)));
         reached[level - 1] = lowest.unwrap_or(planes) as u64;
     }
+    for &(_, level) in present.difference(&usable) {
+        skipped[level - 1] += 1;
+    }
     Outcome {
         tail: tail as u64,
         reached,
+        skipped,
         pyramid: Some(literal.pyramid),
         ..Outcome::default()
     }

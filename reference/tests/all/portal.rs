@@ -1,6 +1,6 @@
 //! The calls in the shape of the exported ones.
 
-use crate::helpers::{EXAMPLE, EXAMPLE_PYRAMID};
+use crate::helpers::{without, EXAMPLE, EXAMPLE_PYRAMID};
 use reference::portal::{afs_code, afs_decode, afs_serve, afs_survey};
 
 const DIRTY: u64 = 0xFEED;
@@ -20,12 +20,20 @@ fn answers_stand_at_the_front() {
     assert_eq!(number, 0);
     assert_eq!(answer, [0, 0, 17, 4, 0, 0, 0, 0, 0, 0, 0, 0]);
 
-    let mut answer = [DIRTY; 12];
+    let mut answer = [DIRTY; 18];
     let (mut pyramid, mut work) = ([9; 16], [9; 70]);
     let number = afs_decode(&EXAMPLE[..29], &mut pyramid, &mut work, &mut answer);
     assert_eq!(number, 0);
-    assert_eq!(answer, [0, 0, 4, 1, 0, 0, 0, 0, 0, 0, 0, 0]);
+    assert_eq!(answer[..9], [0, 0, 4, 1, 0, 0, 0, 0, 0]);
+    assert_eq!(answer[9..], [0; 9]);
     assert_eq!(work, [0; 70]);
+
+    let mut answer = [DIRTY; 18];
+    let lost = without(&EXAMPLE, &[(1, 2)]);
+    let number = afs_decode(&lost, &mut pyramid, &mut work, &mut answer);
+    assert_eq!(number, 0);
+    assert_eq!(answer[..9], [0, 0, 0, 2, 2, 0, 0, 0, 0]);
+    assert_eq!(answer[9..], [2, 1, 0, 0, 0, 0, 0, 0, 0]);
 
     let mut answer = [DIRTY; 12];
     assert_eq!(afs_survey(&EXAMPLE[..29], &mut answer), 0);
@@ -54,13 +62,13 @@ fn refusals_are_returned_and_written() {
     assert_eq!(answer, [11, 0, 0, 0, 0]);
     assert_eq!(out, [0; 40]);
 
-    let mut answer = [DIRTY; 9];
+    let mut answer = [DIRTY; 15];
     let (mut pyramid, mut work) = ([9; 16], [9; 64]);
     assert_eq!(
         afs_decode(&EXAMPLE[..3], &mut pyramid, &mut work, &mut answer),
         6
     );
-    assert_eq!(answer, [6, 3, 0, 0, 0, 0, 0, 0, 0]);
+    assert_eq!((&answer[..2], &answer[2..]), (&[6, 3][..], &[0; 13][..]));
 
     let mut answer = [DIRTY; 9];
     assert_eq!(afs_survey(&EXAMPLE[..3], &mut answer), 6);
@@ -88,7 +96,7 @@ fn an_answer_slice_too_short() {
         assert_eq!((number, out), (5, [0; 40]));
         assert_eq!(answer, vec![0; length]);
     }
-    for length in 0..9 {
+    for length in 0..15 {
         let mut answer = vec![DIRTY; length];
         let (mut out, mut work) = ([9; 11], [9; 5]);
         let number = afs_decode(&EXAMPLE, &mut out, &mut work, &mut answer);
@@ -104,5 +112,5 @@ fn nothing_lent_at_all() {
     assert_eq!(afs_decode(&[], &mut [], &mut [], &mut []), 5);
     assert_eq!(afs_code(&[], 0, 0, 0, &mut [], &mut [], &mut [1; 3]), 1);
     assert_eq!(afs_serve(&[], 0, 0, &mut [], &mut [1; 4]), 6);
-    assert_eq!(afs_decode(&[], &mut [], &mut [], &mut [1; 9]), 6);
+    assert_eq!(afs_decode(&[], &mut [], &mut [], &mut [1; 15]), 6);
 }
