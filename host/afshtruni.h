@@ -7,8 +7,9 @@
  * A smaller version of a record is some of its parts, so it is cut out of the
  * bytes without decoding them: that is serving. A survey tells what a record
  * holds, and so how much to lend for decoding it. Decoding makes a pyramid of
- * whatever parts of a record are there, and tells how far each level got. The
- * pyramid of a picture is made of a grey file, and a grey file of a pyramid.
+ * whatever parts of a record are there, and tells how far each level got and
+ * how many of its parts could not be used. The pyramid of a picture is made of
+ * a grey file, and a grey file of a pyramid.
  *
  * Link with libafshtruni (x86-64), static or shared: pkg-config afshtruni tells
  * how. It needs no library but C's own, allocates nothing, keeps nothing
@@ -34,11 +35,17 @@ extern "C" {
  * VERSION
  *
  * Of this header, and of the library that is installed with it. The shared
- * library is libafshtruni.so.MAJOR.
+ * library is libafshtruni.so.AFS_INTERFACE, a number that goes up where a
+ * program that was built before has to be built anew.
+ *
+ * 0.2.0, libafshtruni.so.1: the answer of afs_decode() has 15 numbers; it had 9,
+ * which stand where they stood. A caller who lends 9 to 14 numbers now gets 5,
+ * with answer, pyramid and workspace all 0.
  */
 #define AFS_VERSION_MAJOR 0
-#define AFS_VERSION_MINOR 1
+#define AFS_VERSION_MINOR 2
 #define AFS_VERSION_PATCH 0
+#define AFS_INTERFACE 1
 
 /*
  * NUMBERS
@@ -381,11 +388,13 @@ uint64_t afs_survey(const uint8_t *record, size_t record_len,
  * are. An answer may be longer; what is beyond is set to 0.
  */
 enum {
-    AFS_DECODED_NUMBER = 0,  /* one of the numbers above, the same as is returned */
-    AFS_DECODED_PLACE = 1,   /* place of a refusal, else 0 */
-    AFS_DECODED_TAIL = 2,    /* bytes of an incomplete part at the record's end, 0 if refused */
-    AFS_DECODED_REACHED = 3, /* six reached planes, level 1 first; 0 beyond level N + 1, 0 if refused */
-    AFS_DECODED_NUMBERS = 9  /* the least length of the answer */
+    AFS_DECODED_NUMBER = 0,   /* one of the numbers above, the same as is returned */
+    AFS_DECODED_PLACE = 1,    /* place of a refusal, else 0 */
+    AFS_DECODED_TAIL = 2,     /* bytes of an incomplete part at the record's end, 0 if refused */
+    AFS_DECODED_REACHED = 3,  /* six reached planes, level 1 first; 0 beyond level N + 1, 0 if refused */
+    AFS_DECODED_SKIPPED = 9,  /* six counts of parts that are there and not usable, likewise */
+    AFS_DECODED_NUMBERS = 15, /* the least length of the answer */
+    AFS_LEVEL_PLACES = 6      /* how many reached planes there are, and how many counts */
 };
 
 /*
@@ -426,6 +435,12 @@ enum {
  * the one that was coded, with no greater magnitude, and with the same sign
  * unless it is 0. With m = 0 it is exact.
  *
+ * The number of skipped parts of level k stands in
+ * answer[AFS_DECODED_SKIPPED + k - 1]: those that are there whole and are not
+ * usable. Together with those that are used, which are as many as the planes
+ * less the reached one, they are all parts of the level that are there. A tail
+ * is not counted.
+ *
  *   record, record_len   the record; only read
  *   out, out_len         where the pyramid goes: exactly width x height of the
  *                        record, row by row
@@ -441,7 +456,7 @@ enum {
  * Numbers, in the order in which they are judged; the first that is due is
  * given:
  *
- *   5 ROOM     answer_len is under 9. This alone is judged before the record,
+ *   5 ROOM     answer_len is under 15. This alone is judged before the record,
  *              and only returned: the answer itself is all 0.
  *   6, 12, 7, 1
  *              as afs_serve() judges the header, in its order and with its
@@ -462,10 +477,10 @@ enum {
  *
  * Memory after the call.
  *
- *   outcome            out           answer                                       work
- *   accepted           the pyramid   0, 0, tail, six reached planes, 0 ...        all 0
- *   refused            all 0         number, place, 0, 0, 0, 0, 0, 0, 0, 0 ...    all 0
- *   answer too short   all 0         all 0                                        all 0
+ *   outcome            out           answer                                             work
+ *   accepted           the pyramid   0, 0, tail, six reached planes, six counts, 0 ...  all 0
+ *   refused            all 0         number, place, 0 ...                               all 0
+ *   answer too short   all 0         all 0                                              all 0
  *
  * A record that no coder wrote may decode to magnitudes over 65535, up to
  * 131071.
@@ -475,21 +490,25 @@ enum {
  *   int32_t out[16];
  *   uint32_t work[64];
  *   uint64_t answer[AFS_DECODED_NUMBERS];
- *   if (afs_decode(record, 30, out, 16, work, 64, answer, 9) == AFS_ACCEPTED)
+ *   if (afs_decode(record, 30, out, 16, work, 64, answer, 15) == AFS_ACCEPTED)
  *       draw(out, answer + AFS_DECODED_REACHED);
  *
- * answers 0, 0, 0 and six times 0, and `out` holds the pyramid that stands
- * there. Of the record's first 29 bytes the last 4 are a tail: the answer is
- * 0, 0, 4, 1, 0, 0, 0, 0, 0, so level 1 got down to plane 1 and level 2 to
- * plane 0, and `out` holds
+ * answers 15 times 0, and `out` holds the pyramid that stands there. Of the
+ * record's first 29 bytes the last 4 are a tail: the answer is 0, 0, 4, then
+ * 1, 0, 0, 0, 0, 0, so level 1 got down to plane 1 and level 2 to plane 0, then
+ * six times 0, as no part is skipped, and `out` holds
  *
  *    4 -1  0  0
  *    2  0  0 -2
  *    0  0  0  0
  *    0  0  0  0
  *
- * With an `out` of 15 numbers it answers 2, 0, 0 and six times 0, and those
- * are all 0.
+ * Where the part of plane 1, level 2 is lost, the 26 other bytes answer 0, 0, 0,
+ * then 2, 2, 0, 0, 0, 0, then 2, 1, 0, 0, 0, 0: of level 1 two parts are there
+ * and not usable, of level 2 one.
+ *
+ * With an `out` of 15 numbers the answer is 2 and 14 times 0, and those are all
+ * 0.
  */
 uint64_t afs_decode(const uint8_t *record, size_t record_len,
                     int32_t *out, size_t out_len,

@@ -7,13 +7,17 @@
 #include <stdlib.h>
 #include <string.h>
 
-enum { LEVELS = AFS_DECODED_NUMBERS - AFS_DECODED_REACHED };
+/* What an answer tells of a record that is accepted; of a refusal it is all 0. */
+typedef struct {
+    uint64_t tail, reached[AFS_LEVEL_PLACES], skipped[AFS_LEVEL_PLACES];
+} Told;
 
-/* A call and what must come of it; a refusal has 0 in tail and reached, and no result. */
+/* A call and what must come of it; a refusal has no result. */
 typedef struct {
     const Bytes *record;
     size_t out_length, work_length, answer_length;
-    uint64_t number, place, tail, reached[LEVELS];
+    uint64_t number, place;
+    Told told;
     const Pyramid *result;
 } Call;
 
@@ -25,8 +29,9 @@ static void check_out(const Call *call, const Lent *out) {
 }
 
 static void try_call(const Call *call) {
-    uint64_t numbers[AFS_DECODED_NUMBERS] = {call->number, call->place, call->tail};
-    memcpy(numbers + AFS_DECODED_REACHED, call->reached, sizeof call->reached);
+    uint64_t numbers[AFS_DECODED_NUMBERS] = {call->number, call->place, call->told.tail};
+    memcpy(numbers + AFS_DECODED_REACHED, call->told.reached, sizeof call->told.reached);
+    memcpy(numbers + AFS_DECODED_SKIPPED, call->told.skipped, sizeof call->told.skipped);
     Lent out = lend(call->out_length * sizeof(int32_t)), work = lend(call->work_length * sizeof(uint32_t));
     Lent answer = lend(call->answer_length * sizeof *numbers);
     Bytes before = copy_of(call->record->at, call->record->length);
@@ -45,13 +50,13 @@ static void try_call(const Call *call) {
     take_back(&out, "written beside the output");
 }
 
-/* The same with answers of other lengths: too short for the answer, and longer than it. */
+/* The same with answers of other lengths: just as long as the answer, longer, and too short for it, as 9 to 14 numbers are since 0.2.0. */
 static void try_answers(Call call) {
-    for (call.answer_length = AFS_DECODED_NUMBERS; call.answer_length <= 11; call.answer_length++)
+    for (call.answer_length = 15; call.answer_length <= 17; call.answer_length++)
         try_call(&call);
     call.number = AFS_ROOM;
     call.result = NULL;
-    for (call.answer_length = 0; call.answer_length < AFS_DECODED_NUMBERS; call.answer_length++)
+    for (call.answer_length = 0; call.answer_length <= 14; call.answer_length++)
         try_call(&call);
 }
 
@@ -83,36 +88,31 @@ static void try_refused_part(const Bytes *record, size_t area, uint64_t number, 
 }
 
 /* As much as there is time for. */
-static void try_once(const Bytes *record, const Pyramid *result, uint64_t tail, const uint64_t *reached) {
-    Call call = {.record = record, .out_length = result->length, .work_length = 4 * result->length, .answer_length = AFS_DECODED_NUMBERS,
-                 .tail = tail, .result = result};
-    memcpy(call.reached, reached, sizeof call.reached);
-    try_call(&call);
+static void try_once(const Bytes *record, const Pyramid *result, const Told *told) {
+    try_call(&(Call){.record = record, .out_length = result->length, .work_length = 4 * result->length, .answer_length = AFS_DECODED_NUMBERS,
+                     .told = *told, .result = result});
 }
 
-static void try_accepted(const Bytes *record, const Pyramid *result, uint64_t tail, const uint64_t *reached) {
+static void try_accepted(const Bytes *record, const Pyramid *result, const Told *told) {
     static const size_t more[] = {0, 1, 9};
-    for (size_t i = 0; i < LENGTH_OF(more); i++) {
-        Call call = {.record = record, .out_length = result->length, .work_length = 4 * result->length + more[i], .tail = tail,
-                     .result = result};
-        memcpy(call.reached, reached, sizeof call.reached);
-        try_answers(call);
-    }
+    for (size_t i = 0; i < LENGTH_OF(more); i++)
+        try_answers((Call){.record = record, .out_length = result->length, .work_length = 4 * result->length + more[i], .told = *told,
+                           .result = result});
     try_wrong_lengths(record, result->length);
 }
 
 /* What the coder writes of a pyramid, or wrote before, decodes to it, exact at every level. */
 static void test_pairs(const Pair *of, size_t count) {
-    static const uint64_t reached[LEVELS];
+    static const Told whole;
     for (size_t i = 0; i < count; i++) {
         const Pair *pair = &of[i];
         begin_case(pair->name);
         Bytes record = bytes_of(pair->record);
         Pyramid pyramid = pyramid_of(pair->pyramid, pair->width * pair->height);
         if (pyramid.length <= 4096)
-            try_accepted(&record, &pyramid, 0, reached);
+            try_accepted(&record, &pyramid, &whole);
         else
-            try_once(&record, &pyramid, 0, reached);
+            try_once(&record, &pyramid, &whole);
         free(pyramid.at);
         free(record.at);
         end_case();
@@ -132,48 +132,49 @@ typedef struct {
     const char *name, *record;
     size_t area;
     const char *pyramid;
-    uint64_t tail, reached[LEVELS];
+    Told told; /* tail, reached planes, skipped parts */
 } Accepted;
 
 static const Accepted accepted[] = {
-    {"P8: level 1 not served", HEADER PART_2_2 PART_1_2 PART_0_2, 16, "4 -1 0 0  2 0", 0, {3, 0}},
-    {"P9: plane 0 not served", HEADER PART_2_2 PART_2_1 PART_1_2 PART_1_1, 16, "4 0 0 0  2 0 0 -2", 0, {1, 1}},
-    {"P10: part (1, 2) lost", HEADER PART_2_2 PART_2_1 PART_1_1 PART_0_2 PART_0_1, 16, "4", 0, {2, 2}},
-    {"P11: part (1, 1) lost", HEADER PART_2_2 PART_2_1 PART_1_2 PART_0_2 PART_0_1, 16, "4 -1 0 0  2 0", 0, {2, 0}},
-    {"first 29 bytes: a tail of 4", HEADER PART_2_2 PART_2_1 PART_1_2 PART_1_1 PART_0_2 "00 01 0B 0C", 16, "4 -1 0 0  2 0 0 -2", 4, {1, 0}},
-    {"header alone", HEADER, 16, "", 0, {3, 3}},
-    {"last part alone", HEADER PART_0_1, 16, "", 0, {3, 3}},
-    {"absent isn't 0 bits", HEADER PART_2_2 PART_1_2 PART_1_1 PART_0_2 PART_0_1, 16, "4 -1 0 0  2 0", 0, {3, 0}},
+    {"P8: level 1 not served", HEADER PART_2_2 PART_1_2 PART_0_2, 16, "4 -1 0 0  2 0", {0, {3, 0}, {0}}},
+    {"P9: plane 0 not served", HEADER PART_2_2 PART_2_1 PART_1_2 PART_1_1, 16, "4 0 0 0  2 0 0 -2", {0, {1, 1}, {0}}},
+    {"P10: part (1, 2) lost", HEADER PART_2_2 PART_2_1 PART_1_1 PART_0_2 PART_0_1, 16, "4", {0, {2, 2}, {2, 1}}},
+    {"P11: part (1, 1) lost", HEADER PART_2_2 PART_2_1 PART_1_2 PART_0_2 PART_0_1, 16, "4 -1 0 0  2 0", {0, {2, 0}, {1}}},
+    {"first 29 bytes: a tail of 4", HEADER PART_2_2 PART_2_1 PART_1_2 PART_1_1 PART_0_2 "00 01 0B 0C", 16, "4 -1 0 0  2 0 0 -2", {4, {1, 0}, {0}}},
+    {"header alone", HEADER, 16, "", {0, {3, 3}, {0}}},
+    {"last part alone", HEADER PART_0_1, 16, "", {0, {3, 3}, {1}}},
+    {"absent isn't 0 bits", HEADER PART_2_2 PART_1_2 PART_1_1 PART_0_2 PART_0_1, 16, "4 -1 0 0  2 0", {0, {3, 0}, {2}}},
 
-    {"no planes", "01 04 04 01 00", 16, "", 0, {0}},
-    {"no planes, head cut", "01 04 04 01 00 00 01", 16, "", 2, {0}},
-    {"131,071: bits that no coder wrote", ALL_ONES, 16, "131071", 0, {0}},
-    {"four of -4", HEADER "02 02 08 FF", 16, "-4 -4 0 0  -4 -4", 0, {3, 2}},
-    {"17 planes, none there", "01 04 04 01 11", 16, "", 0, {17, 17}},
-    {"8 x 8: coarsest level alone", WIDER "00 03 05 80", 64, "1", 0, {1, 1, 0}},
-    {"8 x 8: middle level lost", WIDER "00 03 05 80 00 01 01 00", 64, "1", 0, {1, 1, 0}},
-    {"8 x 8: coarsest level lost", WIDER "00 02 08 C0 00 01 01 00", 64, "", 0, {1, 1, 1}},
-    {"64 x 64, N = 5: six levels", "01 40 40 05 02 01 06 04 00 01 05 03 00 01 04 00 01 03 00 00 06 04 00", 4096, "", 0, {2, 2, 1, 1, 1, 0}},
+    {"no planes", "01 04 04 01 00", 16, "", {0, {0}, {0}}},
+    {"no planes, head cut", "01 04 04 01 00 00 01", 16, "", {2, {0}, {0}}},
+    {"131,071: bits that no coder wrote", ALL_ONES, 16, "131071", {0, {0}, {0}}},
+    {"four of -4", HEADER "02 02 08 FF", 16, "-4 -4 0 0  -4 -4", {0, {3, 2}, {0}}},
+    {"17 planes, none there", "01 04 04 01 11", 16, "", {0, {17, 17}, {0}}},
+    {"8 x 8: coarsest level alone", WIDER "00 03 05 80", 64, "1", {0, {1, 1, 0}, {0}}},
+    {"8 x 8: middle level lost", WIDER "00 03 05 80 00 01 01 00", 64, "1", {0, {1, 1, 0}, {1}}},
+    {"8 x 8: coarsest level lost", WIDER "00 02 08 C0 00 01 01 00", 64, "", {0, {1, 1, 1}, {1, 1}}},
+    {"64 x 64, N = 5: six levels", "01 40 40 05 02 01 06 04 00 01 05 03 00 01 04 00 01 03 00 00 06 04 00", 4096, "", {0, {2, 2, 1, 1, 1, 0}, {0}}},
 
-    {"bits of a part that isn't usable are not judged: too many", HEADER "02 01 40 " EIGHT, 16, "", 0, {3, 3}},
-    {"bits of a part that isn't usable are not judged: none", HEADER "01 02 00", 16, "", 0, {3, 3}},
-    {"bits of a part that isn't usable are not judged: level 1", HEADER PART_2_2 "01 01 01 80", 16, "4", 0, {3, 2}},
-    {"bits of a part that isn't usable are not judged: plane 0", HEADER PART_2_2 PART_2_1 "00 02 00 00 01 40 " EIGHT, 16, "4", 0, {2, 2}},
+    {"bits of a part that isn't usable are not judged: too many", HEADER "02 01 40 " EIGHT, 16, "", {0, {3, 3}, {1}}},
+    {"bits of a part that isn't usable are not judged: none", HEADER "01 02 00", 16, "", {0, {3, 3}, {0, 1}}},
+    {"bits of a part that isn't usable are not judged: level 1", HEADER PART_2_2 "01 01 01 80", 16, "4", {0, {3, 2}, {1}}},
+    {"bits of a part that isn't usable are not judged: plane 0", HEADER PART_2_2 PART_2_1 "00 02 00 00 01 40 " EIGHT, 16, "4", {0, {2, 2}, {1, 1}}},
 
-    {"tail: plane cut", HEADER "80", 16, "", 1, {3, 3}},
-    {"tail: plane of three bytes cut", HEADER "80 80 80", 16, "", 3, {3, 3}},
-    {"tail: plane alone", HEADER "02", 16, "", 1, {3, 3}},
-    {"tail: level cut", HEADER "02 80 80 80", 16, "", 4, {3, 3}},
-    {"tail: plane and level", HEADER "02 02", 16, "", 2, {3, 3}},
-    {"tail: bit count cut", HEADER "02 02 80 80", 16, "", 4, {3, 3}},
-    {"tail: no value judged before the third number", HEADER "7F 7F", 16, "", 2, {3, 3}},
-    {"tail: level cut behind a part", HEADER PART_2_2 "02 80", 16, "4", 2, {3, 2}},
-    {"tail: no value judged where the third number is cut", HEADER "7F 7F FF FF FF", 16, "", 5, {3, 3}},
-    {"tail: out of order, but cut", HEADER PART_2_2 "02 02", 16, "4", 2, {3, 2}},
-    {"tail: body missing", HEADER "02 02 05", 16, "", 3, {3, 3}},
-    {"tail: 64 bits, a byte missing", HEADER "00 01 40 00 00 00 00 00 00 00", 16, "", 10, {3, 3}},
-    {"tail: padding set, but a byte before it missing", HEADER "02 02 0C FF", 16, "", 4, {3, 3}},
-    {"tail: the cut part isn't used", HEADER PART_2_2 PART_2_1 PART_1_2 "01 01 08", 16, "4 0 0 0  2", 3, {2, 1}},
+    {"tail: plane cut", HEADER "80", 16, "", {1, {3, 3}, {0}}},
+    {"tail: plane of three bytes cut", HEADER "80 80 80", 16, "", {3, {3, 3}, {0}}},
+    {"tail: plane alone", HEADER "02", 16, "", {1, {3, 3}, {0}}},
+    {"tail: level cut", HEADER "02 80 80 80", 16, "", {4, {3, 3}, {0}}},
+    {"tail: plane and level", HEADER "02 02", 16, "", {2, {3, 3}, {0}}},
+    {"tail: bit count cut", HEADER "02 02 80 80", 16, "", {4, {3, 3}, {0}}},
+    {"tail: no value judged before the third number", HEADER "7F 7F", 16, "", {2, {3, 3}, {0}}},
+    {"tail: level cut behind a part", HEADER PART_2_2 "02 80", 16, "4", {2, {3, 2}, {0}}},
+    {"tail: no value judged where the third number is cut", HEADER "7F 7F FF FF FF", 16, "", {5, {3, 3}, {0}}},
+    {"tail: out of order, but cut", HEADER PART_2_2 "02 02", 16, "4", {2, {3, 2}, {0}}},
+    {"tail: body missing", HEADER "02 02 05", 16, "", {3, {3, 3}, {0}}},
+    {"tail: 64 bits, a byte missing", HEADER "00 01 40 00 00 00 00 00 00 00", 16, "", {10, {3, 3}, {0}}},
+    {"tail: padding set, but a byte before it missing", HEADER "02 02 0C FF", 16, "", {4, {3, 3}, {0}}},
+    {"tail: not counted behind a skipped part", HEADER PART_2_1 "00 01 0B 0C", 16, "", {4, {3, 3}, {1}}},
+    {"tail: the cut part isn't used", HEADER PART_2_2 PART_2_1 PART_1_2 "01 01 08", 16, "4 0 0 0  2", {3, {2, 1}, {0}}},
 };
 
 /* `area` is 0 where the header is at fault. */
@@ -304,6 +305,7 @@ static const Refused refused[] = {
     {"PART before PAD in a part", HEADER PART_1_2 "02 02 05 81", 16, AFS_PART, 9},
     {"PAD before FIT in a part", HEADER "02 02 04 81", 16, AFS_PAD, 5},
     {"PART before FIT in a part", HEADER "02 02 41 " EIGHT "00", 16, AFS_PART, 5},
+    {"PAD behind a skipped part", HEADER PART_2_1 "00 01 0B 0C 21", 16, AFS_PAD, 9},
     {"PAD before a tail", HEADER "02 02 05 81 02", 16, AFS_PAD, 5},
     {"FIT before a tail", HEADER "02 02 04 80 02", 16, AFS_FIT, 5},
 };
@@ -314,7 +316,7 @@ static void test_tables(void) {
         begin_case(row->name);
         Bytes record = bytes_of(row->record);
         Pyramid result = pyramid_of(row->pyramid, row->area);
-        try_accepted(&record, &result, row->tail, row->reached);
+        try_accepted(&record, &result, &row->told);
         free(result.at);
         free(record.at);
         end_case();
@@ -373,10 +375,15 @@ static bool is_usable(const Part *part, unsigned there) {
     return true;
 }
 
-static void find_reached(unsigned there, uint64_t *reached) {
+/* Of a selection of the parts, from their names: they stand in the order of a record, so the last usable one of a level is the lowest. */
+static Told told_of(unsigned there) {
+    Told told = {.reached = {3, 3}};
     for (size_t i = 0; i < LENGTH_OF(parts); i++)
         if (is_usable(&parts[i], there))
-            reached[parts[i].level - 1] = parts[i].plane;
+            told.reached[parts[i].level - 1] = parts[i].plane;
+        else if (there >> i & 1)
+            told.skipped[parts[i].level - 1]++;
+    return told;
 }
 
 /* Every selection of the example's parts, by "usable" and "reached plane" as document 01 defines them; P8 to P11 are among them. */
@@ -384,16 +391,15 @@ static void test_selections(void) {
     Coded example = {pyramid_of(EXAMPLE_PYRAMID, 16), 4, 4, 1, 3};
     for (unsigned there = 0; there < 1u << LENGTH_OF(parts); there++) {
         char name[32], text[128] = HEADER;
-        uint64_t reached[LEVELS] = {example.planes, example.planes};
         snprintf(name, sizeof name, "selection %u of the parts", there);
         begin_case(name);
         for (size_t i = 0; i < LENGTH_OF(parts); i++)
             if (there >> i & 1)
                 strcat(text, parts[i].text);
-        find_reached(there, reached);
+        Told told = told_of(there);
         Bytes record = bytes_of(text);
-        Pyramid cut = cut_at(&example, reached);
-        try_accepted(&record, &cut, 0, reached);
+        Pyramid cut = cut_at(&example, told.reached);
+        try_accepted(&record, &cut, &told);
         free(cut.at);
         free(record.at);
         end_case();
@@ -408,7 +414,6 @@ static void test_cuts(void) {
     Coded coded = {pyramid_of(EXAMPLE_PYRAMID, 16), 4, 4, 1, 3};
     for (size_t length = 0, whole = 0; length <= example.length; length++) {
         char name[32];
-        uint64_t reached[LEVELS] = {coded.planes, coded.planes};
         snprintf(name, sizeof name, "first %zu bytes", length);
         begin_case(name);
         Bytes cut = copy_of(example.at, length);
@@ -417,9 +422,10 @@ static void test_cuts(void) {
         if (whole == 0)
             try_refused_header(&cut, AFS_HEAD, length);
         else {
-            find_reached((1u << (whole - 1)) - 1, reached);
-            Pyramid result = cut_at(&coded, reached);
-            try_accepted(&cut, &result, length - ends[whole - 1], reached);
+            Told told = told_of((1u << (whole - 1)) - 1);
+            told.tail = length - ends[whole - 1];
+            Pyramid result = cut_at(&coded, told.reached);
+            try_accepted(&cut, &result, &told);
             free(result.at);
         }
         free(cut.at);
@@ -463,13 +469,14 @@ static Bytes record_of(Coded *coded) {
 
 static void try_served(const Coded *coded, const Bytes *record, uint64_t level, uint64_t plane) {
     Bytes out = {memory_of(record->length), record->length};
-    uint64_t answer[AFS_SERVED_NUMBERS], reached[LEVELS] = {0};
+    uint64_t answer[AFS_SERVED_NUMBERS];
+    Told told = {.tail = 0};
     check(afs_serve(record->at, record->length, level, plane, out.at, out.length, answer, AFS_SERVED_NUMBERS) == AFS_ACCEPTED, "served");
     Bytes served = copy_of(out.at, answer[AFS_SERVED_LENGTH]);
     for (uint64_t k = 1; k <= coded->decompositions + 1; k++)
-        reached[k - 1] = k >= level ? plane : coded->planes;
-    Pyramid result = cut_at(coded, reached);
-    try_once(&served, &result, 0, reached);
+        told.reached[k - 1] = k >= level ? plane : coded->planes;
+    Pyramid result = cut_at(coded, told.reached);
+    try_once(&served, &result, &told);
     free(result.at);
     free(served.at);
     free(out.at);

@@ -80,6 +80,7 @@ static Outcome decode_into(Bytes record, int32_t *pyramid, size_t count, uint32_
         .tail = answer[AFS_DECODED_TAIL],
     };
     memcpy(outcome.reached, answer + AFS_DECODED_REACHED, sizeof outcome.reached);
+    memcpy(outcome.skipped, answer + AFS_DECODED_SKIPPED, sizeof outcome.skipped);
     return outcome;
 }
 

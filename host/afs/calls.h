@@ -6,16 +6,17 @@
 #include "files.h"
 #include "record.h"
 
-enum { LEVEL_PLACES = AFS_DECODED_NUMBERS - AFS_DECODED_REACHED, WORK_PER_COEFFICIENT = AFS_WORK(1, 1) };
+enum { WORK_PER_COEFFICIENT = AFS_WORK(1, 1) };
 
 /* What came of a call. Where it refused, all but number and place is 0. */
 typedef struct {
     uint64_t number, place;
-    Bytes bytes;                    /* the record or pyramid that was made; the caller frees it */
-    uint64_t tail;                  /* bytes of an incomplete part at the end of the record that was read */
-    uint64_t reached[LEVEL_PLACES]; /* from decoding: the reached plane of each level, level 1 first */
-    uint64_t clipped;               /* from printing: pixels that were set to the nearer end */
-    uint64_t plane, farthest;       /* from serving within a distance: the plane, and how far a printed pixel may be */
+    Bytes bytes;                        /* the record or pyramid that was made; the caller frees it */
+    uint64_t tail;                      /* bytes of an incomplete part at the end of the record that was read */
+    uint64_t reached[AFS_LEVEL_PLACES]; /* from decoding: the reached plane of each level, level 1 first */
+    uint64_t skipped[AFS_LEVEL_PLACES]; /* from decoding: its parts that are there and not usable */
+    uint64_t clipped;                   /* from printing: pixels that were set to the nearer end */
+    uint64_t plane, farthest;           /* from serving within a distance: the plane, and how far a printed pixel may be */
 } Outcome;
 
 /* A pyramid in a file is a row of 32-bit numbers, lowest byte first. */

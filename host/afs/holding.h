@@ -10,8 +10,8 @@
 typedef struct {
     Header header;
     uint32_t levels;
-    uint32_t there[LEVEL_PLACES]; /* bit n is set if the level's part of plane n is there */
-    const uint64_t *reached;      /* where it was decoded */
+    uint32_t there[AFS_LEVEL_PLACES];   /* bit n is set if the level's part of plane n is there */
+    const uint64_t *reached, *skipped; /* where it was decoded */
     uint64_t tail;
 } Holding;
 

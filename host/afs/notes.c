@@ -27,7 +27,10 @@ static void note_reached(const Request *request, const char *name, const Holding
     fputs("reached planes", text.stream);
     for (uint32_t level = 1; level <= holding->levels; level++)
         fprintf(text.stream, " %" PRIu64, holding->reached[level - 1]);
-    fprintf(text.stream, " (level 1 first), tail %" PRIu64, holding->tail);
+    fputs(" (level 1 first), skipped parts", text.stream);
+    for (uint32_t level = 1; level <= holding->levels; level++)
+        fprintf(text.stream, " %" PRIu64, holding->skipped[level - 1]);
+    fprintf(text.stream, ", tail %" PRIu64, holding->tail);
     tell_farthest(text.stream, request, holding);
     note(name, &text);
 }

@@ -30,6 +30,14 @@ static void tell_grid(FILE *out, const Holding *holding) {
     fputs("    #  there and used   o  there, but not used, as a part that it builds on is missing   .  missing\n", out);
 }
 
+static void tell_skipped(FILE *out, const Holding *holding) {
+    for (uint32_t level = holding->levels; level > 0; level--) {
+        uint64_t count = holding->skipped[level - 1];
+        if (count > 0)
+            fprintf(out, "level %" PRIu32 ": %" PRIu64 " %s there that can't be used\n", level, count, count == 1 ? "part is" : "parts are");
+    }
+}
+
 /* Says for what request serving a whole record would keep as many, if there is one. Nobody can tell whether that was so. */
 static void tell_request(FILE *out, const Holding *holding) {
     uint32_t least_plane = holding->header.planes, least_level = holding->levels;
@@ -62,6 +70,7 @@ static void tell_parts(FILE *out, const Holding *holding) {
         fputs("Without planes there are no parts: every coefficient is 0.\n", out);
     else
         tell_grid(out, holding);
+    tell_skipped(out, holding);
     if (!is_whole(holding))
         tell_request(out, holding);
 }
