@@ -38,6 +38,8 @@ fn refusal_number(r: Refusal) -> u64
         Refusal::Ask => 11,
         Refusal::LongForm(_) => 12,
         Refusal::Grey => 13,
+        Refusal::Mixed => 14,
+        Refusal::Clash(_) => 15,
     }
 }
 
@@ -51,6 +53,7 @@ fn refusal_place(r: Refusal) -> u64
         Refusal::Pad(place) => place as u64,
         Refusal::Fit(place) => place as u64,
         Refusal::LongForm(place) => place as u64,
+        Refusal::Clash(place) => place as u64,
         Refusal::Size => 0,
         Refusal::Length => 0,
         Refusal::Work => 0,
@@ -58,6 +61,7 @@ fn refusal_place(r: Refusal) -> u64
         Refusal::Version => 0,
         Refusal::Ask => 0,
         Refusal::Grey => 0,
+        Refusal::Mixed => 0,
     }
 }
 

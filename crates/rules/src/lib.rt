@@ -43,6 +43,8 @@ pub enum Refusal {
     Ask,
     LongForm(usize),
     Grey,
+    Mixed,
+    Clash(usize),
 }
 
 pub enum Verdict {

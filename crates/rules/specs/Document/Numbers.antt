@@ -36,6 +36,8 @@ refusalNumber (refusal.Fit i) = 10
 refusalNumber refusal.Ask = 11
 refusalNumber (refusal.LongForm i) = 12
 refusalNumber refusal.Grey = 13
+refusalNumber refusal.Mixed = 14
+refusalNumber (refusal.Clash i) = 15
 
 abbrev pub refusalPlace : Refusal → ℕ
 refusalPlace refusal.Size = 0
@@ -51,6 +53,8 @@ refusalPlace (refusal.Fit i) = i
 refusalPlace refusal.Ask = 0
 refusalPlace (refusal.LongForm i) = i
 refusalPlace refusal.Grey = 0
+refusalPlace refusal.Mixed = 0
+refusalPlace (refusal.Clash i) = i
 
 abbrev pub verdictNumber : Verdict → ℕ
 verdictNumber Accepted = 0

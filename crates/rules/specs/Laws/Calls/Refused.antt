@@ -41,7 +41,7 @@ refusalOf : ℕ → ℕ → Refusal
 refusalOf n at =
     withNumber n (
     refusal.Size ∷ refusal.Length ∷ refusal.Work ∷ refusal.Range at ∷ refusal.Room ∷ refusal.Head at ∷ refusal.Version ∷ refusal.Part at ∷ refusal.Pad at
-    ∷ refusal.Fit at ∷ refusal.Ask ∷ refusal.LongForm at ∷ refusal.Grey ∷ []
+    ∷ refusal.Fit at ∷ refusal.Ask ∷ refusal.LongForm at ∷ refusal.Grey ∷ refusal.Mixed ∷ refusal.Clash at ∷ []
     )
 
 refusal-told : (r : Refusal) → refusalOf (refusalNumber r) (refusalPlace r) ≡ r
@@ -59,6 +59,8 @@ refusal-told (refusal.Fit i) = refl
 refusal-told refusal.Ask = refl
 refusal-told (refusal.LongForm i) = refl
 refusal-told refusal.Grey = refl
+refusal-told refusal.Mixed = refl
+refusal-told (refusal.Clash i) = refl
 
 unfoldable pub verdictOf : {X : Type 0} → Result X → Verdict
 verdictOf (refused r) = Refused r

@@ -66,6 +66,8 @@ refusal-some (refusal.Fit i) = omega arith
 refusal-some refusal.Ask = omega arith
 refusal-some (refusal.LongForm i) = omega arith
 refusal-some refusal.Grey = omega arith
+refusal-some refusal.Mixed = omega arith
+refusal-some (refusal.Clash i) = omega arith
 
 pub number-accepts : (v : Verdict) → verdictNumber v ≡ 0 → v ≡ Accepted
 number-accepts Accepted e = refl
