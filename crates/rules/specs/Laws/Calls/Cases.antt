@@ -91,13 +91,13 @@ module _ (h : Header) (r p : ℕ) where
 
 -- A header and parts whose case is known.
 module _ (s : List ℕ) where
-  header-of : (x : HeaderRead) → readHeader s ≡ x → HeaderCase s x
+  pub header-of : (x : HeaderRead) → readHeader s ≡ x → HeaderCase s x
   header-of x e = subst (HeaderCase s) e (header-case s)
 
-  parts-to : (h : Header) (e : Ending) → readParts h s .ending ≡ e → Parts h s (readParts h s .parts) e
+  pub parts-to : (h : Header) (e : Ending) → readParts h s .ending ≡ e → Parts h s (readParts h s .parts) e
   parts-to h e q = subst (Parts h s (readParts h s .parts)) q (parts-case h s)
 
-  parts-of : (h : Header) (ps : List Part) (e : Ending) → HeaderCase s (header.Header h) → Parts h s ps e
+  pub parts-of : (h : Header) (ps : List Part) (e : Ending) → HeaderCase s (header.Header h) → Parts h s ps e
       → readParts h s ≡ record { parts = ps; ending = e }
   parts-of h ps e c w = parts-is h s ps e (header-within (readHeader-stands s h (header-is s _ c))) w
 

@@ -98,7 +98,7 @@ module _ {X : Type 0} where
       })
 
 -- Each routine gives its own numbers only.
-header-gives : {s : List ℕ} {why : Refusal} (P : ℕ → Type 0) → P 1 → P 6 → P 7 → P 12 → HeaderCase s (header.Refused why) → P (refusalNumber why)
+pub header-gives : {s : List ℕ} {why : Refusal} (P : ℕ → Type 0) → P 1 → P 6 → P 7 → P 12 → HeaderCase s (header.Refused why) → P (refusalNumber why)
 header-gives P one six seven twelve (HEAD u) = six
 header-gives P one six seven twelve (LONGFORM e) = twelve
 header-gives P one six seven twelve (VERSION ns n) = seven
@@ -113,7 +113,7 @@ part-gives P eight nine twelve (LONGFORM ns l e) = twelve
 part-gives P eight nine twelve (PART r n) = eight
 part-gives P eight nine twelve (PAD r l w q) = nine
 
-parts-gives : {h : Header} {s : List ℕ} {before : PartName} {place : ℕ} {ps : List Part} {why : Refusal} (P : ℕ → Type 0) → P 8 → P 9 → P 12
+pub parts-gives : {h : Header} {s : List ℕ} {before : PartName} {place : ℕ} {ps : List Part} {why : Refusal} (P : ℕ → Type 0) → P 8 → P 9 → P 12
     → Walk h s before place ps (fault why) → P (refusalNumber why)
 parts-gives P eight nine twelve (MORE c w) = parts-gives P eight nine twelve w
 parts-gives P eight nine twelve (FAULT c) = part-gives P eight nine twelve c
@@ -146,6 +146,11 @@ decoding-gives (PARTS c L K w f) = parts-gives (among decodingNumbers) refl refl
 decoding-gives (FIT c L K w f) = refl
 decoding-gives (DECODED c L K w f) = refl
 
+pub code-verdict : (y : Result (List ℕ)) → codeAnswer y .verdict ≡ verdictOf y
+unfolding codeAnswer verdictOf
+code-verdict (refused r) = refl
+code-verdict (accepted bytes) = refl
+
 -- "Refused: output slice all 0. Accepted: number and place 0, every coefficient written; for bytes, all after the result 0." "A refusal has 0
 -- in all but number and place. Workspace: all 0 after every call."
 pub coding-refused : {pyramid : List ℤ} {z : Size} {out work : List ℕ} {answer : Coded} {out′ work′ : List ℕ}
@@ -158,13 +163,9 @@ coding-refused {pyramid = pyramid} {z = z} {out = out} {work = work} {answer = a
     let y : Result (List ℕ) = coding pyramid z (length out) (length work) in
     let c : CodingCase pyramid z (length out) (length work) y = coding-case pyramid z (length out) (length work) in
     exactly (CodingCase pyramid z (length out) (length work)) y c (coding-is pyramid z (length out) (length work)) codingNumbers (coding-gives c)
-    (answer .verdict) (ap (λ a. a .verdict) (x .answers) ∙ verdict y)
+    (answer .verdict) (ap (λ a. a .verdict) (x .answers) ∙ code-verdict y)
     _ (λ r e. (ap (λ a. a .length) (x .answers ∙ ap codeAnswer e), x .writes ∙ ap (codeOut (length out)) e, x .clears))
     _ (λ bytes e. (ap (λ a. a .length) (x .answers ∙ ap codeAnswer e), x .writes ∙ ap (codeOut (length out)) e, x .clears))
-  where
-    verdict : (y : Result (List ℕ)) → codeAnswer y .verdict ≡ verdictOf y
-    verdict (refused r) = refl
-    verdict (accepted bytes) = refl
 
 pub serving-refused : {s : List ℕ} {r p : ℕ} {out : List ℕ} {answer : Served} {out′ : List ℕ} → Serving s r p out answer out′
     → Exactly (ServingCase s r p (length out)) servingNumbers (answer .verdict)

@@ -1,7 +1,7 @@
 -- Demand 2, for Promises/Two: the coder's record has every part, what is served of it, and that with every part there every level reaches plane 0
 -- and none is skipped, so that a whole record decodes to the pyramid.
 use mathlib.Core.Path.{_≡_, refl, ap, sym, _∙_, subst}
-use mathlib.Core.List.{List, [], _∷_, _++_, append-assoc}
+use mathlib.Core.List.{List}
 use mathlib.Core.Bool.{Bool, true}
 use Prim.Native.Nat.{ℕ, suc, _-_, _≤_, _<_}
 use native.Mathlib.Omega.{arith}
@@ -18,9 +18,8 @@ use Rattle.rules.specs.Document.Pyramid.{levels, levelOf, family, magnit
 use Rattle.rules.specs.Document.Passes.{PartName, partNames, start}
 use Rattle.rules.specs.Document.Layout.{partsWith, recordWith, earlierPlanesIn, recordOf, usable, reached}
 use Rattle.rules.specs.Document.Calls.{accepted, unless, legalAsk, portioned, serving, levelPlaces, planeIn, countIn, decoding}
-use Rattle.rules.specs.Laws.Counting.Booleans.{both, either-right}
 use Rattle.rules.specs.Laws.Counting.Sums.{all-of}
-use Rattle.rules.specs.Laws.Reading.Parts.{name-same, present-append, every-name, names-named}
+use Rattle.rules.specs.Laws.Reading.Parts.{names-named, all-present}
 use Rattle.rules.specs.Promises.Vocabulary.{at, Named, present, headerOf, recordBytes, Codable, Stated, PlaneCount, names, kept, asked, wholeIn, tailIn}
 use Rattle.rules.specs.Promises.Vocabulary.{arrived, Rounded, ReadsAs}
 use Rattle.rules.specs.Laws.Reading.Usable.{every-usable, usable-reached, reached-within}
@@ -35,17 +34,6 @@ use Rattle.rules.specs.Laws.Calls.Arrived.{this-count, earlier-count, de
 -- The record has a part for every plane and every level, planes downward and levels downward in a plane.
 pub demand2-names : (z : Size) (planes : ℕ) (pyramid : List ℤ) → names (partsWith z planes pyramid) ≡ partNames (levels z) planes
 demand2-names z planes pyramid = coded-names (family z) (magnitude pyramid) (negative pyramid) (partNames (levels z) planes) (start z)
-
-each-present : (xs ys : List PartName) → every (present (ys ++ xs)) xs ≡ true
-unfolding every present any
-each-present [] ys = refl
-each-present (x ∷ xs) ys =
-    both _ _
-    (present-append ys (x ∷ xs) x ∙ either-right (present ys x) _ (rw (name-same x x refl refl)))
-    (subst (λ l. every (present l) xs ≡ true) (append-assoc ys (x ∷ []) xs) (each-present xs (ys ++ (x ∷ []))))
-
-all-present : (top planes : ℕ) (p : PartName) → Named top planes p → present (partNames top planes) p ≡ true
-all-present top planes = every-name (present (partNames top planes)) top planes (each-present (partNames top planes) [])
 
 pub demand2-every : (z : Size) (planes : ℕ) (pyramid : List ℤ) (p : PartName) → Named (levels z) planes p
     → present (names (partsWith z planes pyramid)) p ≡ true

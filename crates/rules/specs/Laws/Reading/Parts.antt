@@ -1,6 +1,6 @@
 -- The parts of a record: their names, which of them are there, and their order.
 use mathlib.Core.Path.{_≡_, refl, ap, sym, _∙_, subst}
-use mathlib.Core.List.{List, [], _∷_, _++_}
+use mathlib.Core.List.{List, [], _∷_, _++_, append-assoc}
 use mathlib.Core.Bool.{Bool, true, false, _&&_, _||_}
 use mathlib.Core.Logic.{⊎-elim}
 use Prim.Native.Nat.{ℕ, zero, suc, _≤_, _<_}
@@ -105,6 +105,18 @@ names-named top planes = planes-named top planes planes (omega arith)
 pub present-append : (xs ys : List PartName) (q : PartName) → present (xs ++ ys) q ≡ present xs q || present ys q
 unfolding present
 present-append xs ys q = any-append (sameName q) xs ys
+
+-- Every name that a record may have is among all names.
+each-present : (xs ys : List PartName) → every (present (ys ++ xs)) xs ≡ true
+unfolding every present any
+each-present [] ys = refl
+each-present (x ∷ xs) ys =
+    both _ _
+    (present-append ys (x ∷ xs) x ∙ either-right (present ys x) _ (rw (name-same x x refl refl)))
+    (subst (λ l. every (present l) xs ≡ true) (append-assoc ys (x ∷ []) xs) (each-present xs (ys ++ (x ∷ []))))
+
+pub all-present : (top planes : ℕ) (p : PartName) → Named top planes p → present (partNames top planes) p ≡ true
+all-present top planes = every-name (present (partNames top planes)) top planes (each-present (partNames top planes) [])
 
 pub absent : (P : PartName → Type 0) (xs : List PartName) (q : PartName) → All P xs → (P q → ⊥) → present xs q ≡ false
 unfolding present any All

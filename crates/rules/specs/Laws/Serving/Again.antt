@@ -46,7 +46,7 @@ module _ (s : List ℕ) (r1 p1 : ℕ) (x : Portion) (v : IsServed s r1 p1 x) (r2
       = ap (take end) (v .bytes) ∙ take-at f (flat (wholeOf s) (selection (wanted r1 p1) ps)) end n in
       ap₂ _++_ front
       (ap₂ (λ (l : List ℕ) (m : ℕ). flat (keptOf l r2 p2) (placedFrom m (selection (wanted r1 p1) ps))) (v .bytes) (sym n)
-      ∙ kept-moved (v .head) s (wanted r1 p1) r2 p2 ps (record { plane = v .head .planes; level = 0 }) end (readParts-whole (v .head) s) f
+      ∙ kept-moved (v .head) s (wanted r1 p1) ps (record { plane = v .head .planes; level = 0 }) end (readParts-whole (v .head) s) r2 p2 f
       ∙ kept-both s r1 p1 r2 p2 ps)
 
   pub serving-again : (room : ℕ)

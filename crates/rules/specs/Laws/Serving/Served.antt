@@ -99,7 +99,7 @@ module _ (s : List ℕ) (r p : ℕ) (x : Portion) (v : IsServed s r p x) where
       let n : length f ≡ v .head .end = length-take-le (v .head .end) s within in
       let first : PartName = record { plane = v .head .planes; level = 0 } in
       let c : partsFrom (v .head) (f ++ flat (wholeOf s) named) first (length f) ≡ record { parts = placedFrom (length f) named; ending = tail 0 }
-      = selection-read (v .head) s (wanted r p) (readParts (v .head) s .parts) first first (v .head .end) (readParts-whole (v .head) s) (λ y t. t) f in
+      = selection-read (v .head) s (wanted r p) (readParts (v .head) s .parts) first (v .head .end) (readParts-whole (v .head) s) first (λ y t. t) f in
       readParts-from (v .head) (x .bytes) (header-within (readHeader-stands (x .bytes) (v .head) served-header))
       ∙ subst₂ (λ (l : List ℕ) (k : ℕ). partsFrom (v .head) l first k ≡ record { parts = placedFrom k named; ending = tail 0 }) (sym (v .bytes)) n c
 
@@ -157,17 +157,22 @@ pub asks-all : (h : Header) → legalAsk h 1 0 ≡ true
 unfolding legalAsk
 asks-all h = both _ _ (both _ _ (le-leb 1 1 (omega arith)) (le-leb 1 (topLevel h) (omega arith))) (le-leb 0 (h .planes) (omega arith))
 
+-- A record without its tail is its header and its parts.
+pub record-whole : (s : List ℕ) (h : Header) (k : ℕ) → h .end ≤ length s → readParts h s .ending ≡ tail k
+    → take (h .end) s ++ flat (wholeOf s) (readParts h s .parts) ≡ take (length s - k) s
+record-whole s h k l e =
+    let kept = take (h .end) s ++ flat (wholeOf s) (readParts h s .parts) in
+    let cut = drop (length s - k) s in
+    let whole : kept ++ cut ≡ s = append-assoc (take (h .end) s) _ cut ∙ record-bytes h s k l e in
+    let n : length kept ≡ length s - k = omega (arith, sym (length-append kept cut) ∙ ap length whole, length-drop (length s - k) s) in
+    sym (take-at kept cut (length s - k) n) ∙ ap (take (length s - k)) whole
+
 serves-all : (s : List ℕ) (h : Header) (k : ℕ) → h .end ≤ length s → readParts h s .ending ≡ tail k
     → servedBytes h s 1 0 (readParts h s .parts) ≡ take (length s - k) s
 unfolding servedBytes
 serves-all s h k l e =
     let c = selection-all h s (record { plane = h .planes; level = 0 }) (h .end) (readParts h s .parts) (readParts-whole h s) in
-    let kept = take (h .end) s ++ flat (wholeOf s) (readParts h s .parts) in
-    let cut = drop (length s - k) s in
-    let whole : kept ++ cut ≡ s = append-assoc (take (h .end) s) _ cut ∙ record-bytes h s k l e in
-    let n : length kept ≡ length s - k = omega (arith, sym (length-append kept cut) ∙ ap length whole, length-drop (length s - k) s) in
-    ap (λ (x : List ℕ). take (h .end) s ++ x) (flat-selection s 1 0 (readParts h s .parts) ∙ ap (flat (wholeOf s)) c)
-    ∙ sym (take-at kept cut (length s - k) n) ∙ ap (take (length s - k)) whole
+    ap (λ (x : List ℕ). take (h .end) s ++ x) (flat-selection s 1 0 (readParts h s .parts) ∙ ap (flat (wholeOf s)) c) ∙ record-whole s h k l e
 
 -- A record served whole is itself less its tail, in whatever room there is; without a tail it is itself.
 pub serving-all : (s : List ℕ) (h : Header) (k room : ℕ) → readHeader s ≡ header.Header h → readParts h s .ending ≡ tail k

@@ -1,0 +1,1 @@
+// Joining two records: definitions and laws, in specs. There is no code here.
