@@ -1,12 +1,15 @@
--- What each turn of a loop that zeroes, copies or moves leaves, and what it comes to at the end.
+-- What each turn of a loop that zeroes, copies, compares or moves leaves, and what it comes to at the end.
 use mathlib.Core.Path.{_≡_, refl, sym, ap, subst, _∙_}
 use mathlib.Core.List.{List, [], _∷_, _++_}
+use mathlib.Core.Bool.{Bool, true, false, true≢false}
+use mathlib.Core.Logic.{_↔_, _≢_}
 use Prim.Native.Nat.{ℕ, suc, _+_, _-_, _≤_, _<_, min}
 use native.Mathlib.Nat.{add-suc, add-zero}
 use native.Mathlib.Numerals.{add-one}
 use native.Mathlib.Omega.{arith}
+use native.Mathlib.Decide.{decLt}
 use lib.ListN.{length, getD, set, take, drop, replicate, length-set, length-take, drop-of-length-le, replicate-append-replicate}
-use lib.Seq.{sets, take-suc, take-suc-set, take-all, take-take, drop-cons}
+use lib.Seq.{sets, take-suc, take-suc-set, take-all, take-take, drop-cons, ext-getD}
 use Rattle.memory.specs.Stores.{stretch, stretch-length, stretch-at, sets-cut, sets-append, getD-sets-before, set-sets-before}
 
 -- The first i elements of s, a list that was d, are v.
@@ -109,3 +112,64 @@ module _ {d : List ℕ} {start n by : ℕ} where
         m .list
         ∙ rw (z, add-zero, ← take-take n count (drop start d) (omega arith))
         (sets-cut d (start + by) n (stretch start count d) (omega arith))
+
+-- What a comparison of two stretches says.
+abbrev pub Compared : List ℕ → ℕ → ℕ → List ℕ → ℕ → ℕ → Bool → Type 0
+Compared a start count b from many r = (r ≡ true) ↔ (stretch start count a ≡ stretch from many b)
+
+-- Both are n bytes long, and the same in their first i.
+pub record Alike (a : List ℕ) (start count : ℕ) (b : List ℕ) (from many n i : ℕ) : Type 0 where
+  pub within : i ≤ n
+  pub ours : length (stretch start count a) ≡ n
+  pub theirs : length (stretch from many b) ≡ n
+  pub front : (j : ℕ) → j < i → getD (stretch start count a) j 0 ≡ getD (stretch from many b) j 0
+
+module _ (a : List ℕ) (start count : ℕ) (b : List ℕ) (from many : ℕ) where
+  told-false : (stretch start count a ≢ stretch from many b) → Compared a start count b from many false
+  told-false n = (λ e. absurd (true≢false (sym e)), λ e. absurd (n e))
+
+  -- as many bytes of each as there are
+  module _ (x y n m : ℕ) (xs : x ≡ length a - start) (ys : y ≡ length b - from) (ns : n ≡ min count x) (ms : m ≡ min many y) where
+    ours : length (stretch start count a) ≡ n
+    ours = stretch-length start count a ∙ sym (ns ∙ ap (min count) xs)
+
+    theirs : length (stretch from many b) ≡ m
+    theirs = stretch-length from many b ∙ sym (ms ∙ ap (min many) ys)
+
+    pub unlike-length : n ≢ m → Compared a start count b from many false
+    unlike-length d = told-false (λ g. d (sym ours ∙ ap length g ∙ theirs))
+
+    pub alike-none : n ≡ m → Alike a start count b from many n 0
+    alike-none d = record { within = omega arith; ours = ours; theirs = theirs ∙ sym d; front = λ j l. absurd (omega arith) }
+
+  -- a byte of each, as it is read
+  at-both : {n i : ℕ} → Alike a start count b from many n i → i < n
+      → (getD (stretch start count a) i 0 ≡ getD a (start + i) 0) × (getD (stretch from many b) i 0 ≡ getD b (from + i) 0)
+  at-both {n} {i} k l = (
+    stretch-at start count a i 0 (omega (arith, k .ours, length-take count (drop start a))),
+    stretch-at from many b i 0 (omega (arith, k .theirs, length-take many (drop from b))),
+  )
+
+  pub unlike-byte : (n i : ℕ) → Alike a start count b from many n i → i < n → getD a (start + i) 0 ≢ getD b (from + i) 0
+      → Compared a start count b from many false
+  unlike-byte n i k l d = let e = at-both k l in told-false (λ g. d (sym (e .0) ∙ ap (λ x. getD x i 0) g ∙ e .1))
+
+  pub alike-more : (n i : ℕ) → Alike a start count b from many n i → i < n → getD a (start + i) 0 ≡ getD b (from + i) 0
+      → Alike a start count b from many n (i + 1)
+  alike-more n i k l e = record { within = omega arith; ours = k .ours; theirs = k .theirs; front = λ j m. by j (decLt j i) m }
+    where
+      by : (j : ℕ) → Dec (j < i) → j < i + 1 → getD (stretch start count a) j 0 ≡ getD (stretch from many b) j 0
+      by j (yes x) m = k .front j x
+      by j (no x) m =
+          let f = at-both k l in
+          let q : i ≡ j = omega arith in
+          subst (λ j. getD (stretch start count a) j 0 ≡ getD (stretch from many b) j 0) q (f .0 ∙ e ∙ sym (f .1))
+
+  pub alike-all : (n i : ℕ) → Alike a start count b from many n i → n ≤ i → Compared a start count b from many true
+  alike-all n i k l = (
+    λ e. ext-getD 0 (stretch start count a) (stretch from many b) (k .ours ∙ sym (k .theirs)) (λ j m. k .front j (omega (arith, k .ours))),
+    λ e. refl,
+  )
+
+pub fewer : (n i : ℕ) → i < n → n - (i + 1) < n - i
+fewer n i l = omega arith

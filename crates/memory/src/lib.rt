@@ -1,5 +1,7 @@
-// Zeroing whole slices, and copying stretches of bytes. What would fall past the end of a slice is left out.
+// Zeroing whole slices, copying and comparing stretches of bytes. What would fall past the end of a slice is left out.
 ghost use mathlib.Core.Path.{_≡_};
+ghost use mathlib.Core.Bool.{true};
+ghost use mathlib.Core.Logic.{_↔_};
 ghost use Prim.Native.Nat.{_+_, _-_, min};
 ghost use lib.ListN.{length, replicate, take, drop};
 ghost use lib.IntN.{pos};
@@ -69,6 +71,25 @@ pub fn copy(from: &[u8], start: usize, count: usize, to: &mut [u8], at: usize)
         to[at + i] = from[start + i];
         i += 1;
     }
+}
+
+// Whether the `count` bytes of `a` at `start` are the same as the `many` bytes of `b` at `from`.
+pub fn same(a: &[u8], start: usize, count: usize, b: &[u8], from: usize, many: usize) -> bool
+    ensures { λ r. ⌜ (r ≡ true) ↔ (take count (drop start (now (a .entry))) ≡ take many (drop from (now (b .entry)))) ⌝ }
+{
+    let there = lesser(count, places_from(start, a.len()));
+    let others = lesser(many, places_from(from, b.len()));
+    if there != others {
+        return false;
+    }
+    let mut i = 0;
+    while i < there {
+        if a[start + i] != b[from + i] {
+            return false;
+        }
+        i += 1;
+    }
+    true
 }
 
 // The `count` bytes at `start` move `by` places to the right, the last one first: they may lie over their new place.
