@@ -37,7 +37,7 @@ pub record Alike (found : Survey) (answer : Served) : Type 0 where
   pub tail : found .tail ≡ answer .tail
 
 -- Each way in which a survey ends.
-surveyOf-case : (P : Survey → Type 0) (s : List ℕ) → ((r : Refusal) → readHeader s ≡ header.Refused r → P (refusedWith r))
+pub surveyOf-case : (P : Survey → Type 0) (s : List ℕ) → ((r : Refusal) → readHeader s ≡ header.Refused r → P (refusedWith r))
     → ((h : Header) (r : Refusal) → readHeader s ≡ header.Header h → readParts h s .ending ≡ fault r → P (refusedWith r))
     → ((h : Header) (t : ℕ) → readHeader s ≡ header.Header h → readParts h s .ending ≡ tail t
     → P (record { verdict = Accepted; header = h; parts = length (readParts h s .parts); tail = t }))
