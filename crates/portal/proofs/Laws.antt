@@ -16,6 +16,7 @@ use Rattle.rules.specs.Document.Calls.{returned, reported, lentOut}
 use Rattle.rules.specs.Document.Calls.{codePlaces, coding, codeAnswer, codeNumbers, Coding, AfsCode}
 use Rattle.rules.specs.Document.Calls.{servePlaces, serving, serveAnswer, serveNumbers, Serving, AfsServe}
 use Rattle.rules.specs.Document.Calls.{decodePlaces, decoding, decodeAnswer, decodeNumbers, Decoding, AfsDecode}
+use Rattle.joins.specs.Document.Joining.{joining, Joining, AfsJoin}
 use Rattle.survey.specs.declared.Survey.{Survey}
 use Rattle.survey.specs.Surveyed.{surveyPlaces, surveyOf, surveyNumbers, AfsSurvey}
 use Rattle.pictures.specs.declared.GreyRead.{GreyRead}
@@ -98,6 +99,26 @@ module _ (s : List ℕ) (level plane : ℕ) (out answer out′ answer′ : List 
         returns = returned-long servePlaces answer (serveNumbers a) n answer′ l r ∙ ap (returned servePlaces answer) e;
         reports = reported-long servePlaces answer (serveNumbers a) n answer′ l r ∙ ap (reported servePlaces answer) e;
         writes = v .writes ∙ lent-long servePlaces answer (serveNumbers a) _ _ l;
+      }
+
+module _ (a b out answer out′ answer′ : List ℕ) where
+  pub join-short : (n : ℕ) → length answer < codePlaces → out′ ≡ zeros (length out) → TooShort answer n answer′ → AfsJoin a b out answer n out′ answer′
+  join-short n l e r =
+      let numbers = codeNumbers (codeAnswer (joining a b (length out))) in
+      record {
+        returns = returned-short codePlaces answer numbers n answer′ l r;
+        reports = reported-short codePlaces answer numbers n answer′ l r;
+        writes = e ∙ lent-short codePlaces answer numbers _ _ l;
+      }
+
+  pub join-long : (r : Coded) (n : ℕ) → codePlaces ≤ length answer → Joining a b out r out′ → Reported (codeNumbers r) answer n answer′
+      → AfsJoin a b out answer n out′ answer′
+  join-long r n l v t =
+      let e : codeNumbers r ≡ codeNumbers (codeAnswer (joining a b (length out))) = ap codeNumbers (v .answers) in
+      record {
+        returns = returned-long codePlaces answer (codeNumbers r) n answer′ l t ∙ ap (returned codePlaces answer) e;
+        reports = reported-long codePlaces answer (codeNumbers r) n answer′ l t ∙ ap (reported codePlaces answer) e;
+        writes = v .writes ∙ lent-long codePlaces answer (codeNumbers r) _ _ l;
       }
 
 module _ (s : List ℕ) (out : List ℤ) (work answer : List ℕ) (out′ : List ℤ) (work′ answer′ : List ℕ) where

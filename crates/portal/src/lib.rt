@@ -3,6 +3,7 @@ ghost use mathlib.Core.Path.{_≡_};
 ghost use lib.ListN.{length};
 ghost use Rattle.rules.specs.Document.Notation.{zeros};
 ghost use Rattle.rules.specs.Document.Calls.{AfsCode, AfsServe, AfsDecode};
+ghost use Rattle.joins.specs.Document.Joining.{AfsJoin};
 ghost use Rattle.pictures.specs.Document.Calls.{AfsGreySize, AfsGreyIn, AfsGreyOut};
 ghost use Rattle.survey.specs.Surveyed.{AfsSurvey};
 use pictures::GREY_PLACES;
@@ -67,6 +68,18 @@ pub extern "C" fn afs_serve(
     }
     let a = server::serve(bytes, Level(level as usize), Plane(plane as usize), out);
     answers::report_served(a, answer)
+}
+
+#[no_mangle]
+pub extern "C" fn afs_join(first: &[u8], second: &[u8], out: &mut [u8], answer: &mut [u64]) -> u64
+    ensures { λ n. ⌜ AfsJoin (now (first .entry)) (now (second .entry)) (now (out .entry)) (now (answer .entry)) n (now (out .exit)) (now (answer .exit)) ⌝ }
+{
+    if answer.len() < CODE_PLACES {
+        memory::zero_u8(out);
+        return too_short(answer);
+    }
+    let a = joiner::join(first, second, out);
+    answers::report_coded(a, answer)
 }
 
 #[no_mangle]
