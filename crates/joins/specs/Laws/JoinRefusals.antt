@@ -11,7 +11,6 @@ use Rattle.rules.specs.declared.Refusal.{Refusal}
 use Rattle.rules.specs.declared.Refusal.the-variants as refusal
 use Rattle.rules.specs.declared.Coded.{Coded}
 use Rattle.rules.specs.declared.Header.{Header}
-use Rattle.rules.specs.declared.HeaderRead.the-variants as header
 use Rattle.rules.specs.declared.Part.{Part}
 use Rattle.rules.specs.Document.Notation.{any, zeros}
 use Rattle.rules.specs.Document.Numbers.{refusalNumber, verdictNumber, tail, fault, Reading, readHeader, readParts}

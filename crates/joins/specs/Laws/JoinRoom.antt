@@ -9,7 +9,6 @@ use lib.Seq.{length-take-le}
 use Rattle.rules.specs.declared.Refusal.{Refusal}
 use Rattle.rules.specs.declared.Refusal.the-variants as refusal
 use Rattle.rules.specs.declared.Header.{Header}
-use Rattle.rules.specs.declared.HeaderRead.the-variants as header
 use Rattle.rules.specs.declared.Part.{Part}
 use Rattle.rules.specs.Document.Notation.{flat}
 use Rattle.rules.specs.Document.Passes.{PartName}
