@@ -49,6 +49,17 @@ extern "C" {
         answer_len: usize,
     ) -> u64;
 
+    fn afs_join(
+        first: *const u8,
+        first_len: usize,
+        second: *const u8,
+        second_len: usize,
+        out: *mut u8,
+        out_len: usize,
+        answer: *mut u64,
+        answer_len: usize,
+    ) -> u64;
+
     fn afs_survey(record: *const u8, record_len: usize, answer: *mut u64, answer_len: usize)
         -> u64;
 
@@ -86,10 +97,9 @@ pub struct Archive;
 
 /// An exported call: of each slice its address and length.
 macro_rules! exported {
-    ($name:ident, $read:ident, [$($number:ident),*], [$($lent:ident),*]) => {
+    ($name:ident, [$($read:ident),*], [$($number:ident),*], [$($lent:ident),*]) => {
         $name(
-            $read.as_ptr(),
-            $read.len(),
+            $($read.as_ptr(), $read.len(),)*
             $($number,)*
             $($lent.as_mut_ptr(), $lent.len()),*
         )
@@ -109,23 +119,26 @@ impl Subject for Archive {
         Ok(unsafe {
             match call {
                 Call::Code(pyramid, Sizes { w, h, n }) => {
-                    exported!(afs_code, pyramid, [w, h, n], [bytes, work, answer])
+                    exported!(afs_code, [pyramid], [w, h, n], [bytes, work, answer])
                 }
                 Call::Serve {
                     record,
                     level,
                     plane,
-                } => exported!(afs_serve, record, [level, plane], [bytes, answer]),
+                } => exported!(afs_serve, [record], [level, plane], [bytes, answer]),
                 Call::Decode(record) => {
-                    exported!(afs_decode, record, [], [coefficients, work, answer])
+                    exported!(afs_decode, [record], [], [coefficients, work, answer])
                 }
-                Call::Survey(record) => exported!(afs_survey, record, [], [answer]),
-                Call::GreySize(file) => exported!(afs_grey_size, file, [], [answer]),
+                Call::Survey(record) => exported!(afs_survey, [record], [], [answer]),
+                Call::Join { first, second } => {
+                    exported!(afs_join, [first, second], [], [bytes, answer])
+                }
+                Call::GreySize(file) => exported!(afs_grey_size, [file], [], [answer]),
                 Call::GreyIn { file, n } => {
-                    exported!(afs_grey_in, file, [n], [coefficients, work, answer])
+                    exported!(afs_grey_in, [file], [n], [coefficients, work, answer])
                 }
                 Call::GreyOut(pyramid, Sizes { w, h, n }) => {
-                    exported!(afs_grey_out, pyramid, [w, h, n], [bytes, work, answer])
+                    exported!(afs_grey_out, [pyramid], [w, h, n], [bytes, work, answer])
                 }
             }
         })

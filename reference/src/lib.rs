@@ -18,7 +18,7 @@
 //! * [`lifting`]: from a picture's numbers to a pyramid and back
 //! * [`netpbm`]: grey files
 //! * [`bound`]: how far a printed pixel can be from the recorded one
-//! * [`coder`], [`server`], [`decoder`], [`survey`], [`grey`],
+//! * [`coder`], [`server`], [`decoder`], [`survey`], [`joiner`], [`grey`],
 //!   [`partlist`]: the calls
 //! * [`portal`]: the same calls in the shape in which C sees them
 //!
@@ -35,6 +35,7 @@ pub mod decoder;
 pub mod family;
 pub mod generate;
 pub mod grey;
+pub mod joiner;
 pub mod layout;
 pub mod lifting;
 pub mod lists;
@@ -58,6 +59,7 @@ pub mod archive;
 pub use coder::{code, CodeAnswer};
 pub use decoder::{decode, DecodeAnswer};
 pub use grey::{grey_in, grey_out, grey_size, GreyInAnswer, GreyOutAnswer};
+pub use joiner::{join, JoinAnswer};
 pub use partlist::partlist;
 pub use server::{serve, ServeAnswer};
 pub use survey::{survey, SurveyAnswer};

@@ -56,9 +56,11 @@ impl<W: Write, R: Read> Piped<W, R> {
 impl<W: Write, R: Read> Subject for Piped<W, R> {
     fn call(&self, call: Call, memory: &mut Memory) -> Returned {
         let mut written = Written::head(call);
-        match Input::of(call) {
-            Input::Bytes(_, bytes) => written.lend(bytes),
-            Input::Pyramid(pyramid) => written.lend(pyramid),
+        for input in Input::of(call) {
+            match input {
+                Input::Bytes(_, bytes) => written.lend(bytes),
+                Input::Pyramid(pyramid) => written.lend(pyramid),
+            }
         }
         let uses = Uses::of(call);
         if uses.bytes {
@@ -74,9 +76,11 @@ impl<W: Write, R: Read> Subject for Piped<W, R> {
 
         let mut told = self.answer(&written)?;
         let returned = told.number();
-        match Input::of(call) {
-            Input::Bytes(name, bytes) => told.check_same(name, bytes)?,
-            Input::Pyramid(pyramid) => told.check_same("the pyramid", pyramid)?,
+        for input in Input::of(call) {
+            match input {
+                Input::Bytes(name, bytes) => told.check_same(name, bytes)?,
+                Input::Pyramid(pyramid) => told.check_same("the pyramid", pyramid)?,
+            }
         }
         // What a call isn't lent is empty, and nothing is told of it.
         told.take(memory.bytes);
@@ -94,13 +98,20 @@ enum Input<'a> {
 }
 
 impl<'a> Input<'a> {
-    fn of(call: Call<'a>) -> Input<'a> {
+    /// In their order.
+    fn of(call: Call<'a>) -> Vec<Input<'a>> {
         match call {
-            Call::Code(pyramid, _) | Call::GreyOut(pyramid, _) => Input::Pyramid(pyramid),
+            Call::Code(pyramid, _) | Call::GreyOut(pyramid, _) => vec![Input::Pyramid(pyramid)],
             Call::Serve { record, .. } | Call::Decode(record) | Call::Survey(record) => {
-                Input::Bytes("the record", record)
+                vec![Input::Bytes("the record", record)]
             }
-            Call::GreySize(file) | Call::GreyIn { file, .. } => Input::Bytes("the file", file),
+            Call::Join { first, second } => vec![
+                Input::Bytes("the first record", first),
+                Input::Bytes("the second record", second),
+            ],
+            Call::GreySize(file) | Call::GreyIn { file, .. } => {
+                vec![Input::Bytes("the file", file)]
+            }
         }
     }
 }
@@ -114,15 +125,13 @@ struct Uses {
 
 impl Uses {
     fn of(call: Call) -> Uses {
-        let bytes = matches!(
-            call,
-            Call::Code(..) | Call::Serve { .. } | Call::GreyOut(..)
-        );
+        let copies = matches!(call, Call::Serve { .. } | Call::Join { .. });
+        let bytes = copies || matches!(call, Call::Code(..) | Call::GreyOut(..));
         let coefficients = matches!(call, Call::Decode(_) | Call::GreyIn { .. });
         Uses {
             bytes,
             coefficients,
-            work: (bytes || coefficients) && !matches!(call, Call::Serve { .. }),
+            work: (bytes || coefficients) && !copies,
         }
     }
 }
@@ -144,6 +153,7 @@ impl Written {
             Call::Serve { level, plane, .. } => (b's', vec![level, plane]),
             Call::Decode(_) => (b'd', vec![]),
             Call::Survey(_) => (b'v', vec![]),
+            Call::Join { .. } => (b'j', vec![]),
             Call::GreySize(_) => (b'g', vec![]),
             Call::GreyIn { n, .. } => (b'i', vec![n]),
             Call::GreyOut(_, Sizes { w, h, n }) => (b'o', vec![w, h, n]),

@@ -12,6 +12,8 @@ pub const SERVE_ANSWER: usize = 4;
 /// Number, place, tail length, six reached planes, six counts of parts that
 /// are there and not usable.
 pub const DECODE_ANSWER: usize = 15;
+/// Number, place, length.
+pub const JOIN_ANSWER: usize = 3;
 /// Number, place, W, H, N, planes, whole parts, tail length.
 pub const SURVEY_ANSWER: usize = 8;
 /// Number, place, width, height.
@@ -54,6 +56,15 @@ pub fn afs_decode(record: &[u8], out: &mut [i32], work: &mut [u32], answer: &mut
         return no_room_for(answer);
     }
     put(answer, &crate::decode(record, out, work).numbers())
+}
+
+pub fn afs_join(first: &[u8], second: &[u8], out: &mut [u8], answer: &mut [u64]) -> u64 {
+    if answer.len() < JOIN_ANSWER {
+        out.fill(0);
+        return no_room_for(answer);
+    }
+    let said = crate::join(first, second, out);
+    put(answer, &[said.number, said.place, said.length])
 }
 
 pub fn afs_survey(record: &[u8], answer: &mut [u64]) -> u64 {

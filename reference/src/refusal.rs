@@ -16,11 +16,13 @@ pub enum Cause {
     Ask = 11,
     LongForm = 12,
     Grey = 13,
+    Mixed = 14,
+    Clash = 15,
 }
 
 /// A cause and the place reported with it: an index into the pyramid for
-/// [`Cause::Range`], an offset into the record for the causes 6, 8, 9, 10 and
-/// 12, 0 for all others.
+/// [`Cause::Range`], an offset into the record for the causes 6, 8, 9, 10, 12
+/// and 15, 0 for all others.
 #[derive(Clone, Copy, Debug, PartialEq, Eq)]
 pub struct Refusal {
     pub cause: Cause,

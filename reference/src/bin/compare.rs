@@ -16,7 +16,7 @@ const SUBJECT: (&str, &dyn Subject) = ("the reference's own portal", &reference:
 const USAGE: &str = "usage: compare CALL COUNT [SEED]
        compare --through PROGRAM CALL COUNT [SEED]
        compare partlist PROGRAM COUNT [SEED]
-where CALL is code, serve, decode, survey, grey_size, grey_in or grey_out";
+where CALL is code, serve, decode, survey, join, grey_size, grey_in or grey_out";
 
 fn main() -> ExitCode {
     let arguments: Vec<String> = std::env::args().skip(1).collect();

@@ -10,6 +10,7 @@ mod coding;
 mod decoding;
 mod grey_in;
 mod grey_out;
+mod joining;
 mod lent;
 mod listing;
 mod malformed;
@@ -28,6 +29,7 @@ use coding::compare_code;
 use decoding::compare_decode;
 use grey_in::{compare_grey_in, compare_grey_size};
 use grey_out::compare_grey_out;
+use joining::compare_join;
 use listing::compare_partlist;
 use serving::compare_serve;
 use std::path::Path;
@@ -41,6 +43,7 @@ pub enum Routine {
     Serve,
     Decode,
     Survey,
+    Join,
     GreySize,
     GreyIn,
     GreyOut,
@@ -50,11 +53,12 @@ pub enum Routine {
 
 impl Routine {
     /// Those that a [`Subject`] can have.
-    pub const EXPORTED: [Routine; 7] = [
+    pub const EXPORTED: [Routine; 8] = [
         Routine::Code,
         Routine::Serve,
         Routine::Decode,
         Routine::Survey,
+        Routine::Join,
         Routine::GreySize,
         Routine::GreyIn,
         Routine::GreyOut,
@@ -66,6 +70,7 @@ impl Routine {
             Routine::Serve => "serve",
             Routine::Decode => "decode",
             Routine::Survey => "survey",
+            Routine::Join => "join",
             Routine::GreySize => "grey_size",
             Routine::GreyIn => "grey_in",
             Routine::GreyOut => "grey_out",
@@ -81,6 +86,7 @@ impl Routine {
             Routine::Code => &[0, 1, 2, 3, 4, 5],
             Routine::Serve => &[0, 1, 5, 6, 7, 8, 9, 11, 12],
             Routine::Decode => &[0, 1, 2, 3, 5, 6, 7, 8, 9, 10, 12],
+            Routine::Join => &[0, 1, 5, 6, 7, 8, 9, 12, 14, 15],
             Routine::GreySize => &[0, 5, 13],
             Routine::GreyIn => &[0, 1, 2, 3, 5, 13],
             Routine::GreyOut => &[0, 1, 2, 3, 4, 5],
@@ -102,6 +108,7 @@ impl Routine {
             Routine::GreyOut => grey_out::SORTS.to_vec(),
             Routine::Decode => [records_sorts(), decoding::sorts()].concat(),
             Routine::Serve | Routine::Survey | Routine::Partlist => records_sorts(),
+            Routine::Join => [COUNTS.to_vec(), joining::sorts()].concat(),
             Routine::Code => Vec::new(),
         }
     }
@@ -170,6 +177,7 @@ pub fn run(
             Routine::Serve => compare_serve(chance, stock.record(case), subject),
             Routine::Decode => compare_decode(chance, stock.record(case), subject),
             Routine::Survey => compare_survey(chance, stock.record(case), subject),
+            Routine::Join => compare_join(chance, stock.record(case), subject),
             Routine::GreySize => compare_grey_size(chance, subject),
             Routine::GreyIn => compare_grey_in(chance, case, subject),
             Routine::GreyOut => compare_grey_out(chance, case, &mut stock, subject),

@@ -17,6 +17,10 @@ pub enum Call<'a> {
     },
     Decode(&'a [u8]),
     Survey(&'a [u8]),
+    Join {
+        first: &'a [u8],
+        second: &'a [u8],
+    },
     GreySize(&'a [u8]),
     GreyIn {
         file: &'a [u8],
@@ -130,6 +134,11 @@ pub trait Subject {
         self.call(Call::Survey(record), &mut Memory::of_answer(answer))
     }
 
+    fn join(&self, first: &[u8], second: &[u8], out: &mut [u8], answer: &mut [u64]) -> Returned {
+        let mut memory = Memory::of_bytes(out, &mut [], answer);
+        self.call(Call::Join { first, second }, &mut memory)
+    }
+
     fn grey_size(&self, file: &[u8], answer: &mut [u64]) -> Returned {
         self.call(Call::GreySize(file), &mut Memory::of_answer(answer))
     }
@@ -182,6 +191,7 @@ impl Subject for Own {
             } => portal::afs_serve(record, level, plane, bytes, answer),
             Call::Decode(record) => portal::afs_decode(record, coefficients, work, answer),
             Call::Survey(record) => portal::afs_survey(record, answer),
+            Call::Join { first, second } => portal::afs_join(first, second, bytes, answer),
             Call::GreySize(file) => portal::afs_grey_size(file, answer),
             Call::GreyIn { file, n } => portal::afs_grey_in(file, n, coefficients, work, answer),
             Call::GreyOut(pyramid, Sizes { w, h, n }) => {

@@ -5,8 +5,8 @@ use crate::generate::shapes::SizeClass;
 use crate::size::MOST_DECOMPOSITIONS;
 use std::fmt::{self, Display};
 
-/// The numbers that a call may come back with go up to 13.
-const NUMBERS: usize = 14;
+/// The numbers that a call may come back with go up to 15.
+const NUMBERS: usize = 16;
 
 /// How many cases a comparison had of each sort.
 #[derive(Clone, Debug)]

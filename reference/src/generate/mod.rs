@@ -6,6 +6,7 @@
 
 pub mod chance;
 pub mod grey_files;
+pub mod pairs;
 pub mod pictures;
 pub mod pyramids;
 pub mod records;

@@ -23,6 +23,7 @@ fn the_own_portal_is_equal_and_all_occurs() {
         Routine::Serve,
         Routine::Decode,
         Routine::Survey,
+        Routine::Join,
     ] {
         is_equal_and_all_occurs(routine, 4_000);
     }
@@ -170,6 +171,52 @@ fn a_wrong_cause_of_a_malformed_number_is_caught() {
     }
 }
 
+/// Two records made of two.
+type Others = for<'r> fn(&'r [u8], &'r [u8]) -> (&'r [u8], &'r [u8]);
+
+/// The portal joining other records than it is given.
+struct Joins {
+    what: Others,
+}
+
+impl Subject for Joins {
+    fn call(&self, call: Call, memory: &mut Memory) -> Returned {
+        let call = match call {
+            Call::Join { first, second } => {
+                let (first, second) = (self.what)(first, second);
+                Call::Join { first, second }
+            }
+            other => other,
+        };
+        Own.call(call, memory)
+    }
+}
+
+#[test]
+fn wrong_joins_are_caught() {
+    let fails = |what| assert!(compare(Routine::Join, 400, &Joins { what }).is_err());
+    // The first record's parts alone; the second's.
+    fails(|first, _| (first, first));
+    fails(|_, second| (second, second));
+    // A fault of the second told first, and the place of 15 in the second.
+    fails(|first, second| (second, first));
+}
+
+/// Unequal headers told as unequal parts, and the other way round.
+#[test]
+fn wrong_causes_of_joining_are_caught() {
+    fails(Routine::Join, |lent| {
+        if lent.returned == 14 {
+            tell(lent, 15);
+        }
+    });
+    fails(Routine::Join, |lent| {
+        if lent.returned == 15 {
+            tell(lent, 14);
+        }
+    });
+}
+
 fn tell(lent: &mut Lent, number: u64) {
     lent.returned = number;
     lent.answer[0] = number;
@@ -178,13 +225,15 @@ fn tell(lent: &mut Lent, number: u64) {
 #[test]
 fn a_wrong_count_is_caught() {
     // Length, tail, reached plane of level 6, skipped parts of level 1 and of
-    // level 6, whole parts; width, height, length, pixels that were clipped.
+    // level 6, whole parts; length of a join; width, height, length, pixels that
+    // were clipped.
     fails(Routine::Code, |lent| bump(lent, 2));
     fails(Routine::Serve, |lent| bump(lent, 3));
     fails(Routine::Decode, |lent| bump(lent, 8));
     fails(Routine::Decode, |lent| bump(lent, 9));
     fails(Routine::Decode, |lent| bump(lent, 14));
     fails(Routine::Survey, |lent| bump(lent, 6));
+    fails(Routine::Join, |lent| bump(lent, 2));
     fails(Routine::GreySize, |lent| bump(lent, 2));
     fails(Routine::GreyIn, |lent| bump(lent, 3));
     fails(Routine::GreyOut, |lent| bump(lent, 2));
@@ -247,7 +296,7 @@ fn memory_left_dirty_is_caught() {
         }
     };
     for routine in lent_memory() {
-        if routine != Routine::Serve {
+        if routine != Routine::Serve && routine != Routine::Join {
             fails(routine, dirty_work);
         }
     }
@@ -267,6 +316,7 @@ fn memory_left_dirty_is_caught() {
     };
     fails(Routine::Code, dirty_end);
     fails(Routine::Serve, dirty_end);
+    fails(Routine::Join, dirty_end);
     fails(Routine::GreyOut, dirty_end);
 }
 
@@ -307,7 +357,7 @@ impl Subject for Overrun {
         } = memory;
         // The comparison keeps guards of its own around every slice it lends.
         match call {
-            Call::Serve { .. } | Call::GreyOut(..) => unsafe {
+            Call::Serve { .. } | Call::Join { .. } | Call::GreyOut(..) => unsafe {
                 *bytes.as_mut_ptr().add(bytes.len()) = 0
             },
             Call::GreySize(_) => unsafe { *answer.as_mut_ptr().add(answer.len()) = 0 },
@@ -322,6 +372,7 @@ impl Subject for Overrun {
 fn writing_outside_is_caught() {
     for (routine, of) in [
         (Routine::Serve, "out"),
+        (Routine::Join, "out"),
         (Routine::GreySize, "answer"),
         (Routine::GreyIn, "work"),
         (Routine::GreyOut, "out"),

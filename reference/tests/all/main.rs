@@ -7,6 +7,7 @@ mod demand_two;
 mod example;
 mod grey;
 mod helpers;
+mod joined;
 mod lifting;
 mod literal;
 mod netpbm;

@@ -71,6 +71,26 @@ fn an_input_that_was_written_to_is_told() {
 }
 
 #[test]
+fn a_call_with_two_inputs_has_both() {
+    let told = [number(14), vec![1], vec![2, 3], vec![0], number(14)].concat();
+    let (mut written, mut out, mut answer) = (Vec::new(), [8], [9]);
+    let piped = Piped::between(&mut written, &told[..]);
+    assert_eq!(piped.join(&[1], &[2, 3], &mut out, &mut answer), Ok(14));
+    assert_eq!((out, answer), ([0], [14]));
+    let records = [number(1), vec![1], number(2), vec![2, 3]].concat();
+    let lent = [number(1), vec![8], number(8), number(9)].concat();
+    assert_eq!(written, [vec![b'j'], records, lent].concat());
+
+    let told = [number(0), vec![1], vec![2, 4]].concat();
+    let piped = Piped::between(Vec::new(), &told[..]);
+    let returned = piped.join(&[1], &[2, 3], &mut [], &mut []);
+    assert_eq!(
+        returned,
+        Err("the second record was written to".to_string())
+    );
+}
+
+#[test]
 fn pictures_go_through_pipes() {
     let told = [number(13), vec![80], number(13), number(0)].concat();
     let (mut written, mut answer) = (Vec::new(), [7, 8]);
@@ -87,7 +107,7 @@ fn form(letter: u8) -> (usize, usize) {
     match letter {
         b'c' | b'o' => (3, 4),
         b's' => (2, 3),
-        b'd' => (0, 4),
+        b'd' | b'j' => (0, 4),
         b'g' | b'v' => (0, 2),
         b'i' => (1, 4),
         _ => panic!("no such call"),
@@ -145,6 +165,10 @@ fn answered(letter: u8, mut rest: &[u8]) -> Vec<u8> {
         b's' => {
             let (record, out) = m.split_at_mut(1);
             portal::afs_serve(&record[0], n[0], n[1], &mut out[0], &mut answer)
+        }
+        b'j' => {
+            let (records, out) = m.split_at_mut(2);
+            portal::afs_join(&records[0], &records[1], &mut out[0], &mut answer)
         }
         _ => {
             let mut work = cells(&m.pop().expect("a workspace"), u32::from_le_bytes);

@@ -1,7 +1,7 @@
 //! The calls in the shape of the exported ones.
 
 use crate::helpers::{without, EXAMPLE, EXAMPLE_PYRAMID};
-use reference::portal::{afs_code, afs_decode, afs_serve, afs_survey};
+use reference::portal::{afs_code, afs_decode, afs_join, afs_serve, afs_survey};
 
 const DIRTY: u64 = 0xFEED;
 
@@ -34,6 +34,12 @@ fn answers_stand_at_the_front() {
     assert_eq!(number, 0);
     assert_eq!(answer[..9], [0, 0, 0, 2, 2, 0, 0, 0, 0]);
     assert_eq!(answer[9..], [2, 1, 0, 0, 0, 0, 0, 0, 0]);
+
+    let mut answer = [DIRTY; 12];
+    let number = afs_join(&EXAMPLE[..29], &EXAMPLE[..13], &mut out, &mut answer);
+    assert_eq!(number, 0);
+    assert_eq!(answer, [0, 0, 25, 0, 0, 0, 0, 0, 0, 0, 0, 0]);
+    assert_eq!((&out[..25], &out[25..]), (&EXAMPLE[..25], &[0; 15][..]));
 
     let mut answer = [DIRTY; 12];
     assert_eq!(afs_survey(&EXAMPLE[..29], &mut answer), 0);
@@ -96,6 +102,13 @@ fn an_answer_slice_too_short() {
         assert_eq!((number, out), (5, [0; 40]));
         assert_eq!(answer, vec![0; length]);
     }
+    for length in 0..3 {
+        let mut answer = vec![DIRTY; length];
+        let mut out = [9; 40];
+        let number = afs_join(&EXAMPLE, &[], &mut out, &mut answer);
+        assert_eq!((number, out), (5, [0; 40]));
+        assert_eq!(answer, vec![0; length]);
+    }
     for length in 0..15 {
         let mut answer = vec![DIRTY; length];
         let (mut out, mut work) = ([9; 11], [9; 5]);
@@ -110,6 +123,8 @@ fn nothing_lent_at_all() {
     assert_eq!(afs_code(&[], 0, 0, 0, &mut [], &mut [], &mut []), 5);
     assert_eq!(afs_serve(&[], 0, 0, &mut [], &mut []), 5);
     assert_eq!(afs_decode(&[], &mut [], &mut [], &mut []), 5);
+    assert_eq!(afs_join(&[], &[], &mut [], &mut []), 5);
+    assert_eq!(afs_join(&[], &[], &mut [], &mut [1; 3]), 6);
     assert_eq!(afs_code(&[], 0, 0, 0, &mut [], &mut [], &mut [1; 3]), 1);
     assert_eq!(afs_serve(&[], 0, 0, &mut [], &mut [1; 4]), 6);
     assert_eq!(afs_decode(&[], &mut [], &mut [], &mut [1; 15]), 6);

@@ -1,5 +1,5 @@
-//! `bench [RUNS [SIDE]]`: times of coder, server and decoder, and of pictures in
-//! and out, N = 5, on squares of side 512, and how they grow from 64; or on
+//! `bench [RUNS [SIDE]]`: times of coder, server, joiner and decoder, and of
+//! pictures in and out, N = 5, on squares of side 512, and how they grow from 64; or on
 //! squares of SIDE alone. With the feature `archive` also the archive's, with
 //! `openjpeg` also OpenJPEG's for the same picture, with `plain_c` also those of
 //! lifting in plain C; all on the same input, in turns.
@@ -12,7 +12,7 @@ use reference::compare::{Sizes, Subject};
 use reference::generate::{pyramids, records, waterfall, Chance};
 use reference::lifting::{halved, transform_back};
 use reference::openjpeg::{Jpeg2000, SquarePicture};
-use reference::portal::{CODE_ANSWER, DECODE_ANSWER, SERVE_ANSWER};
+use reference::portal::{CODE_ANSWER, DECODE_ANSWER, JOIN_ANSWER, SERVE_ANSWER};
 use reference::size::Shape;
 use times::{print_growth, print_heading, Row};
 
@@ -87,6 +87,9 @@ fn bench_one(runs: usize, shape: Shape) {
             let row = sample.serve(runs, level, plane);
             row.print(&format!("serve r = {level}, p = {plane}"), length);
         }
+        sample
+            .join(runs)
+            .print("join two halves", sample.record.len());
         for (level, plane) in REQUESTS {
             let length = sample.served_length(level, plane);
             let row = sample.decode(runs, level, plane);
@@ -219,6 +222,27 @@ impl Sample {
             subject.serve(record, level, plane, out, &mut answer)
         };
         Row::take(runs, call, None, |()| 0)
+    }
+
+    /// Each half has every second part.
+    fn join(&mut self, runs: usize) -> Row {
+        let halves = [0, 1].map(|half| {
+            let (mut left, mut at) = (records::Pieces::of(&self.record), 0);
+            left.strike(|_, _| {
+                at += 1;
+                at % 2 == half
+            });
+            left.together()
+        });
+        let out = &mut self.bytes[..self.record.len()];
+        let call = |subject: &dyn Subject| {
+            let mut answer = [0; JOIN_ANSWER];
+            subject.join(&halves[0], &halves[1], out, &mut answer)
+        };
+        let row = Row::take(runs, call, None, |()| 0);
+        let whole = self.bytes.starts_with(&self.record);
+        assert!(whole, "the last one joined is the record");
+        row
     }
 
     /// JPEG 2000 has no request for planes: it decodes whole, or with the side
