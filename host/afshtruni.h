@@ -1,15 +1,16 @@
 /*
  * afshtruni.h - layered coefficient records, for programs in C and C++.
  *
- * A pyramid of integer wavelet coefficients is coded once, at full detail, as
- * a record: a header, then parts. Each part has a plane (bit planes, counted
- * down to 0, the finest) and a level (1 is the finest, N + 1 the coarsest).
- * A smaller version of a record is some of its parts, so it is cut out of the
- * bytes without decoding them: that is serving. A survey tells what a record
- * holds, and so how much to lend for decoding it. Decoding makes a pyramid of
- * whatever parts of a record are there, and tells how far each level got and
- * how many of its parts could not be used. The pyramid of a picture is made of
- * a grey file, and a grey file of a pyramid.
+ * A pyramid of integer wavelet coefficients is coded once, at full detail, as a
+ * record: a header, then parts. Each part has a plane (bit planes, counted down
+ * to 0, the finest) and a level (1 is the finest, N + 1 the coarsest). A
+ * smaller version of a record is some of its parts, so it is cut out of the
+ * bytes without decoding them: that is serving. Two such versions are joined to
+ * one that has the parts of both. A survey tells what a record holds, and so
+ * how much to lend for decoding it. Decoding makes a pyramid of whatever parts
+ * of a record are there, and tells how far each level got and how many of its
+ * parts could not be used. The pyramid of a picture is made of a grey file, and
+ * a grey file of a pyramid.
  *
  * Link with libafshtruni (x86-64), static or shared: pkg-config afshtruni tells
  * how. It needs no library but C's own, allocates nothing, keeps nothing
@@ -77,7 +78,9 @@ enum {
     AFS_FIT = 10,      /* bits of a part run out or are left over; offset of the part; only from decoding */
     AFS_ASK = 11,      /* level or plane asked for not legal; place 0; only from serving */
     AFS_LONGFORM = 12, /* a number in long form; its offset if it is in the header, else that of its part */
-    AFS_GREY = 13      /* no grey file, or cut short; place 0; only from afs_grey_size() and afs_grey_in() */
+    AFS_GREY = 13,     /* no grey file, or cut short; place 0; only from afs_grey_size() and afs_grey_in() */
+    AFS_MIXED = 14,    /* the headers of two records differ; place 0; only from joining */
+    AFS_CLASH = 15     /* a part that two records have differs; its offset in the first; only from joining */
 };
 
 /*
@@ -95,9 +98,10 @@ enum {
  * MEMORY BEFORE A CALL
  *
  * Each length counts elements, not bytes. The caller keeps the slices that it
- * lends apart: no byte of one may belong to another. Each is aligned as its
- * type is. Nobody writes to any of them while the call runs. A pointer may be
- * NULL where its length is 0.
+ * lends apart: no byte of one may belong to another, but for the two records of
+ * afs_join(), which are both only read. Each is aligned as its type is. Nobody
+ * writes to any of them while the call runs. A pointer may be NULL where its
+ * length is 0.
  *
  * What the memory holds after a call depends on the inputs and on the lengths,
  * never on what it held before. Nothing outside of it is read or written.
@@ -310,6 +314,97 @@ uint64_t afs_serve(const uint8_t *record, size_t record_len,
                    uint64_t level, uint64_t plane,
                    uint8_t *out, size_t out_len,
                    uint64_t *answer, size_t answer_len);
+
+/*
+ * ANSWER OF JOINING
+ *
+ * Where each number stands in the answer of afs_join(), and how many there
+ * are. An answer may be longer; what is beyond is set to 0.
+ */
+enum {
+    AFS_JOINED_NUMBER = 0, /* one of the numbers above, the same as is returned */
+    AFS_JOINED_PLACE = 1,  /* place of a refusal, else 0 */
+    AFS_JOINED_LENGTH = 2, /* bytes written to the front of the output, 0 if refused */
+    AFS_JOINED_NUMBERS = 3 /* the least length of the answer */
+};
+
+/*
+ * afs_join() - make one record of two.
+ *
+ * Writes to `out` the header that both records have and every part that is
+ * there whole in either, unaltered and in order. A part that is there in both
+ * must be the same in both, byte for byte. The result is a record without a
+ * tail, and can be served, decoded and joined again. A part need not be usable
+ * to be joined.
+ *
+ * Of two selections of one record that afs_code() wrote, by serving or by loss
+ * and each perhaps cut off, the result is the parts of it that either has; with
+ * room this is never refused. What decoding promises of a selection, it
+ * promises of the result.
+ *
+ * It doesn't matter which record is the first: where the call is accepted, it
+ * is in the other order too, with the same bytes. Three may be joined in either
+ * grouping. A record joined with itself is itself, without its tail.
+ *
+ *   first, first_len     a record; only read
+ *   second, second_len   another; only read. It may be the same memory as the
+ *                        first, or share some with it.
+ *   out, out_len         where the result goes; first_len + second_len is
+ *                        always enough
+ *   answer, answer_len   where the answer goes, at least AFS_JOINED_NUMBERS
+ *
+ * Returns the number, which is also answer[AFS_JOINED_NUMBER] where the answer
+ * is long enough.
+ *
+ * A part that is cut off by a record's end is its tail. It is no fault: it is
+ * neither compared nor written, and its length isn't told. If that part is
+ * there whole in the other record, it is taken from there.
+ *
+ * Numbers, in the order in which they are judged; the first that is due is
+ * given:
+ *
+ *   5 ROOM     answer_len is under 3. This alone is judged before the records,
+ *              and only returned: the answer itself is all 0.
+ *   6, 12, 7, 1; 8, 12, 9
+ *              of the first record: its header, then its first part at fault,
+ *              as afs_serve() judges them, in its order and with its places.
+ *   6, 12, 7, 1; 8, 12, 9
+ *              of the second record, likewise. Places are offsets in the
+ *              second. The answer doesn't tell which record is at fault, but
+ *              afs_survey() says the same of each.
+ *   14 MIXED   the headers differ. Place 0.
+ *   15 CLASH   a part that is there in both differs, in bit count or body.
+ *              Place: the offset, in the first record, of the first such part.
+ *   5 ROOM     the whole result is longer than out_len. Place 0.
+ *
+ * Bodies are not decoded, so whether the bits of a part fit (10 FIT) is not
+ * judged here.
+ *
+ * Memory after the call.
+ *
+ *   outcome            out                          answer
+ *   accepted           the result, 0 after it       0, 0, length, 0 ...
+ *   refused            all 0                        number, place, 0, 0 ...
+ *   answer too short   all 0                        all 0
+ *
+ * Example. Let `coarse` be the 17 bytes that the example of afs_serve() serves
+ * for level 2 and plane 0, and `high` the 21 bytes that the same record gives
+ * for level 1 and plane 1.
+ *
+ *   uint8_t out[38];
+ *   uint64_t answer[AFS_JOINED_NUMBERS];
+ *   if (afs_join(coarse, 17, high, 21, out, 38, answer, 3) == AFS_ACCEPTED)
+ *       store(out, answer[AFS_JOINED_LENGTH]);
+ *
+ * answers 0, 0, 25, and `out` holds the record but for its last part, of plane
+ * 0, level 1, and then 13 bytes of 0. With an `out` of 24 bytes the answer is
+ * 5, 0, 0, and those are all 0. If the ninth byte of `coarse` is 40 and not 80,
+ * the answer is 15, 5, 0: the part at byte 5 isn't the same in both.
+ */
+uint64_t afs_join(const uint8_t *first, size_t first_len,
+                  const uint8_t *second, size_t second_len,
+                  uint8_t *out, size_t out_len,
+                  uint64_t *answer, size_t answer_len);
 
 /*
  * ANSWER OF A SURVEY

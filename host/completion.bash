@@ -4,7 +4,7 @@ _afs() {
     COMPREPLY=()
     for ((i = 1; i < COMP_CWORD; i++)); do
         case ${COMP_WORDS[i]} in
-        code | serve | decode | parts | explain) command=${COMP_WORDS[i]} && break ;;
+        code | serve | join | decode | parts | explain) command=${COMP_WORDS[i]} && break ;;
         esac
     done
     case $before in
@@ -17,9 +17,10 @@ _afs() {
     esac
     case $command:$word in
     :-*) mapfile -t COMPREPLY < <(compgen -W '--help --version' -- "$word") ;;
-    :*) mapfile -t COMPREPLY < <(compgen -W 'code serve decode parts explain' -- "$word") ;;
+    :*) mapfile -t COMPREPLY < <(compgen -W 'code serve join decode parts explain' -- "$word") ;;
     code:-*) mapfile -t COMPREPLY < <(compgen -W '--decompositions --output --force --quiet --help' -- "$word") ;;
     serve:-*) mapfile -t COMPREPLY < <(compgen -W '--level --plane --error --output --force --quiet --help' -- "$word") ;;
+    join:-*) mapfile -t COMPREPLY < <(compgen -W '--output --force --quiet --help' -- "$word") ;;
     decode:-*)
         mapfile -t COMPREPLY < <(compgen -W '--grey --halve --level --plane --whole --check --json --output --force --quiet --help' -- "$word")
         ;;

@@ -2,8 +2,8 @@
  * Makes the archive's calls for a program that can't link it: reads calls from standard input until it ends, and writes to standard output
  * what each returned and what became of the memory that it was lent.
  *
- * A call is a letter (c, s, d or v for code, serve, decode or survey; g, i or o for grey_size, grey_in or grey_out), its numbers, and each of
- * its stretches of memory as length in bytes and contents, in the order of afshtruni.h. Its answer is the returned number and the contents of
+ * A call is a letter (c, s, j, d or v for code, serve, join, decode or survey; g, i or o for grey_size, grey_in or grey_out), its numbers, and
+ * each of its stretches of memory as length in bytes and contents, in the order of afshtruni.h. Its answer is the returned number and the contents of
  * the stretches, in the same order. A number between them has 64 bits, lowest byte first, and contents are as they stand in the memory of an
  * x86-64.
  *
@@ -95,6 +95,15 @@ static void serve(void) {
     give_memory(answer);
 }
 
+static void join(void) {
+    Lent first = take_memory(), second = take_memory(), out = take_memory(), answer = take_memory();
+    give_number(afs_join(first.at, first.size, second.at, second.size, out.at, out.size, answer.at, answer.size / sizeof(uint64_t)));
+    give_memory(first);
+    give_memory(second);
+    give_memory(out);
+    give_memory(answer);
+}
+
 static void decode(void) {
     Lent record = take_memory(), out = take_memory(), work = take_memory(), answer = take_memory();
     give_number(afs_decode(record.at, record.size, out.at, out.size / sizeof(int32_t), work.at, work.size / sizeof(uint32_t), answer.at,
@@ -149,6 +158,9 @@ int main(void) {
             break;
         case 's':
             serve();
+            break;
+        case 'j':
+            join();
             break;
         case 'd':
             decode();

@@ -64,6 +64,23 @@ Outcome serve(Bytes record, uint64_t level, uint64_t plane) {
     };
 }
 
+Outcome join(Bytes first, Bytes second) {
+    size_t room = first.length + second.length;
+    uint8_t *out = memory_for(room, 1);
+    uint64_t answer[AFS_JOINED_NUMBERS];
+    afs_join(first.at, first.length, second.at, second.length, out, room, answer, AFS_JOINED_NUMBERS);
+    return (Outcome){
+        .number = answer[AFS_JOINED_NUMBER],
+        .place = answer[AFS_JOINED_PLACE],
+        .bytes = {out, answer[AFS_JOINED_LENGTH]},
+    };
+}
+
+bool is_record(Bytes record) {
+    uint64_t answer[AFS_SURVEYED_NUMBERS];
+    return afs_survey(record.at, record.length, answer, AFS_SURVEYED_NUMBERS) == AFS_ACCEPTED;
+}
+
 static Bytes bytes_of(const int32_t *pyramid, size_t count) {
     Bytes bytes = {memory_for(count, COEFFICIENT_BYTES), count * COEFFICIENT_BYTES};
     for (size_t i = 0; i < count; i++)
@@ -127,7 +144,7 @@ const char *name_of(uint64_t number) {
     static const char *const names[] = {
         [AFS_ACCEPTED] = "ACCEPTED", [AFS_SIZE] = "SIZE", [AFS_LENGTH] = "LENGTH",   [AFS_WORK] = "WORK", [AFS_RANGE] = "RANGE", [AFS_ROOM] = "ROOM",
         [AFS_HEAD] = "HEAD",         [AFS_VERSION] = "VERSION", [AFS_PART] = "PART", [AFS_PAD] = "PAD",   [AFS_FIT] = "FIT",     [AFS_ASK] = "ASK",
-        [AFS_LONGFORM] = "LONGFORM", [AFS_GREY] = "GREY",
+        [AFS_LONGFORM] = "LONGFORM", [AFS_GREY] = "GREY", [AFS_MIXED] = "MIXED",     [AFS_CLASH] = "CLASH",
     };
     return number < sizeof names / sizeof *names && names[number] != NULL ? names[number] : "UNKNOWN";
 }

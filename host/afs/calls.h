@@ -24,11 +24,16 @@ Outcome code(Bytes pyramid, uint64_t width, uint64_t height, uint64_t decomposit
 
 Outcome serve(Bytes record, uint64_t level, uint64_t plane);
 
+Outcome join(Bytes first, Bytes second);
+
 Outcome decode(Bytes record);
 
 /* The same on numbers instead of a file's bytes. A pyramid that was decoded is for the caller to free, and NULL where it was refused. */
 Outcome code_numbers(const int32_t *pyramid, size_t count, uint64_t width, uint64_t height, uint64_t decompositions);
 Outcome decode_numbers(Bytes record, int32_t **pyramid, Header *header);
+
+/* Whether serving and joining can read it. */
+bool is_record(Bytes record);
 
 /* One of its numbers. */
 int32_t coefficient_at(const uint8_t *at);

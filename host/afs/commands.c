@@ -2,6 +2,7 @@
 
 #include "calls.h"
 #include "holding.h"
+#include "joining.h"
 #include "json.h"
 #include "messages.h"
 #include "nearness.h"
@@ -155,6 +156,8 @@ static int take_turn(const Request *request, const char *path, Output *output) {
 }
 
 int run(const Request *request) {
+    if (request->command == JOIN)
+        return run_join(request);
     bool is_text = request->command == PARTS || request->command == EXPLAIN || request->check;
     Output output = output_to(request->out, is_text, request->force, request->count == 1 ? request->files[0] : NULL);
     int status = STATUS_DONE;

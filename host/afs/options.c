@@ -10,7 +10,9 @@
 #include <stdlib.h>
 #include <string.h>
 
-static const char *const commands[COMMANDS] = {[CODE] = "code", [SERVE] = "serve", [DECODE] = "decode", [PARTS] = "parts", [EXPLAIN] = "explain"};
+static const char *const commands[COMMANDS] = {
+    [CODE] = "code", [SERVE] = "serve", [JOIN] = "join", [DECODE] = "decode", [PARTS] = "parts", [EXPLAIN] = "explain"};
+static const char commands_there[] = "code, serve, join, decode, parts and explain are there";
 
 enum { EVERY = (1 << COMMANDS) - 1 };
 
@@ -166,7 +168,7 @@ static Command command_named(const char *name) {
     for (Command command = 0; command < COMMANDS; command++)
         if (strcmp(commands[command], name) == 0)
             return command;
-    misused("no command '%s': code, serve, decode, parts and explain are there", name);
+    misused("no command '%s': %s", name, commands_there);
 }
 
 static void judge_options(const Words *words, const Request *request) {
@@ -206,6 +208,15 @@ static size_t read_numbers(const Words *words, Request *request) {
     return 4;
 }
 
+static void judge_pair(const Request *request) {
+    if (request->count < 2)
+        misused("two records are joined: FIRST and SECOND");
+    if (request->count > 2)
+        misused("too many arguments: '%s'", request->files[2]);
+    if (!is_named(request->files[0]) && !is_named(request->files[1]))
+        misused("only one of the two records can be standard input");
+}
+
 /* Command, numbers, files. */
 static void read_operands(const Words *words, Request *request) {
     static char *const standard_input[] = {"-"};
@@ -215,7 +226,9 @@ static void read_operands(const Words *words, Request *request) {
             misused("no option %s", words->operands[i]);
     request->files = words->operands + before_files;
     request->count = words->count - before_files;
-    if (request->count > 1 && !takes_many(request))
+    if (request->command == JOIN)
+        judge_pair(request);
+    else if (request->count > 1 && !takes_many(request))
         misused("too many arguments: '%s'", request->files[1]);
     if (request->count == 0) {
         request->files = standard_input;
@@ -242,7 +255,7 @@ Request request_from(char **argv) {
     Request request = {.command = CODE};
     read_words(argv, &words, &request);
     if (words.count == 0)
-        misused("no command: code, serve, decode, parts and explain are there");
+        misused("no command: %s", commands_there);
     request.command = command_named(words.operands[0]);
     request.force = words.given[FORCE];
     request.quiet = words.given[QUIET];

@@ -6,7 +6,7 @@
 #include <stddef.h>
 #include <stdint.h>
 
-typedef enum { CODE, SERVE, DECODE, PARTS, EXPLAIN, COMMANDS } Command;
+typedef enum { CODE, SERVE, JOIN, DECODE, PARTS, EXPLAIN, COMMANDS } Command;
 
 typedef struct {
     Command command;
@@ -22,7 +22,7 @@ typedef struct {
     uint64_t most;        /* within so many grey values */
     bool force, quiet, whole, check, json;
     const char *out;    /* NULL without -o */
-    char *const *files; /* at least one; "-" is standard input */
+    char *const *files; /* at least one, to be joined two; "-" is standard input */
     size_t count;
 } Request;
 

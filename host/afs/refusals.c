@@ -217,3 +217,22 @@ Sentence why_refused(const Request *request, Bytes input, const Outcome *outcome
         return why_not_read(request, input, outcome);
     return request->is_picture ? why_not_taken(request, input, outcome) : why_not_coded(request, input, outcome);
 }
+
+static Sentence why_mixed(Bytes first, Bytes second) {
+    const uint8_t *at = first.at, *at_second = second.at;
+    Header one = read_header(&at), other = read_header(&at_second);
+    return say("their headers differ: %" PRIu32 " x %" PRIu32 ", N = %" PRIu32 ", %" PRIu32 " planes; and %" PRIu32 " x %" PRIu32 ", N = %" PRIu32
+               ", %" PRIu32 " planes",
+               one.width, one.height, one.decompositions, one.planes, other.width, other.height, other.decompositions, other.planes);
+}
+
+Sentence why_not_joined(Bytes first, Bytes second, const Outcome *outcome) {
+    if (outcome->number == AFS_MIXED)
+        return why_mixed(first, second);
+    if (outcome->number != AFS_CLASH)
+        return say("memory that was lent is too short");
+    const uint8_t *at = first.at + outcome->place;
+    Part part = read_part(&at);
+    return say("the part of plane %" PRIu32 ", level %" PRIu32 ", at byte %" PRIu64 " of the first, isn't the same in the second: they aren't of one record",
+               part.plane, part.level, outcome->place);
+}
