@@ -115,6 +115,12 @@ static Header survey_header(Bytes record) {
     };
 }
 
+bool is_legal_header(Header header) {
+    uint8_t bytes[ROOM_FOR_HEADER];
+    uint64_t answer[AFS_SURVEYED_NUMBERS];
+    return afs_survey(bytes, put_header(bytes, header), answer, AFS_SURVEYED_NUMBERS) == AFS_ACCEPTED;
+}
+
 Outcome decode_numbers(Bytes record, int32_t **pyramid, Header *header) {
     *pyramid = NULL;
     *header = survey_header(record);

@@ -35,6 +35,9 @@ Outcome decode_numbers(Bytes record, int32_t **pyramid, Header *header);
 /* Whether serving and joining can read it. */
 bool is_record(Bytes record);
 
+/* Whether a record may begin with a header of these numbers. */
+bool is_legal_header(Header header);
+
 /* One of its numbers. */
 int32_t coefficient_at(const uint8_t *at);
 

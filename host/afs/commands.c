@@ -13,6 +13,7 @@
 #include "refusals.h"
 #include "telling.h"
 #include "text.h"
+#include "verdicts.h"
 
 #include <inttypes.h>
 #include <stdlib.h>
@@ -21,6 +22,8 @@
 typedef struct {
     const Request *request;
     Output *output;
+    Seals *seals;     /* made by sealing, or read */
+    Matcher *matcher; /* of those that were read */
     const char *name;
     Bytes input;
 } Turn;
@@ -34,6 +37,7 @@ static Outcome call(const Request *request, Bytes input) {
     case SERVE:
         return request->has_most ? serve_within(input, request->most) : serve(input, request->level, request->plane);
     case PARTS:
+    case SEAL:
         return serve(input, 1, 0);
     case DECODE:
         return request->grey ? print_picture(input, request->halvings) : decode(input);
@@ -114,6 +118,16 @@ static int finish_decoded(const Turn *turn, const Outcome *outcome) {
     return is_too_short ? STATUS_LACKS : STATUS_DONE;
 }
 
+/* A seal has no place for bytes that are no whole part. */
+static int finish_sealed(const Turn *turn, const Outcome *outcome) {
+    if (outcome->tail > 0) {
+        complain("%s: has a tail of %" PRIu64 " bytes, which can't be sealed; 'afs serve' leaves it out", turn->name, outcome->tail);
+        return STATUS_LACKS;
+    }
+    add_seal(turn->seals, seal_of(turn->name, outcome->bytes));
+    return STATUS_DONE;
+}
+
 static int finish_turn(const Turn *turn, const Outcome *outcome) {
     switch (turn->request->command) {
     case DECODE:
@@ -122,6 +136,8 @@ static int finish_turn(const Turn *turn, const Outcome *outcome) {
     case EXPLAIN:
         tell(turn, outcome);
         return STATUS_DONE;
+    case SEAL:
+        return finish_sealed(turn, outcome);
     case SERVE:
         note_served(turn->request, turn->name, outcome);
         break;
@@ -143,32 +159,98 @@ static int tell_unreadable(const Turn *turn, const char *why) {
     return STATUS_FAILED;
 }
 
-static int take_turn(const Request *request, const char *path, Output *output) {
-    Turn turn = {.request = request, .output = output, .name = name_of_input(path)};
-    const char *why = read_input(path, request->force, &turn.input);
+/* Refused or not, what can be read of it is compared. */
+static int verify(const Turn *turn) {
+    Reading reading = read_file(turn->name, turn->input);
+    Text text;
+    begin_text(&text);
+    int status = tell_verdict(text.stream, turn->matcher, seal_for(turn->matcher, turn->request->of, &reading), &reading, turn->request);
+    put_text(turn->output, &text);
+    if (reading.outcome.number != AFS_ACCEPTED)
+        tell_refusal(turn, &reading.outcome);
+    free_reading(&reading);
+    return status;
+}
+
+static int call_and_finish(const Turn *turn) {
+    Outcome outcome = call_and_judge(turn->request, turn->input);
+    int status = outcome.number == AFS_ACCEPTED ? finish_turn(turn, &outcome) : tell_refusal(turn, &outcome);
+    free(outcome.bytes.at);
+    return status;
+}
+
+static int take_turn(Turn turn, const char *path) {
+    turn.name = name_of_input(path);
+    const char *why = read_input(path, turn.request->force, &turn.input);
     if (why != NULL)
         return tell_unreadable(&turn, why);
-    Outcome outcome = call_and_judge(request, turn.input);
-    int status = outcome.number == AFS_ACCEPTED ? finish_turn(&turn, &outcome) : tell_refusal(&turn, &outcome);
-    free(outcome.bytes.at);
+    int status = turn.request->command == VERIFY ? verify(&turn) : call_and_finish(&turn);
     free(turn.input.at);
     return status;
+}
+
+static void read_all_seals(const Request *request, Seals *seals) {
+    Bytes text;
+    const char *name = name_of_input(request->seals), *why = read_input(request->seals, request->force, &text);
+    if (why != NULL)
+        fail("%s: %s", name, why);
+    size_t line = read_seals(text, seals);
+    free(text.at);
+    if (line > 0)
+        fail("%s: line %zu isn't as 'afs seal' wrote it", name, line);
+}
+
+static Matcher match_seals(const Request *request, const Seals *seals) {
+    Matcher matcher = matcher_of(seals);
+    if (request->of != NULL && seal_named(&matcher, request->of) == NULL)
+        fail("%s: no record is sealed as %s", name_of_input(request->seals), request->of);
+    return matcher;
+}
+
+static void put_seals(Output *output, Seals *seals) {
+    const char *twice = sort_seals(seals);
+    if (twice != NULL)
+        fail("%s: is to be sealed twice; of each name there is one seal", twice);
+    Text text;
+    begin_text(&text);
+    write_seals(&text, seals);
+    put_text(output, &text);
+}
+
+static int take_turns(Turn turn) {
+    const Request *request = turn.request;
+    int status = STATUS_DONE;
+    for (size_t i = 0; i < request->count; i++) {
+        if (request->count > 1 && !request->quiet)
+            show_progress(i, request->count);
+        int of_this = take_turn(turn, request->files[i]);
+        status = of_this > status ? of_this : status;
+        show_output(turn.output);
+    }
+    clear_progress();
+    return status;
+}
+
+/* What is told of a record doesn't take its place unless that is asked for. */
+static Output output_for(const Request *request) {
+    bool is_seal = request->command == SEAL || request->command == VERIFY;
+    bool is_text = request->command == PARTS || request->command == EXPLAIN || is_seal || request->check;
+    return output_to(request->out, is_text, request->force, request->count == 1 && !is_seal ? request->files[0] : NULL);
 }
 
 int run(const Request *request) {
     if (request->command == JOIN)
         return run_join(request);
-    bool is_text = request->command == PARTS || request->command == EXPLAIN || request->check;
-    Output output = output_to(request->out, is_text, request->force, request->count == 1 ? request->files[0] : NULL);
-    int status = STATUS_DONE;
-    for (size_t i = 0; i < request->count; i++) {
-        if (request->count > 1 && !request->quiet)
-            show_progress(i, request->count);
-        int of_this = take_turn(request, request->files[i], &output);
-        status = of_this > status ? of_this : status;
-        show_output(&output);
-    }
-    clear_progress();
+    Output output = output_for(request);
+    Seals seals = {NULL, 0, 0};
+    if (request->command == VERIFY)
+        read_all_seals(request, &seals);
+    Matcher matcher = match_seals(request, &seals);
+    int status = take_turns((Turn){.request = request, .output = &output, .seals = &seals, .matcher = &matcher});
+    if (request->command == SEAL && seals.count > 0)
+        put_seals(&output, &seals);
     finish_output(&output);
+    free_matcher(&matcher);
+    free_seals(&seals);
     return status;
 }

@@ -33,7 +33,7 @@ uint32_t count_parts(const Holding *holding, bool (*counts)(const Holding *, uin
 }
 
 uint32_t parts_of_whole(const Holding *holding) {
-    return holding->header.planes * holding->levels;
+    return most_parts(holding->header);
 }
 
 bool is_whole(const Holding *holding) {

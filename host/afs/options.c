@@ -10,13 +10,13 @@
 #include <stdlib.h>
 #include <string.h>
 
-static const char *const commands[COMMANDS] = {
-    [CODE] = "code", [SERVE] = "serve", [JOIN] = "join", [DECODE] = "decode", [PARTS] = "parts", [EXPLAIN] = "explain"};
-static const char commands_there[] = "code, serve, join, decode, parts and explain are there";
+static const char *const commands[COMMANDS] = {[CODE] = "code", [SERVE] = "serve", [JOIN] = "join", [DECODE] = "decode", [PARTS] = "parts",
+                                               [EXPLAIN] = "explain", [SEAL] = "seal", [VERIFY] = "verify"};
+static const char commands_there[] = "code, serve, join, decode, parts, explain, seal and verify are there";
 
 enum { EVERY = (1 << COMMANDS) - 1 };
 
-typedef enum { DECOMPOSITIONS, LEVEL, PLANE, GREY, HALVE, MOST, WHOLE, CHECK, JSON, OUTPUT, FORCE, QUIET, HELP, VERSION_OPTION, OPTIONS } Option;
+typedef enum { DECOMPOSITIONS, LEVEL, PLANE, GREY, HALVE, MOST, WHOLE, CHECK, JSON, OF, OUTPUT, FORCE, QUIET, HELP, VERSION_OPTION, OPTIONS } Option;
 
 static const struct {
     char letter; /* or 0 */
@@ -31,9 +31,10 @@ static const struct {
     [GREY] = {'g', "grey", NULL, 1 << DECODE, "decode"},
     [HALVE] = {'s', "halve", "a number", 1 << DECODE, "decode"},
     [MOST] = {'e', "error", "a number", 1 << SERVE, "serve"},
-    [WHOLE] = {0, "whole", NULL, 1 << DECODE, "decode"},
+    [WHOLE] = {0, "whole", NULL, 1 << DECODE | 1 << VERIFY, "decode and verify"},
     [CHECK] = {0, "check", NULL, 1 << DECODE, "decode"},
     [JSON] = {0, "json", NULL, 1 << DECODE | 1 << PARTS | 1 << EXPLAIN, "parts, explain and decode --check"},
+    [OF] = {0, "of", "a name", 1 << VERIFY, "verify"},
     [OUTPUT] = {'o', "output", "a file", EVERY, NULL},
     [FORCE] = {'f', "force", NULL, EVERY, NULL},
     [QUIET] = {'q', "quiet", NULL, EVERY, NULL},
@@ -81,6 +82,9 @@ static void take_option(Option option, const char *argument, Request *request) {
     case MOST:
         request->most = number_from("E", 0, 255, argument);
         break;
+    case OF:
+        request->of = argument;
+        break;
     case OUTPUT:
         request->out = argument;
         break;
@@ -117,8 +121,8 @@ static void meet_word(const char *word, char ***next, Words *words, Request *req
     misused("no option %s", word);
 }
 
-/* How many bytes the character at the front of a text has, in UTF-8. */
-static int length_of_character(const char *text) {
+/* How many bytes the character at the front of a text has, with all that goes on as in UTF-8. */
+static int length_typed(const char *text) {
     int length = 1;
     while (((unsigned char)text[length] & 0xC0) == 0x80)
         length++;
@@ -132,7 +136,7 @@ static void meet_letters(const char *letters, char ***next, Words *words, Reques
         while (option < OPTIONS && options[option].letter != *letters)
             option++;
         if (option == OPTIONS)
-            misused("no option -%.*s", length_of_character(letters), letters);
+            misused("no option -%.*s", length_typed(letters), letters);
         const char typed[] = {'-', *letters, '\0'};
         meet_option(option, typed, 2, letters[1] == '\0' ? NULL : letters + 1, next, words, request);
         if (options[option].argument != NULL)
@@ -189,7 +193,15 @@ static void judge_options(const Words *words, const Request *request) {
 }
 
 static bool takes_many(const Request *request) {
-    return request->command == PARTS || request->command == EXPLAIN || request->check;
+    return request->command == PARTS || request->command == EXPLAIN || request->command == SEAL || request->command == VERIFY || request->check;
+}
+
+/* The seals stand before the files that are held against them. */
+static size_t read_seals_name(const Words *words, Request *request) {
+    if (words->count == 1)
+        misused("verify needs the seals, and then the files that are to be held against them");
+    request->seals = words->operands[1];
+    return 2;
 }
 
 /* W, H and N of a pyramid stand before its file; where there is at most one operand, it is a picture. */
@@ -220,7 +232,7 @@ static void judge_pair(const Request *request) {
 /* Command, numbers, files. */
 static void read_operands(const Words *words, Request *request) {
     static char *const standard_input[] = {"-"};
-    size_t before_files = read_numbers(words, request);
+    size_t before_files = request->command == VERIFY ? read_seals_name(words, request) : read_numbers(words, request);
     for (size_t i = before_files; i < words->before_dashes; i++)
         if (words->operands[i][0] == '-' && words->operands[i][1] != '\0')
             misused("no option %s", words->operands[i]);

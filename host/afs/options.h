@@ -6,7 +6,7 @@
 #include <stddef.h>
 #include <stdint.h>
 
-typedef enum { CODE, SERVE, JOIN, DECODE, PARTS, EXPLAIN, COMMANDS } Command;
+typedef enum { CODE, SERVE, JOIN, DECODE, PARTS, EXPLAIN, SEAL, VERIFY, COMMANDS } Command;
 
 typedef struct {
     Command command;
@@ -21,6 +21,8 @@ typedef struct {
     bool has_most;        /* serve: as much as keeps every pixel */
     uint64_t most;        /* within so many grey values */
     bool force, quiet, whole, check, json;
+    const char *seals;  /* verify: their file */
+    const char *of;     /* verify: the name of the sealed record, NULL if it is to be found */
     const char *out;    /* NULL without -o */
     char *const *files; /* at least one, to be joined two; "-" is standard input */
     size_t count;

@@ -1,6 +1,6 @@
 #include "record.h"
 
-enum { MOST_BYTES = 4, GROUP = 7, MORE = 0x80 };
+enum { MOST_BYTES = 4, GROUP = 7, MORE = 0x80, VERSION_OF_FORMAT = 1 };
 
 static uint32_t read_number(const uint8_t **at) {
     uint32_t value = 0;
@@ -29,12 +29,36 @@ Part read_part(const uint8_t **at) {
     part.plane = read_number(at);
     part.level = read_number(at);
     part.bits = read_number(at);
-    *at += (part.bits + 7) / 8;
+    *at += length_of_body(part);
     return part;
+}
+
+size_t length_of_body(Part part) {
+    return (part.bits + 7) / 8;
+}
+
+static uint8_t *put_number(uint8_t *at, uint32_t number) {
+    for (; number >= MORE; number >>= GROUP)
+        *at++ = (uint8_t)(number | MORE);
+    *at++ = (uint8_t)number;
+    return at;
+}
+
+size_t put_head(uint8_t *at, Part part) {
+    return (size_t)(put_number(put_number(put_number(at, part.plane), part.level), part.bits) - at);
+}
+
+size_t put_header(uint8_t *at, Header header) {
+    uint8_t *end = put_number(put_number(put_number(at, VERSION_OF_FORMAT), header.width), header.height);
+    return (size_t)(put_number(put_number(end, header.decompositions), header.planes) - at);
 }
 
 uint32_t coarsest(Header header) {
     return header.decompositions + 1;
+}
+
+uint32_t most_parts(Header header) {
+    return header.planes * coarsest(header);
 }
 
 Form try_number(Bytes record, size_t *offset, uint32_t *number) {

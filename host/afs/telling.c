@@ -58,8 +58,8 @@ static void tell_what_shows(FILE *out, Header header) {
     fprintf(out, "A record of a pyramid of %" PRIu32 " x %" PRIu32 " coefficients. Levels: %" PRIu32 " (coarsest) to 1 (finest). Planes: %" PRIu32 ".\n",
             header.width, header.height, coarsest(header), header.planes);
     fputs("Parts that are missing, and an end that is cut off, show below.\n"
-          "Bytes that were changed, or lost inside a part, do not: a record has no checksum. Keep one:\n"
-          "'sha256sum FILE >FILE.sha256' where a record is made or served, 'sha256sum -c FILE.sha256' where it arrives.\n",
+          "Bytes that were changed, or lost inside a part, do not: a record has no checksum. Keep a seal:\n"
+          "'afs seal FILE >FILE.seals' where a record is made, 'afs verify FILE.seals FILE' where it arrives.\n",
           out);
 }
 

@@ -115,7 +115,8 @@ def read(folder, path):
     print(f"{len(objects)} objects, {wrong + len(unseen)} wrong")
 
 
-if sys.argv[1] == "make":
-    make(open(sys.argv[2], "rb").read(), open(sys.argv[3], "rb").read(), sys.argv[4])
-else:
-    read(sys.argv[2], sys.argv[3])
+if __name__ == "__main__":
+    if sys.argv[1] == "make":
+        make(open(sys.argv[2], "rb").read(), open(sys.argv[3], "rb").read(), sys.argv[4])
+    else:
+        read(sys.argv[2], sys.argv[3])
