@@ -1,6 +1,7 @@
 #include "commands.h"
 
 #include "calls.h"
+#include "certificate.h"
 #include "holding.h"
 #include "joining.h"
 #include "json.h"
@@ -24,7 +25,7 @@ typedef struct {
     Output *output;
     Seals *seals;     /* made by sealing, or read */
     Matcher *matcher; /* of those that were read */
-    const char *name;
+    const char *path, *name;
     Bytes input;
 } Turn;
 
@@ -41,6 +42,8 @@ static Outcome call(const Request *request, Bytes input) {
         return serve(input, 1, 0);
     case DECODE:
         return request->grey ? print_picture(input, request->halvings) : decode(input);
+    case CERTIFICATE:
+        return print_picture(input, request->halvings);
     default:
         return decode(input);
     }
@@ -48,7 +51,7 @@ static Outcome call(const Request *request, Bytes input) {
 
 /* What decoding was to expect has to be something that can be asked for. */
 static Outcome call_and_judge(const Request *request, Bytes input) {
-    if (request->command == DECODE && request->asks) {
+    if ((request->command == DECODE || request->command == CERTIFICATE) && request->asks) {
         Outcome served = serve(input, request->level, request->plane);
         free(served.bytes.at);
         served.bytes = (Bytes){NULL, 0};
@@ -128,6 +131,13 @@ static int finish_sealed(const Turn *turn, const Outcome *outcome) {
     return STATUS_DONE;
 }
 
+static int finish_certificate(const Turn *turn, const Outcome *outcome) {
+    Bytes sheet = certificate_of(turn->request, turn->path, turn->input, outcome);
+    put_out(turn->output, sheet.at, sheet.length);
+    free(sheet.at);
+    return STATUS_DONE;
+}
+
 static int finish_turn(const Turn *turn, const Outcome *outcome) {
     switch (turn->request->command) {
     case DECODE:
@@ -138,6 +148,8 @@ static int finish_turn(const Turn *turn, const Outcome *outcome) {
         return STATUS_DONE;
     case SEAL:
         return finish_sealed(turn, outcome);
+    case CERTIFICATE:
+        return finish_certificate(turn, outcome);
     case SERVE:
         note_served(turn->request, turn->name, outcome);
         break;
@@ -180,6 +192,7 @@ static int call_and_finish(const Turn *turn) {
 }
 
 static int take_turn(Turn turn, const char *path) {
+    turn.path = path;
     turn.name = name_of_input(path);
     const char *why = read_input(path, turn.request->force, &turn.input);
     if (why != NULL)
@@ -233,9 +246,9 @@ static int take_turns(Turn turn) {
 
 /* What is told of a record doesn't take its place unless that is asked for. */
 static Output output_for(const Request *request) {
-    bool is_seal = request->command == SEAL || request->command == VERIFY;
-    bool is_text = request->command == PARTS || request->command == EXPLAIN || is_seal || request->check;
-    return output_to(request->out, is_text, request->force, request->count == 1 && !is_seal ? request->files[0] : NULL);
+    bool keeps_input = request->command == SEAL || request->command == VERIFY || request->command == CERTIFICATE;
+    bool is_text = request->command == PARTS || request->command == EXPLAIN || keeps_input || request->check;
+    return output_to(request->out, is_text, request->force, request->count == 1 && !keeps_input ? request->files[0] : NULL);
 }
 
 int run(const Request *request) {

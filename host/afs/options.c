@@ -11,12 +11,33 @@
 #include <string.h>
 
 static const char *const commands[COMMANDS] = {[CODE] = "code", [SERVE] = "serve", [JOIN] = "join", [DECODE] = "decode", [PARTS] = "parts",
-                                               [EXPLAIN] = "explain", [SEAL] = "seal", [VERIFY] = "verify"};
-static const char commands_there[] = "code, serve, join, decode, parts, explain, seal and verify are there";
+                                               [EXPLAIN] = "explain", [SEAL] = "seal", [VERIFY] = "verify", [CERTIFICATE] = "certificate"};
+static const char commands_there[] = "code, serve, join, decode, parts, explain, seal, verify and certificate are there";
 
 enum { EVERY = (1 << COMMANDS) - 1 };
 
-typedef enum { DECOMPOSITIONS, LEVEL, PLANE, GREY, HALVE, MOST, WHOLE, CHECK, JSON, OF, OUTPUT, FORCE, QUIET, HELP, VERSION_OPTION, OPTIONS } Option;
+typedef enum {
+    DECOMPOSITIONS,
+    LEVEL,
+    PLANE,
+    GREY,
+    HALVE,
+    MOST,
+    WHOLE,
+    CHECK,
+    JSON,
+    OF,
+    TITLE,
+    NOTE,
+    DEVICE,
+    SCALE,
+    OUTPUT,
+    FORCE,
+    QUIET,
+    HELP,
+    VERSION_OPTION,
+    OPTIONS
+} Option;
 
 static const struct {
     char letter; /* or 0 */
@@ -26,7 +47,7 @@ static const struct {
     const char *is_for;   /* the same in words */
 } options[OPTIONS] = {
     [DECOMPOSITIONS] = {'n', "decompositions", "a number", 1 << CODE, "code"},
-    [LEVEL] = {'r', "level", "a level", 1 << SERVE | 1 << DECODE, "serve and decode"},
+    [LEVEL] = {'r', "level", "a level", 1 << SERVE | 1 << DECODE | 1 << CERTIFICATE, "serve, decode and certificate"},
     [PLANE] = {'p', "plane", "a plane", 1 << SERVE | 1 << DECODE, "serve and decode"},
     [GREY] = {'g', "grey", NULL, 1 << DECODE, "decode"},
     [HALVE] = {'s', "halve", "a number", 1 << DECODE, "decode"},
@@ -35,6 +56,10 @@ static const struct {
     [CHECK] = {0, "check", NULL, 1 << DECODE, "decode"},
     [JSON] = {0, "json", NULL, 1 << DECODE | 1 << PARTS | 1 << EXPLAIN, "parts, explain and decode --check"},
     [OF] = {0, "of", "a name", 1 << VERIFY, "verify"},
+    [TITLE] = {0, "title", "a text", 1 << CERTIFICATE, "certificate"},
+    [NOTE] = {0, "note", "a text", 1 << CERTIFICATE, "certificate"},
+    [DEVICE] = {0, "device", "a text", 1 << CERTIFICATE, "certificate"},
+    [SCALE] = {0, "scale", "a name", 1 << CERTIFICATE, "certificate"},
     [OUTPUT] = {'o', "output", "a file", EVERY, NULL},
     [FORCE] = {'f', "force", NULL, EVERY, NULL},
     [QUIET] = {'q', "quiet", NULL, EVERY, NULL},
@@ -65,6 +90,35 @@ static _Noreturn void print_and_exit(const char *text) {
     exit(STATUS_DONE);
 }
 
+static const Scale *scale_from(const char *name) {
+    const Scale *scale = scale_named(name);
+    if (scale == NULL)
+        misused("SCALE is %s, not '%s'", scale_names, name);
+    return scale;
+}
+
+static void take_text(Option option, const char *text, Request *request) {
+    switch (option) {
+    case OF:
+        request->of = text;
+        break;
+    case TITLE:
+        request->title = text;
+        break;
+    case NOTE:
+        request->note = text;
+        break;
+    case DEVICE:
+        request->device = text;
+        break;
+    case OUTPUT:
+        request->out = text;
+        break;
+    default:
+        break;
+    }
+}
+
 static void take_option(Option option, const char *argument, Request *request) {
     switch (option) {
     case DECOMPOSITIONS:
@@ -82,18 +136,15 @@ static void take_option(Option option, const char *argument, Request *request) {
     case MOST:
         request->most = number_from("E", 0, 255, argument);
         break;
-    case OF:
-        request->of = argument;
-        break;
-    case OUTPUT:
-        request->out = argument;
+    case SCALE:
+        request->scale = scale_from(argument);
         break;
     case HELP:
         print_and_exit(help);
     case VERSION_OPTION:
         print_and_exit("afs " VERSION "\n");
     default:
-        break;
+        take_text(option, argument, request);
     }
 }
 
@@ -248,9 +299,8 @@ static void read_operands(const Words *words, Request *request) {
     }
 }
 
-static bool is_grey_name(const char *path) {
-    static const char ending[] = ".pgm";
-    size_t length = path == NULL ? 0 : strlen(path), of_ending = sizeof ending - 1;
+static bool ends_in(const char *path, const char *ending) {
+    size_t length = path == NULL ? 0 : strlen(path), of_ending = strlen(ending);
     return length >= of_ending && strcmp(path + length - of_ending, ending) == 0;
 }
 
@@ -260,6 +310,14 @@ static void expect(const Words *words, Request *request) {
     request->has_expectation = request->asks || request->halvings > 0;
     if (!words->given[LEVEL])
         request->level = request->halvings + 1;
+    if (request->command == CERTIFICATE)
+        request->halvings = request->level - 1;
+}
+
+static void choose_form(Request *request) {
+    request->form = ends_in(request->out, ".pdf") ? AS_PDF : ends_in(request->out, ".png") ? AS_PNG : AS_HTML;
+    if (request->scale == NULL)
+        request->scale = scale_named("grey");
 }
 
 Request request_from(char **argv) {
@@ -276,8 +334,9 @@ Request request_from(char **argv) {
     request.json = words.given[JSON];
     request.has_most = words.given[MOST];
     request.has_decompositions = words.given[DECOMPOSITIONS];
-    request.grey = words.given[GREY] || (request.command == DECODE && is_grey_name(request.out));
+    request.grey = words.given[GREY] || (request.command == DECODE && ends_in(request.out, ".pgm"));
     expect(&words, &request);
+    choose_form(&request);
     judge_options(&words, &request);
     read_operands(&words, &request);
     return request;

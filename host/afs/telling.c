@@ -111,10 +111,8 @@ static void tell_farthest_pixel(FILE *out, const Holding *holding) {
         fputc('\n', out);
 }
 
-/* The planes that a level lacks, downward, neighbours as one stretch. */
-static void tell_missing_of(FILE *out, const Holding *holding, uint32_t level) {
+void tell_missing_planes(FILE *out, const Holding *holding, uint32_t level) {
     const char *before = "";
-    fprintf(out, "    level %" PRIu32 "  plane ", level);
     for (uint32_t plane = holding->header.planes; plane-- > 0;) {
         if (is_there(holding, plane, level))
             continue;
@@ -126,19 +124,25 @@ static void tell_missing_of(FILE *out, const Holding *holding, uint32_t level) {
             fprintf(out, " to %" PRIu32, plane);
         before = ", ";
     }
-    fputc('\n', out);
+}
+
+bool lacks_planes(const Holding *holding, uint32_t level) {
+    uint32_t all_planes = (UINT32_C(1) << holding->header.planes) - 1;
+    return holding->there[level - 1] != all_planes;
 }
 
 static void tell_missing(FILE *out, const Holding *holding) {
-    uint32_t all_planes = (UINT32_C(1) << holding->header.planes) - 1;
     uint32_t whole = parts_of_whole(holding), missing = whole - count_parts(holding, is_there);
     if (missing == 0)
         fputs("\nMissing: nothing.\n", out);
     else
         fprintf(out, "\nMissing: %" PRIu32 " of %" PRIu32 " parts.\n", missing, whole);
     for (uint32_t level = holding->levels; level > 0; level--)
-        if (holding->there[level - 1] != all_planes)
-            tell_missing_of(out, holding, level);
+        if (lacks_planes(holding, level)) {
+            fprintf(out, "    level %" PRIu32 "  plane ", level);
+            tell_missing_planes(out, holding, level);
+            fputc('\n', out);
+        }
 }
 
 static void tell_tail(FILE *out, const Holding *holding) {

@@ -2,7 +2,7 @@
 #ifndef AFS_TELLING_H
 #define AFS_TELLING_H
 
-#include "calls.h"
+#include "holding.h"
 
 #include <stdio.h>
 
@@ -11,5 +11,9 @@ void list_parts(FILE *out, Bytes record, const Outcome *served);
 
 /* The assessor's questions about a record, answered in sentences; for a record accepted by decode(). */
 void explain(FILE *out, Bytes record, const Outcome *decoded);
+
+/* Whether a level lacks any, and which, downward, neighbours as one stretch. */
+bool lacks_planes(const Holding *holding, uint32_t level);
+void tell_missing_planes(FILE *out, const Holding *holding, uint32_t level);
 
 #endif
