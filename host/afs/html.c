@@ -7,7 +7,9 @@
 #include <stdlib.h>
 #include <string.h>
 
-static const char *entity_for(unsigned char byte) {
+static const char no_text[] = "\xEF\xBF\xBD"; /* U+FFFD */
+
+static const char *entity_for(unsigned char byte, const char *newline) {
     switch (byte) {
     case '&':
         return "&amp;";
@@ -18,9 +20,9 @@ static const char *entity_for(unsigned char byte) {
     case '"':
         return "&quot;";
     case '\n':
-        return "<br>";
+        return newline;
     default:
-        return byte < 0x20 || byte == 0x7F ? "\xEF\xBF\xBD" : NULL;
+        return byte < 0x20 || byte == 0x7F ? no_text : NULL;
     }
 }
 
@@ -29,16 +31,24 @@ static bool is_control(const unsigned char *character) {
     return character[0] == 0xC2 && character[1] < 0xA0;
 }
 
-void print_escaped(FILE *out, const char *text) {
+static void print_text(FILE *out, const char *text, const char *newline) {
     for (const unsigned char *at = (const unsigned char *)text; *at != '\0';) {
         size_t length = length_of_character(at);
-        const char *instead = length == 0 || is_control(at) ? "\xEF\xBF\xBD" : entity_for(*at);
+        const char *instead = length == 0 || is_control(at) ? no_text : entity_for(*at, newline);
         if (instead != NULL)
             fputs(instead, out);
         else
             fwrite(at, 1, length, out);
         at += length == 0 ? 1 : length;
     }
+}
+
+void print_escaped(FILE *out, const char *text) {
+    print_text(out, text, " ");
+}
+
+void print_escaped_lines(FILE *out, const char *text) {
+    print_text(out, text, "<br>");
 }
 
 void print_grouped(FILE *out, uint64_t number) {

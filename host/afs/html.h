@@ -10,6 +10,9 @@
 /* A text from outside, whatever bytes it has: none of them is taken for markup, and those that are no text become U+FFFD. */
 void print_escaped(FILE *out, const char *text);
 
+/* The same, in as many lines as it has. */
+void print_escaped_lines(FILE *out, const char *text);
+
 /* With a comma before each three digits. */
 void print_grouped(FILE *out, uint64_t number);
 

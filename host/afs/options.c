@@ -97,19 +97,24 @@ static const Scale *scale_from(const char *name) {
     return scale;
 }
 
+/* Nothing is as if it weren't given. */
+static const char *some(const char *text) {
+    return text != NULL && text[0] != '\0' ? text : NULL;
+}
+
 static void take_text(Option option, const char *text, Request *request) {
     switch (option) {
     case OF:
         request->of = text;
         break;
     case TITLE:
-        request->title = text;
+        request->title = some(text);
         break;
     case NOTE:
-        request->note = text;
+        request->note = some(text);
         break;
     case DEVICE:
-        request->device = text;
+        request->device = some(text);
         break;
     case OUTPUT:
         request->out = text;

@@ -41,7 +41,7 @@ static void write_heading(FILE *out, const Sheet *sheet) {
     fputs("</h1>\n", out);
     if (sheet->note != NULL) {
         fputs("<p class=\"note\">", out);
-        print_escaped(out, sheet->note);
+        print_escaped_lines(out, sheet->note);
         fputs("</p>\n", out);
     }
     fputs("</header>\n", out);

@@ -85,9 +85,9 @@ static void answer_what_lacks(FILE *out, const Sheet *sheet) {
     else
         fprintf(out, "<strong>It would, and no part is missing:</strong> all %" PRIu32 " are there.", parts_of_whole(holding));
     if (holding->tail > 0) {
-        fputs(" The file ends with <span id=\"tail\">", out);
+        fputs(" Behind the last part the file has <span id=\"tail\">", out);
         print_grouped(out, holding->tail);
-        fputs("</span> bytes of a part that was cut off; they are not used.", out);
+        fprintf(out, "</span> byte%s more, no whole part, not used.", holding->tail == 1 ? "" : "s");
     }
     fputs(" A part that did not arrive whole makes the plane reported for its level, and for every finer one, greater than\n"
           "its own (<code>loss-shows</code>). Bytes that were changed inside of a part do not show here, but beside the seal: <code>afs verify</code>.",
