@@ -39,10 +39,11 @@ static void tell_sizes(FILE *out, Header header) {
             header.decompositions, header.planes);
 }
 
-static void tell_reached(FILE *out, const Holding *holding) {
-    fputs(", \"reached\": [", out);
+/* A number for each level, level 1 first. */
+static void tell_levels(FILE *out, const char *what, const Holding *holding, const uint64_t *numbers) {
+    fprintf(out, ", \"%s\": [", what);
     for (uint32_t level = 1; level <= holding->levels; level++)
-        fprintf(out, "%s%" PRIu64, level > 1 ? ", " : "", holding->reached[level - 1]);
+        fprintf(out, "%s%" PRIu64, level > 1 ? ", " : "", numbers[level - 1]);
     fputc(']', out);
 }
 
@@ -84,9 +85,10 @@ void tell_accepted(FILE *out, const Request *request, const char *name, Bytes re
     tell_outcome(out, name, record.length, outcome, NULL);
     tell_sizes(out, holding.header);
     if (request->command == PARTS) {
-        fputs(", \"reached\": null, \"farthest_pixels\": null", out);
+        fputs(", \"reached\": null, \"skipped\": null, \"farthest_pixels\": null", out);
     } else {
-        tell_reached(out, &holding);
+        tell_levels(out, "reached", &holding, holding.reached);
+        tell_levels(out, "skipped", &holding, holding.skipped);
         tell_farthest_pixels(out, &holding);
     }
     tell_parts(out, record, outcome);
@@ -95,7 +97,7 @@ void tell_accepted(FILE *out, const Request *request, const char *name, Bytes re
 }
 
 static const char nothing_known[] = ", \"width\": null, \"height\": null, \"decompositions\": null, \"planes\": null, \"reached\": null, "
-                                    "\"farthest_pixels\": null, \"parts\": null, \"missing\": null, \"tail\": null, \"lacks\": null}\n";
+                                    "\"skipped\": null, \"farthest_pixels\": null, \"parts\": null, \"missing\": null, \"tail\": null, \"lacks\": null}\n";
 
 void tell_refused(FILE *out, const char *name, Bytes record, const Outcome *outcome, const char *why) {
     tell_outcome(out, name, record.length, outcome, why);

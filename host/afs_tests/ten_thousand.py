@@ -99,6 +99,7 @@ def is_right(told, record):
         and told["tail"] == tail
         and told["lacks"] == (bool(missing) or tail > 0)
         and told["reached"] == reached_planes(levels, planes, there)
+        and told["skipped"] == [sum(k == level and n < reached for n, k in there) for level, reached in enumerate(told["reached"], 1)]
         and told["farthest_pixels"] == farthest_pixels(told["reached"])
     )
 
