@@ -7,7 +7,7 @@ SYNOPSIS
     record  = afshtruni.code(pyramid)                 # bytes: all of it, at full detail
     small   = afshtruni.serve(record, level=2, plane=2)   # smaller, cut out without decoding
     arrived = afshtruni.decode(record[:2000])         # of whatever came
-    arrived.reached, arrived.tail, arrived.pixel_bound    # how far it got
+    arrived.reached, arrived.skipped, arrived.tail, arrived.pixel_bound   # how far it got
     picture = afshtruni.write_picture(arrived, "arrived.pgm")
     picture.pixels, picture.clipped                   # an array of uint8; how many were clipped
 

@@ -22,7 +22,7 @@ JOINED: Mapping[str, int] = {"LENGTH": 2}
 SURVEYED: Mapping[str, int] = {
     "WIDTH": 2, "HEIGHT": 3, "DECOMPOSITIONS": 4, "PLANES": 5, "PARTS": 6, "TAIL": 7,
 }
-DECODED: Mapping[str, int] = {"TAIL": 2, "REACHED": 3}
+DECODED: Mapping[str, int] = {"TAIL": 2, "REACHED": 3, "SKIPPED": 9}
 GREY_READ: Mapping[str, int] = {"WIDTH": 2, "HEIGHT": 3}
 GREY_WRITTEN: Mapping[str, int] = {"LENGTH": 2, "CLIPPED": 3}
 

@@ -110,26 +110,30 @@ def _size_to_lend(lent: NDArray[np.uint8]) -> Survey:
     return _surveyed(answer)
 
 
+def _by_level(answer: Answer, first: int, told: Survey) -> Tuple[int, ...]:
+    """The numbers of the levels that there are, level 1 first."""
+    return tuple(answer[first : first + min(told.decompositions + 1, LEVEL_PLACES)])
+
+
 def decode(record: BytesLike) -> Decoded:
     """Makes a pyramid of the parts of a record that are there, and tells how far it got.
 
     record  bytes, or anything that holds a row of them: a record, or any of its parts in their
             order, with the end cut off wherever it may be
 
-    The result is a `Pyramid` with `reached`, `tail` and `pixel_bound`. Refuses as `survey` does,
-    and with 10 FIT.
+    The result is a `Pyramid` with `reached`, `skipped`, `tail` and `pixel_bound`. Refuses as
+    `survey` does, and with 10 FIT.
     """
     lent = octets("record", record)
     told = _size_to_lend(lent)
     out = np.empty((told.height, told.width), np.int32)
     answer = call("afs_decode", lent, out, workspace(out.size))
-    first = DECODED["REACHED"]
-    levels = min(told.decompositions + 1, LEVEL_PLACES)
     return Decoded(
         coefficients=out,
         decompositions=told.decompositions,
         planes=told.planes,
-        reached=tuple(answer[first : first + levels]),
+        reached=_by_level(answer, DECODED["REACHED"], told),
+        skipped=_by_level(answer, DECODED["SKIPPED"], told),
         tail=answer[DECODED["TAIL"]],
     )
 

@@ -38,11 +38,14 @@ class Decoded(Pyramid):
     reached  for each level, level 1 first, the lowest plane that could be used, or `planes` where
              none could: a coefficient of that level is less than 2^m from the recorded one, where
              m is its reached plane; it has no greater magnitude, and the same sign unless it is 0
+    skipped  for each level how many of its parts are there whole and couldn't be used, as one that
+             they build on is missing: used and skipped parts are all that are there
     tail     bytes at the record's end that are no whole part and weren't used
     """
 
     planes: int
     reached: Tuple[int, ...]
+    skipped: Tuple[int, ...]
     tail: int
 
     @property

@@ -33,6 +33,7 @@ def _check_decoded(record: bytes, told: Told) -> None:
     assert decoded.decompositions == told["decompositions"]
     assert decoded.planes == told["planes"]
     assert list(decoded.reached) == told["reached"]
+    assert list(decoded.skipped) == told["skipped"]
     assert list(decoded.pixel_bounds) == told["farthest_pixels"]
     assert decoded.pixel_bound == told["farthest_pixels"][0]
     assert decoded.tail == told["tail"]
@@ -43,7 +44,7 @@ def test_example_of_the_header() -> None:
     assert afshtruni.serve(RECORD, 2, 0) == bytes.fromhex("0104040103 02020580 01020540 000205C0")
     assert afshtruni.survey(RECORD[:29]) == (4, 4, 1, 3, 5, 4)
     decoded = afshtruni.decode(RECORD[:29])
-    assert (decoded.tail, decoded.reached) == (4, (1, 0))
+    assert (decoded.tail, decoded.reached, decoded.skipped) == (4, (1, 0), (0, 0))
     assert decoded.coefficients.tolist() == [[4, -1, 0, 0], [2, 0, 0, -2], [0] * 4, [0] * 4]
 
 
@@ -148,6 +149,18 @@ def test_whole_pictures_come_back(tmp_path: Path) -> None:
     assert np.array_equal(picture.pixels, pixels)
     again = afshtruni.read_picture(str(tmp_path / "whole.pgm"))
     assert np.array_equal(again.coefficients, pyramid.coefficients)
+
+
+def test_used_and_skipped_parts_are_all_that_are_there(selections: List[bytes]) -> None:
+    skipping = 0
+    for arrived in selections:
+        decoded = afshtruni.decode(arrived)
+        for level, (plane, skipped) in enumerate(zip(decoded.reached, decoded.skipped), start=1):
+            there = {part.plane for part in afshtruni.parts(arrived) if part.level == level}
+            assert set(range(plane, decoded.planes)) <= there
+            assert len(there) == decoded.planes - plane + skipped
+        skipping += any(decoded.skipped)
+    assert skipping > len(selections) // 20
 
 
 def test_no_pixel_is_farther_than_the_bound(record: bytes, selections: List[bytes]) -> None:

@@ -37,9 +37,11 @@ def test_layout_is_the_headers(name: str) -> None:
     assert length <= _answers.ANSWER_LENGTH
 
 
-def test_a_decoded_answer_ends_with_the_places_of_levels() -> None:
-    last = max(_answers.DECODED.values())
-    assert CONSTANTS["DECODED_NUMBERS"] == last + _answers.LEVEL_PLACES
+def test_a_decoded_answer_has_places_for_levels() -> None:
+    places = CONSTANTS["LEVEL_PLACES"]
+    assert places == _answers.LEVEL_PLACES
+    assert _answers.DECODED["SKIPPED"] == _answers.DECODED["REACHED"] + places
+    assert CONSTANTS["DECODED_NUMBERS"] == _answers.DECODED["SKIPPED"] + places
 
 
 def test_names_are_the_headers() -> None:
