@@ -61,6 +61,17 @@ static void answer_how_far(FILE *out, const Sheet *sheet) {
     end_answer(out);
 }
 
+static void tell_skipped(FILE *out, const Holding *holding) {
+    uint64_t skipped = 0;
+    for (uint32_t level = 1; level <= holding->levels; level++)
+        skipped += holding->skipped[level - 1];
+    if (skipped > 0)
+        fprintf(out,
+                " Of those that are there <span id=\"skipped\">%" PRIu64 "</span> cannot be used, as a part that %s on is missing\n"
+                "(<code>used-and-skipped</code>).",
+                skipped, skipped == 1 ? "it builds" : "they build");
+}
+
 static void tell_missing(FILE *out, const Sheet *sheet, uint32_t missing) {
     const Holding *holding = &sheet->holding;
     const char *before = " ";
@@ -72,8 +83,9 @@ static void tell_missing(FILE *out, const Sheet *sheet, uint32_t missing) {
             before = "; ";
         }
     fputc('.', out);
+    tell_skipped(out, holding);
     if (farthest_pixel(holding, sheet->halvings) == 0)
-        fputs(" None of them is needed for this picture.", out);
+        fputs(" None of what lacks is needed for this picture.", out);
 }
 
 static void answer_what_lacks(FILE *out, const Sheet *sheet) {

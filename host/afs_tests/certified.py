@@ -108,11 +108,12 @@ def level_of(index, width, height, n):
 
 def is_right(tool, whole, recorded, kept, halvings, html):
     (_, width, height, n, planes), parts, tail = parts_of(kept)
-    there, told = {(plane, level) for plane, level, *_ in parts}, facts(html)
+    there, told = {(plane, level) for plane, level, *_ in parts}, {"tail": 0, "skipped": 0, **facts(html)}
     reached = reached_planes(n + 1, planes, there)
     used = sum(plane >= reached[level - 1] for plane, level in there if level > halvings)
     farthest = farthest_pixels(reached)[halvings]
-    claims = {"farthest": farthest, "there": len(there), "used": used, "missing": planes * (n + 1) - len(there), **({"tail": tail} if tail else {})}
+    skipped = sum(plane < reached[level - 1] for plane, level in there)
+    claims = {"farthest": farthest, "there": len(there), "used": used, "skipped": skipped, "missing": planes * (n + 1) - len(there), "tail": tail}
     near = all(
         abs(was - now) < 1 << reached[level_of(i, width, height, n) - 1] for i, (was, now) in enumerate(zip(recorded, tool.pyramid(kept)))
     )
