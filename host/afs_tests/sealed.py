@@ -1,10 +1,12 @@
-"""sealed.py make RECORD FOLDER FLIPS DAMAGED SELECTIONS: files made of a record: single bits turned over; runs of bytes dropped, swapped or zeroed; parts
-left out, cut off, or joined from two selections. As many of each as is said; of the flips all where that is all.
+"""sealed.py make RECORD FOLDER TOOL FLIPS DAMAGED SELECTIONS: files made of a record: single bits turned over; runs of bytes dropped, swapped or zeroed;
+parts left out, cut off, or joined from two selections by the tool. As many of each as is said; of the flips all where that is all.
 sealed.py read RECORD FOLDER TOLD: compares what 'afs verify' told of them with what is worked out here from their bytes."""
 import os
 import random
 import re
+import subprocess
 import sys
+import tempfile
 from collections import Counter
 
 sys.dont_write_bytecode = True
@@ -20,7 +22,7 @@ class Sealed:
         self.heads = {(plane, level): record[begin : end - (bits + 7) // 8] for plane, level, bits, begin, end in parts}
 
 
-def flips(record, count, _):
+def flips(record, count, *_):
     bits = 8 * len(record)
     for i in range(min(count, bits)):
         bit = i * bits // min(count, bits)
@@ -29,7 +31,7 @@ def flips(record, count, _):
         yield bytes(turned)
 
 
-def damaged(record, count, chance):
+def damaged(record, count, chance, _):
     """Runs of all lengths, short ones most often."""
     for i in range(count):
         length = min(int(1 / chance.uniform(0.002, 1)), len(record) // 2)
@@ -46,23 +48,29 @@ def damaged(record, count, chance):
             yield (record[:low] + record[high : high + length] + record[low + length : high] + record[low : low + length] + record[high + length :])
 
 
-def selections(record, count, chance):
+def joined(first, second, tool):
+    with tempfile.NamedTemporaryFile() as file:
+        file.write(first)
+        file.flush()
+        return subprocess.run([tool, "join", file.name, "-"], input=second, stdout=subprocess.PIPE, check=True).stdout
+
+
+def selections(record, count, chance, tool):
     sealed = Sealed(record)
 
     def served():
         level, plane = chance.randint(1, 6), chance.randint(0, 7)
-        return {name for name in sealed.parts if name[1] >= level and name[0] >= plane}
+        return sealed.header + b"".join(part for name, part in sealed.parts.items() if name[1] >= level and name[0] >= plane)
 
     for i in range(count):
-        kept = served() | served() if i % 3 == 2 else served()
-        made = sealed.header + b"".join(part for name, part in sealed.parts.items() if name in kept)
+        made = joined(served(), served(), tool) if i % 3 == 2 else served()
         yield made[: chance.randint(len(sealed.header), len(made))] if i % 3 == 1 else made
 
 
-def make(record, folder, *counts):
+def make(record, folder, tool, *counts):
     chance = random.Random(1)
     for kind, count in zip((flips, damaged, selections), counts):
-        for i, made in enumerate(kind(record, int(count), chance)):
+        for i, made in enumerate(kind(record, int(count), chance, tool)):
             with open(os.path.join(folder, f"{kind.__name__}{i:05d}"), "wb") as out:
                 out.write(made)
 
