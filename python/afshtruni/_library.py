@@ -54,15 +54,10 @@ def _library() -> ctypes.CDLL:
     return _load(os.environ.get(VARIABLE) or _place.LIBRARY)
 
 
-def has_call(name: str) -> bool:
-    """Whether the library has a call of this name."""
-    return hasattr(_library(), name)
-
-
 def _exported(name: str) -> Any:
-    if not has_call(name):
+    function = getattr(_library(), name, None)
+    if function is None:
         raise NotImplementedError(f"this libafshtruni has no {name}()")
-    function = getattr(_library(), name)
     function.argtypes = [kind for taken in (*_CALLS[name], _SLICE) for kind in taken]
     function.restype = ctypes.c_uint64
     return function

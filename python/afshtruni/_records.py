@@ -78,7 +78,7 @@ def join(first: BytesLike, second: BytesLike) -> bytes:
 
     Refuses as `survey` does, the first record before the second and with a place in its own bytes;
     then with 14 MIXED where the headers differ, or 15 CLASH where a part does, at its offset in the
-    first. Raises NotImplementedError where the library has no such call.
+    first.
     """
     lent = octets("first", first), octets("second", second)
     out = np.empty(lent[0].size + lent[1].size, np.uint8)

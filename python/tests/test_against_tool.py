@@ -115,6 +115,31 @@ def test_serving(afs: Tool, record: bytes, level: int, plane: int) -> None:
     assert afshtruni.serve(record, level, plane) == served
 
 
+def test_joining_two_downloads(record: bytes) -> None:
+    coarse, fine = afshtruni.serve(record, 2), afshtruni.serve(record, 1, 3)
+    joined = afshtruni.join(coarse, fine)
+    assert joined == afshtruni.join(fine, coarse)
+    assert afshtruni.join(joined, record) == record == afshtruni.join(record, record)
+    there = {(part.plane, part.level) for part in afshtruni.parts(joined)}
+    assert there == {
+        (part.plane, part.level)
+        for part in afshtruni.parts(record)
+        if part.level >= 2 or part.plane >= 3
+    }
+
+
+def test_joining(afs: Tool, selections: List[bytes], tmp_path: Path) -> None:
+    file = tmp_path / "first.record"
+    for i, j in np.random.default_rng(6).integers(len(selections), size=(60, 2)):
+        first, second = selections[i], selections[j]
+        file.write_bytes(first)
+        joined = afshtruni.join(first, second)
+        assert joined == afs("join", file, "-", given=second).stdout
+        assert {part[:3] for part in afshtruni.parts(joined)} == {
+            part[:3] for arrived in (first, second) for part in afshtruni.parts(arrived)
+        }
+
+
 @pytest.mark.parametrize("length", [5, 300, 1000, 2000, -1, None])
 def test_decoding(afs: Tool, record: bytes, length: Optional[int]) -> None:
     arrived = record[:length]

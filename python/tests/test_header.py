@@ -30,8 +30,6 @@ LAYOUTS = {
 def test_layout_is_the_headers(name: str) -> None:
     prefix = name + "_"
     places = {k[len(prefix) :]: v for k, v in CONSTANTS.items() if k.startswith(prefix)}
-    if not places:
-        pytest.skip(f"the header has no AFS_{name}_NUMBER yet")
     length = places.pop("NUMBERS")
     assert places == {"NUMBER": _answers.NUMBER, "PLACE": _answers.PLACE, **LAYOUTS[name]}
     assert length <= _answers.ANSWER_LENGTH
@@ -48,8 +46,7 @@ def test_names_are_the_headers() -> None:
     ours = {name: number for number, name in _answers.NAMES.items()}
     single = {name: value for name, value in CONSTANTS.items() if "_" not in name}
     assert single.pop("ACCEPTED") == _answers.ACCEPTED
-    assert single == {name: ours.get(name) for name in single}
-    assert set(ours) - set(single) <= {"MIXED", "CLASH"}
+    assert single == ours
 
 
 def test_every_number_has_a_cause() -> None:

@@ -12,7 +12,6 @@ import numpy as np
 import pytest
 
 import afshtruni
-from afshtruni import _library
 from conftest import TREE
 
 
@@ -75,44 +74,6 @@ def test_memory_of_refusals_is_flat(record: bytes) -> None:
             with pytest.raises(afshtruni.Refusal):
                 afshtruni.decode(wrong)
     assert _resident() - before < 1 << 20
-
-
-def _joins() -> bool:
-    return _library.has_call("afs_join")
-
-
-def test_joining_two_downloads(record: bytes) -> None:
-    if not _joins():
-        pytest.skip("the library has no afs_join yet")
-    coarse, fine = afshtruni.serve(record, 2), afshtruni.serve(record, 1, 3)
-    joined = afshtruni.join(coarse, fine)
-    assert joined == afshtruni.join(fine, coarse)
-    assert afshtruni.join(joined, record) == record == afshtruni.join(record, record)
-    there = {(part.plane, part.level) for part in afshtruni.parts(joined)}
-    assert there == {
-        (part.plane, part.level)
-        for part in afshtruni.parts(record)
-        if part.level >= 2 or part.plane >= 3
-    }
-
-
-def test_joining_what_does_not_fit(record: bytes) -> None:
-    if not _joins():
-        pytest.skip("the library has no afs_join yet")
-    other = afshtruni.code(np.ones((8, 8), np.int32), 1)
-    part = afshtruni.parts(record)[-1]
-    changed = bytearray(record)
-    changed[part.offset + 4] ^= 0x80
-    for first, second, number, name, place in (
-        (record, other, 14, "MIXED", 0),
-        (record, bytes(changed), 15, "CLASH", part.offset),
-        (b"", record, 6, "HEAD", 0),
-        (record, record[:2], 6, "HEAD", 2),
-    ):
-        with pytest.raises(afshtruni.Refusal) as raised:
-            afshtruni.join(first, second)
-        refusal = raised.value
-        assert (refusal.number, refusal.name, refusal.place) == (number, name, place)
 
 
 def test_example(tmp_path: Path) -> None:

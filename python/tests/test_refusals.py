@@ -3,6 +3,7 @@
 from __future__ import annotations
 
 import pickle
+from pathlib import Path
 
 import numpy as np
 import pytest
@@ -22,6 +23,26 @@ def test_refusals_are_those_of_the_tool(afs: Tool, record: bytes) -> None:
             with pytest.raises(Refusal) as raised:
                 call(wrong)
             assert afs(command, given=wrong).stderr.startswith(_told(raised.value))
+
+
+def test_joining_what_does_not_fit(afs: Tool, record: bytes, tmp_path: Path) -> None:
+    other = afshtruni.code(np.ones((8, 8), np.int32), 1)
+    part = afshtruni.parts(record)[-1]
+    changed = bytearray(record)
+    changed[part.offset + 4] ^= 0x80
+    file = tmp_path / "first.record"
+    for first, second, number, name, place in (
+        (record, other, 14, "MIXED", 0),
+        (record, bytes(changed), 15, "CLASH", part.offset),
+        (b"", record, 6, "HEAD", 0),
+        (record, record[:2], 6, "HEAD", 2),
+    ):
+        with pytest.raises(Refusal) as raised:
+            afshtruni.join(first, second)
+        refusal = raised.value
+        assert (refusal.number, refusal.name, refusal.place) == (number, name, place)
+        file.write_bytes(first)
+        assert afs("join", file, "-", given=second).stderr.startswith(_told(refusal))
 
 
 def test_asking_for_too_much(record: bytes) -> None:
