@@ -120,9 +120,10 @@ static void write_foot(FILE *out) {
     fputs("<footer>\n<p>The seal is the digest on the line <code>seal</code> that <code>afs seal</code> writes of this file: the SHA-256 of its\n"
           "header&rsquo;s numbers and of the digests of its whole parts.</p>\n"
           "<p>What is said of coefficients and pixels holds for a record that Afshtruni&rsquo;s coder wrote, whatever whole parts were left out or lost\n"
-          "since, and wherever it was cut off; not where a byte was changed, or lost inside of a part. A record does not show who wrote it, or whether it\n"
-          "was made of a picture. The theorems named here are proved of the calls that <code>afs</code> is made over (docs/PROMISES.md of Afshtruni).\n"
-          "Trusted, not proved: the prover and back end of the Rattle kit, the C compiler, the linker, and the tool, which made this sheet.</p>\n"
+          "since, and wherever it was cut off; not where a byte was changed, or lost inside of a part, or where records of two jobs were joined. A record\n"
+          "does not show who wrote it, or whether it was made of a picture. The theorems named here are proved of the calls that <code>afs</code> is made\n"
+          "over (docs/PROMISES.md of Afshtruni). Trusted, not proved: the prover and back end of the Rattle kit, the C compiler, the linker, and the tool,\n"
+          "which made this sheet.</p>\n"
           "</footer>\n",
           out);
 }
