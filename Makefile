@@ -6,7 +6,7 @@ help:
 	@echo 'make test        the gate: every crate proved from nothing, every must-fail edit refused, all tests'
 	@echo 'make install     tool, library, header, pkg-config files, man pages, completion, Python package: PREFIX=/usr/local, DESTDIR before it;'
 	@echo '                 make uninstall removes them'
-	@echo 'make deb         Debian packages in build/deb: afshtruni, libafshtruni with the number of the soname, libafshtruni-dev, python3-afshtruni; on x86-64 only'
+	@echo 'make deb         Debian packages in build/deb: afshtruni, libafshtruni by its soname, libafshtruni-dev, python3-afshtruni; on x86-64 only'
 	@echo 'make needs       lists the packages that these need, and which are there; installs nothing'
 	@echo 'make bench       times of the calls beside the reference, plain C and OpenJPEG: docs/BENCHMARKS.md; on x86-64 only'
 	@echo 'make soak        ten million records, most of them damaged, decoded by the archive and by the reference, all memory lent compared; a line'
