@@ -15,6 +15,7 @@ use Rattle.parts.specs.declared.Passed.{Passed}
 use Rattle.rules.specs.Document.Pyramid.{legalSize, levels}
 use Rattle.rules.specs.Document.Passes.{State}
 use Rattle.rules.specs.Document.Layout.{packed, bytesFor}
+use Rattle.rules.specs.Document.Numbers.{partMost}
 use Rattle.rules.specs.Laws.Family.Sizes.{legal}
 use Rattle.rules.specs.Laws.State.Parts.{OfLevel}
 use Rattle.rules.specs.Laws.Family.Sizes.{area-bound}
@@ -50,7 +51,7 @@ module _ (pyramid : List ℤ) (z : Size) (n : Plane) (k : Level) (work : List �
     side : List Bool
     side = courseC pyramid z n k work (p .counts) .side
 
-    few : (length side ≤ 2 ^ 20) × (n .0 < 128) × (k .0 < 128)
+    few : (length side ≤ partMost) × (n .0 < 128) × (k .0 < 128)
     unfolding side
     few =
         let o : OfLevel (levels z) (named n k) = record { from1 = due .coarser; upTo = due .level } in

@@ -13,7 +13,7 @@ use Rattle.rules.specs.Document.Notation.{flat}
 use Rattle.rules.specs.Document.Pyramid.{legalSize, area, levels, magnitude, negative, mostPlanes}
 use Rattle.rules.specs.Document.Passes.{State, PartName, partsOfPlane}
 use Rattle.rules.specs.Document.Layout.{packed, partBytes, codedParts}
-use Rattle.rules.specs.Document.Numbers.{mostBits}
+use Rattle.rules.specs.Document.Numbers.{mostBits, partMost}
 use Rattle.rules.specs.Laws.Counting.Sums.{All, from-length}
 use Rattle.rules.specs.Laws.Family.Sizes.{legal, area-bound}
 use Rattle.rules.specs.Laws.Offspring.Lawful.{lawful}
@@ -23,7 +23,7 @@ use Rattle.rules.specs.Laws.Bytes.Numbers.{numberBytes-length}
 use Rattle.rules.specs.Laws.Bytes.BodyBack.{packed-length}
 use Rattle.memory.specs.Stores.{sets-append, getD-sets-behind}
 use Rattle.record.specs.Write.{headOf, headOf-length}
-use Rattle.coder.specs.Writing.{Stage, courseOf, bytesOf, bytesOfParts, onward, through, partMost, Going}
+use Rattle.coder.specs.Writing.{Stage, courseOf, bytesOf, bytesOfParts, onward, through, bytesMost, Going}
 
 -- Lists that agree at every level are the same.
 module _ (pyramid : List ℤ) (z : Size) where
@@ -56,9 +56,9 @@ module _ (pyramid : List ℤ) (z : Size) where
   through-append (p ∷ ps) qs x = through-append ps qs (onward pyramid z p x)
 
   module _ (l : legalSize z ≡ true) where
-    -- A part has at most 2^20 bits, and at most partMost bytes.
+    -- A part has at most partMost bits, and at most bytesMost bytes.
     pub bits-few : (p : PartName) (s : State) → OfLevel (levels z) p → SoundLists z s
-        → (length (courseOf pyramid z p s .side) ≤ mostBits z) × (mostBits z ≤ 2 ^ 20)
+        → (length (courseOf pyramid z p s .side) ≤ mostBits z) × (mostBits z ≤ partMost)
     bits-few p s o h =
         omega (
           arith,
@@ -68,7 +68,7 @@ module _ (pyramid : List ℤ) (z : Size) where
         )
 
     bytes-few : (p : PartName) (s : State) → OfLevel (levels z) p → p .plane < 128 → p .level < 128 → SoundLists z s
-        → length (bytesOf pyramid z p s) ≤ partMost
+        → length (bytesOf pyramid z p s) ≤ bytesMost
     bytes-few p s o a b h =
         let bits : List Bool = courseOf pyramid z p s .side in
         omega (

@@ -51,8 +51,8 @@ pub record Given (pyramid : List ℤ) (z : Size) (work : List ℕ) : Type 0 wher
 abbrev pub headerMost : ℕ
 headerMost = 20
 
-abbrev pub partMost : ℕ
-partMost = 2 ^ 18
+abbrev pub bytesMost : ℕ
+bytesMost = 2 ^ 32
 
 -- How far a record is written: the lists, the output, and the place of the next part.
 pub record Stage : Type 0 where
@@ -94,7 +94,7 @@ Clear out place = (j : ℕ) → place ≤ j → getD out j 0 ≡ 0
 pub record Going (z : Size) (m : ℕ) (x : Stage) : Type 0 where
   pub sound : SoundLists z (x .lists)
   pub clear : Clear (x .out) (x .place)
-  pub near : x .place + partMost * m ≤ placeMost
+  pub near : x .place + bytesMost * m ≤ placeMost
 
 -- A part is due at the stage x.
 pub record Due (pyramid : List ℤ) (z : Size) (n : Plane) (k : Level) (work : List ℕ) (x : Stage) : Type 0 where

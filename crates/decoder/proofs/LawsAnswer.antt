@@ -16,7 +16,7 @@ use Rattle.rules.specs.declared.Header.{Header}
 use Rattle.rules.specs.declared.HeaderRead.{HeaderRead}
 use Rattle.rules.specs.declared.HeaderRead.the-variants as header
 use Rattle.rules.specs.declared.Decoded.{Decoded}
-use Rattle.rules.specs.Document.Pyramid.{area}
+use Rattle.rules.specs.Document.Pyramid.{area, greatestSide, mostArea}
 use Rattle.rules.specs.Document.Numbers.{readHeader, readParts}
 use Rattle.rules.specs.Document.Calls.{Result, refused, accepted, unless, workFor, onHeader, Picture, decodedParts, decoding, decodeOut, decodeAnswer, Decoding}
 use Rattle.rules.specs.Laws.Family.Sizes.{legal}
@@ -53,7 +53,7 @@ module _ (s : List ℕ) (y : HeaderRead) (e : y ≡ readHeader s) (h : Header) (
   whole-header = readHeader-stands s h (sym e ∙ f)
 
   -- the products that the lengths are judged by
-  header-area : (4 * h .size .w ≤ 2048) × (area (h .size) ≤ 262144) × (4 * h .size .w * h .size .h ≡ workFor (h .size))
+  header-area : (4 * h .size .w ≤ 4 * greatestSide) × (area (h .size) ≤ mostArea) × (4 * h .size .w * h .size .h ≡ workFor (h .size))
   header-area =
       let Z : Legal (h .size) = legal (h .size) (header-legal whole-header) in (
         omega (arith, Z .width .most),

@@ -26,10 +26,10 @@ use Rattle.rules.specs.declared.PartRead.{PartRead}
 use Rattle.rules.specs.declared.PartRead.the-variants as part
 use Rattle.rules.specs.declared.HeaderRead.{HeaderRead}
 use Rattle.rules.specs.declared.HeaderRead.the-variants as header
-use Rattle.rules.specs.Document.Pyramid.{legalSize, mostPlanes}
+use Rattle.rules.specs.Document.Pyramid.{legalSize, mostPlanes, greatestSide, mostArea, area}
 use Rattle.rules.specs.Document.Passes.{PartName}
 use Rattle.rules.specs.Document.Layout.{readNumber, version, bytesFor, padClear, bodyOf, nameOf}
-use Rattle.rules.specs.Document.Numbers.{headNumber, judgedHeader, mostBits, partNumber, follows, legalHead, judgedPart, topLevel}
+use Rattle.rules.specs.Document.Numbers.{headNumber, judgedHeader, mostBits, partNumber, follows, legalHead, judgedPart, topLevel, partMost}
 use Rattle.record.specs.declared.Name.{Name}
 use Rattle.record.specs.Named.{nameBy, named, unreadHeader, unread, wholePart}
 use Rattle.rules.specs.Laws.Family.Sizes.{legal}
@@ -142,7 +142,8 @@ module _ (z : Size) (l : legalSize z ≡ true) where
 
   pub limit-small : 4 * z .w * z .h < 2 ^ 64
   limit-small =
-      lt-of-le-of-lt (mul-le-mul {n₁ = 4 * z .w} {m₁ = z .h} {n₂ = 2048} {m₂ = 512} (omega (arith, legal z l .width .most)) (legal z l .height .most)) (lit< tt)
+      lt-of-le-of-lt (mul-le-mul {n₁ = 4 * z .w} {m₁ = z .h} {n₂ = 4 * greatestSide} {m₂ = greatestSide}
+      (omega (arith, legal z l .width .most)) (legal z l .height .most)) (lit< tt)
 
   pub half-small : 4 * z .w < 2 ^ 64
   half-small = omega (arith, legal z l .width .most)
@@ -189,12 +190,11 @@ module _ (h : Header) (s : List ℕ) (before : PartName) (p : Part) (b : Bool) (
 
 -- What is known of a part with a legal head: its bits are few, its body begins within the bytes, so that its end fits.
 module _ (h : Header) (before p : PartName) (bits : ℕ) (b : Bool) (l : legalSize (h .size) ≡ true) (e : b ≡ legalHead h before p bits) (t : b ≡ true) where
-  pub head-few : bits ≤ 2 ^ 20
+  pub head-few : bits ≤ partMost
   unfolding legalHead
   head-few =
       let m : bits ≤ mostBits (h .size) = leb-true bits (mostBits (h .size)) (both-right (ofName h before p) _ (sym e ∙ t)) in
-      let n : h .size .w * h .size .h ≤ 512 * 512
-      = mul-le-mul {n₁ = h .size .w} {m₁ = h .size .h} {n₂ = 512} {m₂ = 512} (legal (h .size) l .width .most) (legal (h .size) l .height .most) in
+      let n : area (h .size) ≤ mostArea = mul-le-mul (legal (h .size) l .width .most) (legal (h .size) l .height .most) in
       omega arith
 
   pub bits-fit : Fits w64 (bits + 7)
