@@ -1,7 +1,7 @@
 -- The planes reached, held level 1 first: what they are before any part and after one, and the test whether a part is usable.
 use mathlib.Core.Path.{_≡_, refl, ap, ap₂, sym, _∙_}
 use mathlib.Core.List.{List, [], _∷_, map}
-use mathlib.Core.Bool.{true, false, cond}
+use mathlib.Core.Bool.{true, false, cond, and-false}
 use Prim.Native.Nat.{ℕ, zero, suc, _+_, _-_, _≤_, _<_}
 use native.Mathlib.Omega.{arith}
 use native.Mathlib.Decide.{decLe}
@@ -16,7 +16,6 @@ use Rattle.rules.specs.Document.Numbers.{topLevel}
 use Rattle.rules.specs.Document.Passes.{PartName, from}
 use Rattle.rules.specs.Document.Layout.{reached}
 use Rattle.rules.specs.Document.Calls.{levelPlaces, planeIn, reachedPlane, reachedPlanes}
-use Rattle.rules.specs.Laws.Counting.Booleans.{both-false}
 use Rattle.rules.specs.Laws.Family.Sizes.{legal}
 use Rattle.rules.specs.Laws.Reading.Usable.{reached-none, reached-beyond}
 use Rattle.rules.specs.Laws.Reading.OneWalk.{usableNow, reachedNow}
@@ -126,7 +125,7 @@ module _ (h : Header) (there more : List PartName) (R : ℕ → ℕ) (p : PartNa
   unfolding reachedPlanes reachedPlane reachedNow
   reachedPlanes-over u =
       from-same (reachedPlane h there) (reachedPlane h more) 1 levelPlaces (λ j a.
-      rw (is j a, u, both-false (eqb j (p .level)), was j))
+      rw (is j a, u, and-false (eqb j (p .level)), was j))
 
 -- Without any part: the first levels, as many as are done, have all planes before them, the others nothing.
 unfoldable pub notReached : ℕ → ℕ → ℕ → Plane

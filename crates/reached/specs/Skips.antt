@@ -1,7 +1,7 @@
 -- The parts that are skipped, counted level by level, level 1 first: of the parts that came by, usable being judged over all that are there.
 use mathlib.Core.Path.{_≡_, refl}
 use mathlib.Core.List.{List, [], _∷_, _++_, map}
-use mathlib.Core.Bool.{Bool, true, false, not, _&&_}
+use mathlib.Core.Bool.{Bool, true, false, not, _&&_, and-false}
 use Prim.Native.Nat.{ℕ, _+_, _-_, _≤_, _<_}
 use native.Mathlib.Omega.{arith}
 use native.Mathlib.Decide.{decLt}
@@ -14,7 +14,6 @@ use Rattle.rules.specs.Document.Numbers.{topLevel}
 use Rattle.rules.specs.Document.Passes.{PartName, from}
 use Rattle.rules.specs.Document.Layout.{usable}
 use Rattle.rules.specs.Document.Calls.{levelPlaces, skippedParts, skippedCounts, countIn}
-use Rattle.rules.specs.Laws.Counting.Booleans.{both-false}
 use Rattle.rules.specs.Laws.Counting.Sums.{one, count-last, count-most}
 use Rattle.rules.specs.Laws.Rounding.Run.{map-from, map-length}
 use Rattle.reached.specs.Planes.{from-same, from-set}
@@ -57,7 +56,7 @@ module _ (h : Header) (there : List PartName) where
     unfolding skippedBy one
     skippedBy-used u =
         from-same (λ k. count (skips k) seen) (λ k. count (skips k) (seen ++ (p ∷ []))) 1 levelPlaces (λ k f.
-        let e : one (skips k p) ≡ 0 = rw (u, both-false (eqb (p .level) k)) in
+        let e : one (skips k p) ≡ 0 = rw (u, and-false (eqb (p .level) k)) in
         omega (arith, count-last (skips k) seen p))
 
     pub skippedBy-over : usable (topLevel h) (h .planes) there p ≡ false → 1 ≤ p .level → p .level ≤ levelPlaces

@@ -15,7 +15,7 @@ use Rattle.rules.specs.Document.Numbers.{follows}
 use Rattle.rules.specs.Laws.Reading.Parts.{InOrder, same-name, follows-follows}
 use Rattle.rules.specs.Promises.Vocabulary.{present}
 use Rattle.rules.specs.Laws.Reading.WholeParts.{WholeParts}
-use Rattle.rules.specs.Laws.Serving.Selection.{Piece, holds, pieceHolds, pieceName, pieceBytes, piece-stands, piece-length}
+use Rattle.rules.specs.Laws.Serving.Selection.{Piece, pieceHolds, pieceName, pieceBytes, piece-stands, piece-length}
 use Rattle.joins.specs.Document.Joining.{partNamed, orElse}
 use Rattle.joins.specs.Laws.ByName.{found}
 

@@ -13,8 +13,8 @@ use Rattle.rules.specs.declared.Coded.{Coded}
 use Rattle.rules.specs.declared.Header.{Header}
 use Rattle.rules.specs.declared.Part.{Part}
 use Rattle.rules.specs.Document.Notation.{any, zeros}
-use Rattle.rules.specs.Document.Numbers.{refusalNumber, verdictNumber, tail, fault, Reading, readHeader, readParts}
-use Rattle.rules.specs.Document.Calls.{Result, refused, accepted, unless, onHeader, onEnding, fitted, filled, codeOut, codeAnswer, codeNumbers, codePlaces}
+use Rattle.rules.specs.Document.Numbers.{refusalNumber, verdictNumber, tail, fault, readHeader, readParts}
+use Rattle.rules.specs.Document.Calls.{Result, refused, unless, onHeader, onEnding, fitted, filled, codeOut, codeAnswer, codeNumbers, codePlaces}
 use Rattle.rules.specs.Document.Calls.{returned, reported, lentOut}
 use Rattle.rules.specs.Laws.Counting.Booleans.{not-test}
 use Rattle.rules.specs.Laws.Counting.Sums.{All}

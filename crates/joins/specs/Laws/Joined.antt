@@ -18,7 +18,7 @@ use Rattle.rules.specs.declared.Part.{Part}
 use Rattle.rules.specs.Document.Notation.{any, flat}
 use Rattle.rules.specs.Document.Passes.{PartName}
 use Rattle.rules.specs.Document.Layout.{wholeOf, nameOf, sameName}
-use Rattle.rules.specs.Document.Numbers.{tail, Reading, readHeader, readParts}
+use Rattle.rules.specs.Document.Numbers.{tail, readHeader, readParts}
 use Rattle.rules.specs.Document.Calls.{Result, accepted, unless, onHeader, onEnding, fitted, serving}
 use Rattle.rules.specs.Laws.Counting.Booleans.{both, both-left, both-right}
 use Rattle.rules.specs.Laws.Counting.Sums.{All, all-then, all-both, map-all}
@@ -33,7 +33,7 @@ use Rattle.rules.specs.Laws.Serving.Selection.{holds, pieceHolds, pieceBytes, p
 use Rattle.rules.specs.Laws.Serving.Served.{served-whole}
 use Rattle.joins.specs.Document.Joining.{sameBytes, partNamed, orElse, joinedPart, joinedBytes, clashes, unlessClash, onRecord, joining}
 use Rattle.joins.specs.Laws.ByName.{found, named-found, after-other, allNames, first, all-in-order, parts-present}
-use Rattle.joins.specs.Laws.Gathered.{Under, Gathered, gathered, under-named, under-either, or-first, piece-some}
+use Rattle.joins.specs.Laws.Gathered.{Gathered, gathered, under-named, under-either, or-first, piece-some}
 
 -- A record that reading accepts: its header, and how long its tail is.
 pub record Readable (s : List ℕ) (h : Header) : Type 0 where
@@ -357,6 +357,3 @@ module _ (h : Header) (a b : List ℕ) (r : Readable a h) where
 pub joined-record : {a b j : List ℕ} (i : IsJoined a b j) → JoinedRecord a b (i .head) j
 joined-record {a} {b} i =
     subst (JoinedRecord a b (i .head)) (sym (i .bytes)) (join-is-record (i .head) a b (i .joinable .one))
-
-pub joined-readable : {a b j : List ℕ} (i : IsJoined a b j) → Readable j (i .head)
-joined-readable i = let r = joined-record i in record { read = r .read; cut = 0; ending = r .ending }

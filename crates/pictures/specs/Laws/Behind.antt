@@ -2,7 +2,7 @@
 use mathlib.Core.Path.{_≡_, refl, ap, ap₂, sym, _∙_, subst}
 use mathlib.Core.List.{List, [], _∷_}
 use mathlib.Core.Bool.{Bool, true, false, cond, not, _&&_}
-use Prim.Native.Nat.{ℕ, zero, suc, _+_, _-_, _*_, _≤_, _<_}
+use Prim.Native.Nat.{ℕ, suc, _+_, _-_, _*_, _<_}
 use native.Mathlib.Omega.{arith}
 use native.Mathlib.Decide.{decLt}
 use lib.Dec.{leb, eqb}
@@ -11,7 +11,7 @@ use lib.Seq.{getD-take, getD-drop, drop-drop, length-take-le}
 use borrow.Author.Tests.{leb-true}
 use Rattle.pictures.specs.Document.Netpbm.{lineEnd, blank, hash, gapByte, digit, begins, afterComment, afterBlanks, afterGap, Digits, number}
 use Rattle.pictures.specs.Document.Netpbm.{GreyHeader, noHeader, header, isP5, onMagic, onNumber, lastBlank, onEnd, greatestPixel, readGrey}
-use Rattle.pictures.specs.Document.Netpbm.{GreyFile, notGrey, picture, pixelsThere, taken, readFile}
+use Rattle.pictures.specs.Document.Netpbm.{notGrey, picture, pixelsThere, taken, readFile}
 
 -- bytes: what a slice of 8-bit numbers holds
 abbrev pub Bytes : List ℕ → Type 0

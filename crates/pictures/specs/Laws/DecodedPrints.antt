@@ -11,11 +11,11 @@ use borrow.Author.Tests.{eq-eqb}
 use Rattle.rules.specs.declared.Size.{Size}
 use Rattle.rules.specs.declared.Refusal.the-variants as refusal
 use Rattle.rules.specs.Document.Pyramid.{legalSize, area}
-use Rattle.rules.specs.Document.Calls.{Result, refused, accepted, unless, workFor, firstOver, Picture, decoding}
+use Rattle.rules.specs.Document.Calls.{refused, accepted, unless, workFor, firstOver, Picture, decoding}
 use Rattle.rules.specs.Laws.Rounding.Planes.{none-over}
 use Rattle.rules.specs.Laws.Rounding.Magnitudes.{decoded-most}
 use Rattle.pictures.specs.Document.Lifting.{pictureOf}
-use Rattle.pictures.specs.Document.Calls.{mostDecoded, GreyPrint, printOf, printed, greyOut}
+use Rattle.pictures.specs.Document.Calls.{mostDecoded, printOf, printed, greyOut}
 
 -- where the range is kept, every other refusal of the way back is another one
 not-range : {X : Type 0} (x : X) (k q : ℕ) (size long space fits : Bool)

@@ -1,21 +1,20 @@
 -- Reading a grey file has the outcome that its case says, and no other.
 use mathlib.Core.Path.{_≡_, refl, ap, ap₂, sym, _∙_, subst}
 use mathlib.Core.List.{List, [], _∷_, _++_, append-assoc}
-use mathlib.Core.Bool.{Bool, true, false, cond, not, _&&_, _||_, true≢false}
+use mathlib.Core.Bool.{Bool, true, false, cond, not, true≢false, and-false}
 use mathlib.Core.Logic.{_≢_}
-use Prim.Native.Nat.{ℕ, zero, suc, _+_, _-_, _*_, _≤_, _<_}
+use Prim.Native.Nat.{ℕ, _+_, _-_, _*_, _≤_, _<_}
 use native.Mathlib.Omega.{arith}
 use lib.Dec.{leb, eqb}
-use lib.ListN.{length, getD, take, drop, length-append}
-use borrow.Author.Tests.{leb-true, leb-false, le-leb, lt-leb, eqb-true, eqb-false, eq-eqb, ne-eqb, not-true}
+use lib.ListN.{length, take, drop}
+use borrow.Author.Tests.{leb-true, leb-false, le-leb, lt-leb, eqb-true, eqb-false, ne-eqb, not-true}
 use Rattle.rules.specs.Document.Notation.{every}
-use Rattle.rules.specs.Laws.Counting.Booleans.{clash, both-left, both-right, not-test}
-use Rattle.pictures.specs.Document.Netpbm.{lineEnd, blank, hash, gapByte, digit, begins, afterComment, afterBlanks, afterGap, Digits, number}
+use Rattle.rules.specs.Laws.Counting.Booleans.{both-left, both-right, not-test}
+use Rattle.pictures.specs.Document.Netpbm.{lineEnd, blank, hash, gapByte, digit, begins, afterComment, afterBlanks, afterGap, number}
 use Rattle.pictures.specs.Document.Netpbm.{GreyHeader, noHeader, header, isP5, onMagic, onNumber, lastBlank, onEnd, greatestPixel, readGrey}
 use Rattle.pictures.specs.Document.Netpbm.{GreyFile, notGrey, picture, pixelsThere, taken, readFile}
-use Rattle.pictures.specs.Laws.GreyCauses.{InLine, Gap, no-more, worth, Field, Fields, none, next, NoDigit, another-byte, in-comment}
-use Rattle.pictures.specs.Laws.GreyCauses.{End, Magic, GreyCase}
-use Rattle.pictures.specs.Laws.GreyCauses.{NOT-P5, NO-GAP, NO-DIGIT, MAXVAL, NO-END, PIXELS, PICTURE}
+use Rattle.pictures.specs.Laws.GreyCauses.{InLine, Gap, no-more, worth, Field, Fields, none, next, NoDigit, another-byte, in-comment, End, Magic}
+use Rattle.pictures.specs.Laws.GreyCauses.{GreyCase, NOT-P5, NO-GAP, NO-DIGIT, MAXVAL, NO-END, PIXELS, PICTURE}
 use Rattle.pictures.specs.Laws.GreyCauses as causes
 
 -- Bytes.
@@ -42,10 +41,6 @@ blank-gap b e = rw e
 pub blank-no-hash : (b : ℕ) → blank b ≡ true → eqb b hash ≡ false
 unfolding blank lineEnd
 blank-no-hash b e = not-test (eqb b hash) (λ q. true≢false (sym e ∙ ap blank (eqb-true b hash q)))
-
-and-false : (a : Bool) → a && false ≡ false
-and-false true = refl
-and-false false = refl
 
 -- Gaps are passed over, up to a byte that is in none, or to the end of the bytes.
 comment-passed : (c : List ℕ) → InLine c → (e : ℕ) → lineEnd e ≡ true → (r : List ℕ) → afterBlanks true (c ++ e ∷ r) ≡ afterBlanks false r

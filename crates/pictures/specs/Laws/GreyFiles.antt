@@ -1,22 +1,21 @@
 -- Files written are read back, whatever stands behind their pixels; and what stands behind the pixels of any file makes no difference.
-use mathlib.Core.Path.{_≡_, refl, ap, ap₂, sym, _∙_, subst}
+use mathlib.Core.Path.{_≡_, refl, ap, sym, _∙_, subst}
 use mathlib.Core.List.{List, [], _∷_, _++_, append-assoc}
-use mathlib.Core.Bool.{Bool, true, false, cond, _&&_}
+use mathlib.Core.Bool.{true, false, cond}
 use Prim.Native.Nat.{ℕ, zero, suc, _+_, _-_, _*_, _/_, _%_, _≤_, _<_}
 use native.Mathlib.Omega.{arith}
 use native.Mathlib.Decide.{decLt}
-use lib.Dec.{leb, ltb, eqb}
-use lib.ListN.{length, take, drop, length-append}
-use lib.Seq.{take-append-le, take-append-seam, take-all, length-take-le}
-use lib.ListN.{take-append-drop}
+use lib.Dec.{ltb}
+use lib.ListN.{length, take, drop, length-append, take-append-drop}
+use lib.Seq.{take-append-le, take-append-seam, length-take-le}
 use borrow.Author.Tests.{le-leb, lt-ltb, le-ltb}
 use Rattle.rules.specs.declared.Size.{Size}
 use Rattle.rules.specs.Document.Notation.{every}
 use Rattle.rules.specs.Document.Pyramid.{area}
-use Rattle.rules.specs.Laws.Counting.Booleans.{clash, every-append, both}
-use Rattle.pictures.specs.Document.Netpbm.{lineEnd, blank, hash, gapByte, digit, begins, greatestPixel, readGrey, header, GreyFile, notGrey, picture}
+use Rattle.rules.specs.Laws.Counting.Booleans.{clash, every-append}
+use Rattle.pictures.specs.Document.Netpbm.{lineEnd, blank, hash, digit, begins, greatestPixel, readGrey, header, GreyFile, picture}
 use Rattle.pictures.specs.Document.Netpbm.{pixelsThere, taken, readFile, digitsUpTo, decimal, greyLines, greyFile}
-use Rattle.pictures.specs.Laws.GreyCauses.{InLine, Gap, no-more, worth, Field, Fields, none, next, End, Magic, GreyCase}
+use Rattle.pictures.specs.Laws.GreyCauses.{Gap, no-more, worth, Field, Fields, none, next, End, Magic, GreyCase}
 use Rattle.pictures.specs.Laws.GreyCauses.{NOT-P5, NO-GAP, NO-DIGIT, MAXVAL, NO-END, PIXELS, PICTURE}
 use Rattle.pictures.specs.Laws.GreyCauses as causes
 use Rattle.pictures.specs.Laws.GreyCases.{grey-case, grey-is, read-header}

@@ -12,20 +12,17 @@ use Rattle.rules.specs.declared.Verdict.the-variants.{Accepted}
 use Rattle.rules.specs.Document.Notation.{zeros}
 use Rattle.rules.specs.Document.Pyramid.{area}
 use Rattle.rules.specs.Document.Numbers.{verdictNumber}
-use Rattle.rules.specs.Document.Layout.{recordOf}
-use Rattle.rules.specs.Document.Calls.{Result, refused, accepted, workFor, filled, coding, codeNumbers, codeAnswer, codePlaces, AfsCode, decodePlaces}
-use Rattle.rules.specs.Document.Calls.{AfsDecode}
+use Rattle.rules.specs.Document.Calls.{Result, refused, accepted, workFor, filled, codePlaces, AfsCode, decodePlaces, AfsDecode}
 use Rattle.rules.specs.Laws.Calls.Results.{number-accepts}
 use Rattle.rules.specs.Promises.Vocabulary.{Codable, Stated, enoughRoom}
 use Rattle.rules.specs.Laws.Calls.Exports.{afsCode-codes}
 use Rattle.rules.specs.Laws.Bytes.Room.{coding-accepts}
 use Rattle.rules.specs.Promises.Memory.{from-memory-to-memory}
 use Rattle.pictures.specs.declared.GreyRead.{GreyRead}
-use Rattle.pictures.specs.declared.GreyWritten.{GreyWritten}
 use Rattle.pictures.specs.Document.Lifting.{pyramidOf}
 use Rattle.pictures.specs.Document.Netpbm.{picture, readFile, greyFile}
-use Rattle.pictures.specs.Document.Calls.{GreyPyramid, greyIn, GreyPrint, greyOut, greyInAnswer, greyInOut, greyOutAnswer, greyOutOut}
-use Rattle.pictures.specs.Document.Calls.{GreyIn, GreyOut, greyReadNumbers, greyWrittenNumbers, greyPlaces, AfsGreyIn, AfsGreyOut}
+use Rattle.pictures.specs.Document.Calls.{GreyPyramid, greyIn, greyOut, greyInAnswer, greyInOut, greyOutAnswer, greyOutOut}
+use Rattle.pictures.specs.Document.Calls.{GreyIn, greyReadNumbers, greyWrittenNumbers, greyPlaces, AfsGreyIn, AfsGreyOut}
 use Rattle.pictures.specs.Laws.Behind.{Bytes}
 use Rattle.pictures.specs.Laws.GreyRefusals.{sized, afsGreyIn-short, afsGreyIn-takes, afsGreyOut-prints}
 use Rattle.pictures.specs.Laws.GreyReturns.{Taken, greyIn-takes, taken-codable, greyOut-prints}

@@ -1,14 +1,14 @@
 -- The theorem of W3: what the way in takes of a file comes back, every pixel, by the way back; coded, decoded whole and printed too.
 use mathlib.Core.Path.{_≡_, refl, ap, ap₂, sym, _∙_, subst}
 use mathlib.Core.List.{List, [], _∷_, map}
-use mathlib.Core.Bool.{Bool, true, false}
-use Prim.Native.Nat.{ℕ, zero, suc, _+_, _*_, _≤_, _<_, min}
+use mathlib.Core.Bool.{true}
+use Prim.Native.Nat.{ℕ, suc, _≤_}
 use native.Mathlib.Omega.{arith}
 use native.Mathlib.Nat.{min-eq-left}
 use lib.Dec.{leb, eqb}
-use lib.ListN.{length, getD}
+use lib.ListN.{length}
 use lib.IntN.{ℤ, pos}
-use borrow.Author.Tests.{leb-true, le-leb, eq-eqb, eqb-true, le-ltb}
+use borrow.Author.Tests.{le-leb, eq-eqb, le-ltb}
 use Rattle.rules.specs.declared.Size.{Size}
 use Rattle.rules.specs.declared.Refusal.the-variants as refusal
 use Rattle.rules.specs.Document.Pyramid.{legalSize, area, mostMagnitude}
@@ -16,16 +16,15 @@ use Rattle.rules.specs.Document.Layout.{recordOf}
 use Rattle.rules.specs.Document.Calls.{accepted, unless, workFor, firstOver, coding, Picture, decoding}
 use Rattle.rules.specs.Laws.Calls.Results.{unless-accepted, accepted-same}
 use Rattle.rules.specs.Laws.Family.Sizes.{legal}
-use Rattle.rules.specs.Promises.Vocabulary.{Legal, Codable}
+use Rattle.rules.specs.Promises.Vocabulary.{Codable}
 use Rattle.rules.specs.Promises.Refusals.{InRange}
 use Rattle.rules.specs.Laws.Calls.Arrived.{this-count, codable-coded}
 use Rattle.rules.specs.Laws.Calls.Whole.{demand2-whole}
 use Rattle.rules.specs.Laws.Rounding.Planes.{none-over, under-first}
 use Rattle.pictures.specs.Document.Lifting.{pyramidOf, pictureOf}
 use Rattle.pictures.specs.Document.Netpbm.{greatestPixel, GreyFile, notGrey, picture, readFile, greyFile}
-use Rattle.pictures.specs.Document.Calls.{GreyPyramid, onPicture, lifted, greyIn, clip, outside, clippedIn, mostDecoded, GreyPrint, printOf}
-use Rattle.pictures.specs.Document.Calls.{printed, greyOut}
-use Rattle.pictures.specs.Laws.Behind.{Bytes, Pixels, file-pixels}
+use Rattle.pictures.specs.Document.Calls.{GreyPyramid, onPicture, lifted, greyIn, clip, outside, clippedIn, mostDecoded, printOf, printed, greyOut}
+use Rattle.pictures.specs.Laws.Behind.{Bytes, file-pixels}
 use Rattle.pictures.specs.Laws.Grids.{pixels-return}
 use Rattle.pictures.specs.Laws.Range.{picture-codable}
 

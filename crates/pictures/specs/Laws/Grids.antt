@@ -16,16 +16,11 @@ use Rattle.rules.specs.Laws.Counting.Sums.{from-length}
 use Rattle.rules.specs.Promises.Vocabulary.{Legal}
 use Rattle.rules.specs.Laws.Offspring.Level.{column-lt, row-lt}
 use Rattle.rules.specs.Laws.Offspring.Block.{row-index, column-index, index-place}
+use Rattle.rules.specs.Laws.Rounding.Run.{map-from}
 use Rattle.pictures.specs.Document.Lifting.{Line, Grid, split, joined, alongRows, alongColumns, columnsSplit, rowsJoined}
 use Rattle.pictures.specs.Document.Lifting.{turn, turnBack, forward, back, greyOf, gridOf, listOf, pyramidOf, pictureOf}
 use Rattle.pictures.specs.Laws.Reversible.{Looks, split-same, joined-same, by-block, rows-inside}
 use Rattle.pictures.specs.Laws.Reversible.{rows-outside, columns-inside, columns-outside, even-rows, even-columns, back-forward}
-
-map-from : (f : ℕ → ℤ) (d : ℤ) (a m i : ℕ) → i < m → getD (map f (from a m)) i d ≡ f (a + i)
-unfolding from
-map-from f d a zero i h = absurd (omega arith)
-map-from f d a (suc m) zero h = ap f (omega arith)
-map-from f d a (suc m) (suc i) h = map-from f d (suc a) m i (omega arith) ∙ ap f (omega arith)
 
 module _ (z : Size) (g : Grid) where
   pub list-length : length (listOf z g) ≡ area z
@@ -49,11 +44,6 @@ module _ (z : Size) where
   pub picture-length : (pyramid : List ℤ) → length (pictureOf z pyramid) ≡ area z
   unfolding pictureOf
   picture-length pyramid = list-length z (back z (z .n) (gridOf (z .w) pyramid))
-
-  pub picture-at : (pyramid : List ℤ) (i j : ℕ) → i < z .h → j < z .w
-      → getD (pictureOf z pyramid) (i * z .w + j) (pos 0) ≡ back z (z .n) (gridOf (z .w) pyramid) i j
-  unfolding pictureOf
-  picture-at pyramid = list-grid z (back z (z .n) (gridOf (z .w) pyramid))
 
 -- Two pictures of h rows and w columns that are the same in them.
 abbrev pub Same : ℕ → ℕ → Grid → Grid → Type 0
@@ -113,14 +103,6 @@ module _ (z : Size) (Z : Legal z) (l : ℕ) (n : l ≤ z .n) (g : Grid) (i j : �
       (λ r m. rows-inside joined h w g r j (omega arith) b) i (omega arith)
 
 module _ (z : Size) (Z : Legal z) where
-  pub turn-same : (l : ℕ) → l ≤ z .n → (g g′ : Grid) → Same (z .h) (z .w) g g′ → Same (z .h) (z .w) (turn z l g) (turn z l g′)
-  unfolding turn
-  turn-same l a g g′ s =
-      let h : ℕ = z .h / 2 ^ l in
-      let w : ℕ = z .w / 2 ^ l in
-      rows-same split split-same (z .h) (z .w) h w (columnsSplit h w g) (columnsSplit h w g′)
-      (columns-same split split-same (z .h) (z .w) h w g g′ s (shr-le (z .h) l) (even-rows z Z l a)) (shr-le (z .w) l) (even-columns z Z l a)
-
   pub turnBack-same : (l : ℕ) → l ≤ z .n → (g g′ : Grid) → Same (z .h) (z .w) g g′ → Same (z .h) (z .w) (turnBack z l g) (turnBack z l g′)
   unfolding turnBack
   turnBack-same l a g g′ s =
@@ -128,11 +110,6 @@ module _ (z : Size) (Z : Legal z) where
       let w : ℕ = z .w / 2 ^ l in
       columns-same joined joined-same (z .h) (z .w) h w (rowsJoined h w g) (rowsJoined h w g′)
       (rows-same joined joined-same (z .h) (z .w) h w g g′ s (shr-le (z .w) l) (even-columns z Z l a)) (shr-le (z .h) l) (even-rows z Z l a)
-
-  pub forward-same : (l : ℕ) → l ≤ z .n → (g g′ : Grid) → Same (z .h) (z .w) g g′ → Same (z .h) (z .w) (forward z l g) (forward z l g′)
-  unfolding forward
-  forward-same zero a g g′ s = s
-  forward-same (suc l) a g g′ s = turn-same l (omega arith) (forward z l g) (forward z l g′) (forward-same l (omega arith) g g′ s)
 
   pub back-same : (l : ℕ) → l ≤ z .n → (g g′ : Grid) → Same (z .h) (z .w) g g′ → Same (z .h) (z .w) (back z l g) (back z l g′)
   unfolding back

@@ -10,8 +10,7 @@ use lib.IntN.{ℤ, pos, natAbs, subℕ, _-ℤ_}
 use borrow.Author.Tests.{lt-ltb}
 use Rattle.pictures.specs.Document.Lifting.{Line, even, odd, joined}
 use Rattle.pictures.specs.Laws.Reversible.{joined-even, joined-odd}
-use Rattle.pictures.specs.Laws.Tones.{bias, toned, toneEven, toneOdd, sub-below, sub-least, sub-same, add-sub, neg-sub}
-use Rattle.pictures.specs.Laws.Tones.{toneOf, toned-toneOf, Around}
+use Rattle.pictures.specs.Laws.Tones.{bias, toned, toneEven, toneOdd, sub-below, sub-least, sub-same, add-sub, neg-sub, toneOf, toned-toneOf, Around}
 use Rattle.pictures.specs.Laws.Distance.{Nearby}
 use Rattle.pictures.specs.Laws.Growth.{roomy, low-around, high-around, even-tone, even-around, odd-tone, joined-most}
 

@@ -5,14 +5,13 @@ use Prim.Native.Nat.{ℕ, zero, suc, _+_, _-_, _*_, _/_, _%_, _^_, _≤_, _<_, m
 use native.Mathlib.Omega.{arith}
 use native.Mathlib.Decide.{decLt}
 use lib.Dec.{ltb, eqb}
-use lib.IntN.{ℤ, pos, _+ℤ_, _-ℤ_, +ℤ-negℤ-cancel, -ℤ-+ℤ-cancel}
+use lib.IntN.{pos, _+ℤ_, _-ℤ_, +ℤ-negℤ-cancel, -ℤ-+ℤ-cancel}
 use borrow.Author.Tests.{ltb-true, lt-ltb, le-ltb, eq-eqb, ne-eqb}
 use Rattle.rules.specs.declared.Size.{Size}
 use Rattle.rules.specs.Laws.Counting.Booleans.{not-test, both-left, both-right}
 use Rattle.rules.specs.Promises.Vocabulary.{Legal}
-use Rattle.pictures.specs.Document.Lifting.{Line, Grid, half, quarter, high, low, split, even, odd, joined}
-use Rattle.pictures.specs.Document.Lifting.{alongRows, alongColumns, columnsSplit, rowsSplit, columnsJoined, rowsJoined}
-use Rattle.pictures.specs.Document.Lifting.{turn, turnBack, forward, back}
+use Rattle.pictures.specs.Document.Lifting.{Line, Grid, half, quarter, high, low, split, even, odd, joined, alongRows, alongColumns, columnsSplit}
+use Rattle.pictures.specs.Document.Lifting.{rowsSplit, columnsJoined, rowsJoined, turn, turnBack, forward, back}
 
 -- Where the lows and the highs of a split line stand, and the even and the odd numbers of a joined one.
 module _ (m : ℕ) (x : Line) where

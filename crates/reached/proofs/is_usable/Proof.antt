@@ -1,6 +1,5 @@
-use Rattle.reached.specs.Planes.{test-plane-above, test-other-plane}
+use Rattle.reached.specs.Planes.{test-plane-above, test-other-plane, reachedAt}
 use Rattle.record.specs.Named.{nameBy}
-use Rattle.reached.specs.Planes.{reachedAt}
 use borrow.Author.Needs.{needs}
 use Rattle.reached.proofs.is_usable.Statement.{statement}
 use Rattle.reached.proofs.is_usable.Tie as tie
@@ -27,6 +26,4 @@ returns-2 : tie.Need-returns-2
 returns-2 c = search (needs, test-other-plane)
 
 pub is-usable-spec : {M : Type 1} → statement M
-is-usable-spec =
-    tie.close
-    (tie.spec reached-plane-requires add-if1 reached-plane-requires-2 add-if1-2 returns returns-2)
+is-usable-spec = tie.close (tie.spec reached-plane-requires add-if1 reached-plane-requires-2 add-if1-2 returns returns-2)

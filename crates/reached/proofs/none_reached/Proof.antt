@@ -39,15 +39,4 @@ returns c = search (needs, begun-all)
 
 pub none-reached-spec : {M : Type 1} → statement M
 none-reached-spec =
-    tie.close
-    (tie.spec
-    Inv-loop
-    μ-loop
-    add-levels
-    loop-holds
-    mul-reached
-    array-set-from-reached
-    add-done
-    loop-less
-    loop-again
-    returns)
+    tie.close (tie.spec Inv-loop μ-loop add-levels loop-holds mul-reached array-set-from-reached add-done loop-less loop-again returns)

@@ -28,6 +28,4 @@ unfolding countIn
 returns c = search needs
 
 pub with-skipped-spec : {M : Type 1} → statement M
-with-skipped-spec =
-    tie.close
-    (tie.spec sub-at mul-next array-read-next add-next mul-next-2 array-write-next returns)
+with-skipped-spec = tie.close (tie.spec sub-at mul-next array-read-next add-next mul-next-2 array-write-next returns)

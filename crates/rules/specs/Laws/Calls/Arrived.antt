@@ -3,7 +3,7 @@
 use mathlib.Core.Path.{_≡_, ap, sym, _∙_, subst}
 use mathlib.Core.List.{List}
 use mathlib.Core.Bool.{Bool, _&&_}
-use Prim.Native.Nat.{ℕ, _-_, _^_, _≤_, _<_}
+use Prim.Native.Nat.{ℕ, _-_, _≤_, _<_}
 use native.Mathlib.Omega.{arith}
 use lib.Dec.{leb, eqb}
 use lib.ListN.{length, getD}
@@ -12,7 +12,7 @@ use borrow.Author.Tests.{eqb-true}
 use Rattle.rules.specs.declared.Size.{Size}
 use Rattle.rules.specs.declared.Refusal.the-variants as refusal
 use Rattle.rules.specs.Document.Notation.{greatest}
-use Rattle.rules.specs.Document.Pyramid.{legalSize, area, levelOf, mostMagnitude, magnitude, negative, mostPlanes}
+use Rattle.rules.specs.Document.Pyramid.{legalSize, area, levelOf, mostMagnitude, magnitude, negative}
 use Rattle.rules.specs.Document.Passes.{PartName}
 use Rattle.rules.specs.Document.Layout.{CodedPart, partsWith, planesIn, earlierPlanesIn, partsOf, recordOf}
 use Rattle.rules.specs.Document.Calls.{Result, accepted, workFor, firstOver, fitted, coding, Portion, serving, Picture, planeIn, decoding}

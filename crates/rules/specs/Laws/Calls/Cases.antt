@@ -20,8 +20,7 @@ use Rattle.rules.specs.Document.Passes.{Course, Reader, State, PartName,
 use Rattle.rules.specs.Document.Layout.{recordOf, bitAt, bodyOf, nameOf, usable}
 use Rattle.rules.specs.Document.Numbers.{readHeader, Ending, tail, fault, Reading, readParts, topLevel}
 use Rattle.rules.specs.Document.Calls.{Result, unless, workFor, firstOver, fitted, coding, onHeader, onEnding, legalAsk, servedBytes, Portion}
-use Rattle.rules.specs.Document.Calls.{portioned, serving}
-use Rattle.rules.specs.Document.Calls.{Progress, going, unfit, used, onward, decodeParts, Picture, pictured, decodedParts, decoding}
+use Rattle.rules.specs.Document.Calls.{portioned, serving, Progress, going, unfit, used, onward, decodeParts, Picture, pictured, decodedParts, decoding}
 use Rattle.rules.specs.Laws.Counting.Booleans.{clash, both-left, both-right, not-test}
 use Rattle.rules.specs.Laws.Family.Sizes.{legal, size-legal}
 use Rattle.rules.specs.Promises.Vocabulary.{Legal}

@@ -24,12 +24,10 @@ use Rattle.rules.specs.Document.Pyramid.{area, levels, levelOf, magnitud
 use Rattle.rules.specs.Document.Passes.{PartName, signed, from}
 use Rattle.rules.specs.Document.Layout.{CodedPart, partsWith, recordWith, planesIn, recordOf, headerBytes, partBytes, packed, bodyOf, nameOf, reached}
 use Rattle.rules.specs.Document.Numbers.{verdictNumber, verdictPlace, readHeader, readParts, headed}
-use Rattle.rules.specs.Document.Calls.{workFor, unless, legalAsk, portioned}
-use Rattle.rules.specs.Document.Calls.{Result, refused, accepted, Portion, Picture, coding, serving, decoding, filled, codeOut, codeAnswer}
-use Rattle.rules.specs.Document.Calls.{serveOut, serveAnswer}
-use Rattle.rules.specs.Document.Calls.{decodeOut, decodeAnswer, codeNumbers, serveNumbers, decodeNumbers, codePlaces, servePlaces, decodePlaces}
-use Rattle.rules.specs.Document.Calls.{levelPlaces, planeIn, countIn}
-use Rattle.rules.specs.Document.Calls.{Coding, Serving, Decoding, AfsCode, AfsServe, AfsDecode}
+use Rattle.rules.specs.Document.Calls.{workFor, unless, legalAsk, portioned, Result, refused, accepted, Portion, Picture, coding, serving, decoding}
+use Rattle.rules.specs.Document.Calls.{filled, codeOut, codeAnswer, serveOut, serveAnswer, decodeOut, decodeAnswer, codeNumbers, serveNumbers}
+use Rattle.rules.specs.Document.Calls.{decodeNumbers, codePlaces, servePlaces, decodePlaces, levelPlaces, planeIn, countIn, Coding, Serving, Decoding}
+use Rattle.rules.specs.Document.Calls.{AfsCode, AfsServe, AfsDecode}
 use Rattle.rules.specs.Laws.Counting.Sums.{flat-append}
 use Rattle.rules.specs.Laws.Family.Sizes.{legal}
 use Rattle.rules.specs.Laws.Offspring.Level.{level-most, level-least}

@@ -13,7 +13,7 @@ use borrow.Author.Tests.{leb-true}
 use Rattle.rules.specs.declared.Size.{Size}
 use Rattle.rules.specs.declared.Plane.{Plane}
 use Rattle.rules.specs.declared.Refusal.the-variants as refusal
-use Rattle.rules.specs.Document.Notation.{any, every, zeros}
+use Rattle.rules.specs.Document.Notation.{zeros}
 use Rattle.rules.specs.Document.Pyramid.{levels, levelOf, family, magnitude, negative}
 use Rattle.rules.specs.Document.Passes.{PartName, partNames, start}
 use Rattle.rules.specs.Document.Layout.{partsWith, recordWith, earlierPlanesIn, recordOf, usable, reached}

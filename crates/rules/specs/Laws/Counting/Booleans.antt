@@ -46,10 +46,6 @@ pub both-right : (a b : Bool) → a && b ≡ true → b ≡ true
 both-right true b h = h
 both-right false b h = absurd (true≢false (sym h))
 
-pub both-false : (a : Bool) → a && false ≡ false
-both-false true = refl
-both-false false = refl
-
 pub either : (a b : Bool) → a || b ≡ true → (a ≡ true) ⊎ (b ≡ true)
 either true b h = inl refl
 either false b h = inr h

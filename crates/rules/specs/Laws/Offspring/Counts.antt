@@ -6,15 +6,13 @@ use Prim.Native.Nat.{ℕ, suc, _+_, _-_, _≤_, _<_}
 use native.Mathlib.Omega.{arith}
 use native.Mathlib.Decide.{ℕ-discrete, decLt, decLe}
 use lib.Dec.{ltb, leb}
-use lib.ListN.{length}
 use borrow.Author.Tests.{lt-ltb, le-ltb, le-leb, lt-leb}
 use Rattle.rules.specs.declared.Size.{Size}
 use Rattle.rules.specs.Document.Pyramid.{area, levels, levelOf}
 use Rattle.rules.specs.Document.Passes.{from}
-use Rattle.rules.specs.Laws.Counting.Sums.{sum, one, is, All, sum-plus, sum-pointwise, sum-zero, sum-one, sum-most, is-yes, is-no, all-of, all-then}
+use Rattle.rules.specs.Laws.Counting.Sums.{sum, one, is, sum-plus, sum-pointwise, sum-zero, is-yes, is-no, all-of}
 use Rattle.rules.specs.Laws.Family.Sizes.{span, levelStart, levelEnd, levelSize, levelStart-fine}
-use Rattle.rules.specs.Promises.Vocabulary.{Legal}
-use Rattle.rules.specs.Laws.Offspring.Level.{level-most, within-level, level-area}
+use Rattle.rules.specs.Laws.Offspring.Level.{level-most, within-level}
 use Rattle.rules.specs.Laws.Offspring.Grid.{within-count}
 
 -- A number over m is the next one, or over that.
@@ -52,14 +50,3 @@ module _ (z : Size) where
         sum-plus (λ q. is k (levelOf z q)) (λ q. one (ltb k (levelOf z q))) whole,
         sum-pointwise _ (λ q. one (ltb (k - 1) (levelOf z q))) whole (λ q. is-next (k - 1) k (levelOf z q) (omega arith)),
       )
-
--- So a list of coefficients of level k, each once at most, is no longer than n_k.
-pub level-fits : (z : Size) → Legal z → (k : ℕ) (xs : List ℕ) → 1 ≤ k → k ≤ levels z
-    → All (λ q. levelOf z q ≡ k) xs → ((q : ℕ) → sum (is q) xs ≤ 1) → length xs ≤ levelSize z k
-level-fits z Z k xs h l a m =
-    omega (
-      arith,
-      sum-one (λ q. is k (levelOf z q)) xs (all-then _ _ xs (λ q e. is-yes k (levelOf z q) e) a),
-      sum-most (λ q. is k (levelOf z q)) (area z) xs (all-then _ _ xs (λ q e. level-area z Z q (omega arith)) a) (λ q i. m q),
-      level-count z k h l,
-    )

@@ -1,7 +1,7 @@
 -- What a set of document 01's family has, told by the level of its coefficient: the tests that the code makes.
 use mathlib.Core.Path.{_≡_, refl, sym, _∙_}
 use mathlib.Core.List.{[], _∷_}
-use mathlib.Core.Bool.{Bool, true, false, cond, _||_}
+use mathlib.Core.Bool.{Bool, true, false, cond}
 use Prim.Native.Nat.{ℕ, zero, suc, _+_, _-_, _≤_, _<_}
 use native.Mathlib.Omega.{arith}
 use native.Mathlib.Decide.{decLt}
@@ -10,12 +10,11 @@ use lib.ListN.{length}
 use borrow.Author.Tests.{lt-ltb, le-ltb}
 use Rattle.rules.specs.declared.Size.{Size}
 use Rattle.rules.specs.Document.Notation.{ifAny}
-use Rattle.rules.specs.Document.Pyramid.{family, odd, row, column, levelOf, block, offspringOf, descendantsOf}
-use Rattle.rules.specs.Document.Passes.{typeA, typeB, members, inLevel, added, rootOf}
+use Rattle.rules.specs.Document.Pyramid.{family, levelOf, offspringOf, descendantsOf}
+use Rattle.rules.specs.Document.Passes.{typeA, typeB, members, inLevel, added}
 use Rattle.rules.specs.Laws.Counting.Sums.{_∈_, in-flat, in-some, some-in, none-in, ifAny-some}
 use Rattle.rules.specs.Laws.Family.Lawful.{level-test, level-some, offspring-descend, further-descend, grandchild}
 use Rattle.rules.specs.Promises.Vocabulary.{Legal}
-use Rattle.rules.specs.Laws.Offspring.Block.{blockLL, offspring-band}
 use Rattle.rules.specs.Laws.Offspring.Kin.{offspring-level}
 use Rattle.rules.specs.Laws.Offspring.Lawful.{descendants-level, offspring-further, lawful}
 
@@ -97,12 +96,3 @@ module _ (z : Size) (Z : Legal z) where
         go : Dec (2 < levelOf z p) → ifAny (members (family z) (typeB p)) (typeB p ∷ []) ≡ cond (ltb 2 (levelOf z p)) (typeB p ∷ []) []
         go (yes h) = rw (lt-ltb 2 (levelOf z p) h) (ifAny-some (members (family z) (typeB p)) (typeB p ∷ []) (members-B-some h))
         go (no h) = rw (le-ltb 2 (levelOf z p) (omega arith), members-B-none (omega arith))
-
-  -- A coefficient of the LL band has offspring where its row or its column is odd.
-  pub root-test : (p : ℕ) → z .n < levelOf z p → rootOf z p ≡ cond (odd (row z p) || odd (column z p)) (typeA p ∷ []) []
-  unfolding rootOf ifAny block
-  root-test p h = rw (offspring-band z Z p h) (go (odd (row z p) || odd (column z p)))
-    where
-      go : (b : Bool) → ifAny (cond b (blockLL z (row z p) (column z p)) []) (typeA p ∷ []) ≡ cond b (typeA p ∷ []) []
-      go true = refl
-      go false = refl

@@ -5,8 +5,7 @@ use mathlib.Core.Bool.{true, false}
 use Prim.Native.Nat.{ℕ, _+_}
 use native.Mathlib.Omega.{arith}
 use Rattle.rules.specs.Document.Pyramid.{Family}
-use Rattle.rules.specs.Document.Passes.{Entry, significant?, set?, Lists, members, inLevel, opened, added, Side, Course, listed, listing}
-use Rattle.rules.specs.Document.Passes.{passed, own}
+use Rattle.rules.specs.Document.Passes.{Entry, significant?, set?, Lists, members, inLevel, opened, added, Side, Course, listed, listing, passed, own}
 use Rattle.rules.specs.Laws.Counting.Sums.{sum, All, sum-append, all-append}
 use Rattle.rules.specs.Laws.Family.Lawful.{Lawful, set-splits}
 use Rattle.rules.specs.Laws.Pass.Steps.{signNoted, bitNoted}

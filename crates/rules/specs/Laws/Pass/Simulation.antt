@@ -165,13 +165,6 @@ pub passed-told : {S : Type 0} (F : Family) (k : ℕ) (C : Side S) (l : Lists) (
 unfolding passed course extended
 passed-told F k C l s = lists-told C (pass F k l) (record { lip = []; lsp = l .lsp; lis = []; moved = []; side = s })
 
--- Whatever a side says, followed by anything, is understood.
-pub understood : {S : Type 0} (C : Side S) (t : Talk) (s : S) (rest : List Bool) → heard t (said C t s ++ rest) ≡ whole (told C t s) rest
-unfolding heard said told noted
-understood C done s rest = refl
-understood C (ask q go) s rest = understood C (go (C .reply q s .bit)) (C .reply q s .next) rest
-understood C (tell e next) s rest = ap (noted e) (understood C next (C .note e s) rest)
-
 -- A side that gives the settled answers all along says what is spoken and tells what comes out.
 module _ {S : Type 0} (C : Side S) (answer : Question → Bool) (P : Talk → S → Type 0) (along : Along C answer P) where
   pub says-spoken : (t : Talk) (s : S) → P t s → said C t s ≡ spoken answer t

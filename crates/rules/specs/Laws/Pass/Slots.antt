@@ -9,8 +9,7 @@ use lib.ListN.{length}
 use Rattle.rules.specs.Document.Notation.{ifAny}
 use Rattle.rules.specs.Document.Pyramid.{Family}
 use Rattle.rules.specs.Document.Passes.{Entry, typeA, typeB, Lists, members, inLevel, opened, added}
-use Rattle.rules.specs.Laws.Counting.Sums.{sum, is, _∈_, All, sum-append, sum-map, sum-same, sum-one, is-yes, all-then, all-append, all-map}
-use Rattle.rules.specs.Laws.Counting.Sums.{in-some}
+use Rattle.rules.specs.Laws.Counting.Sums.{sum, is, _∈_, All, sum-append, sum-map, sum-same, sum-one, is-yes, all-then, all-append, all-map, in-some}
 use Rattle.rules.specs.Laws.Family.Lawful.{Lawful, level-some, set-splits, offspring-some, grandchild}
 use Rattle.rules.specs.Laws.Pass.Lists.{setWeight, listsWeight}
 use Rattle.rules.specs.Laws.Pass.Levels.{Met, Settled, Placed, opened-placed, typeA-met, added-settled}

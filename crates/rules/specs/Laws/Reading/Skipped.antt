@@ -2,7 +2,7 @@
 -- ones are all that are there.
 use mathlib.Core.Path.{_≡_, refl, ap, sym, _∙_, subst}
 use mathlib.Core.List.{List, [], _∷_, _++_, map, append-assoc, append-nil}
-use mathlib.Core.Bool.{Bool, true, false, cond, not, _&&_}
+use mathlib.Core.Bool.{Bool, true, false, cond, not, _&&_, and-false}
 use Prim.Native.Nat.{ℕ, suc, _+_, _-_, _≤_, _<_}
 use native.Mathlib.Omega.{arith}
 use lib.Dec.{eqb}
@@ -15,7 +15,7 @@ use Rattle.rules.specs.Document.Numbers.{readParts, topLevel}
 use Rattle.rules.specs.Document.Calls.{skippedParts}
 use Rattle.rules.specs.Promises.Vocabulary.{Named}
 use Rattle.rules.specs.Laws.Counting.Sums.{All, all-then, one, count-last, count-none}
-use Rattle.rules.specs.Laws.Counting.Booleans.{same-test, both-left, both-false}
+use Rattle.rules.specs.Laws.Counting.Booleans.{same-test, both-left}
 use Rattle.rules.specs.Laws.Reading.Parts.{InOrder, all-middle}
 use Rattle.rules.specs.Laws.Reading.Usable.{reached-none, reached-within}
 use Rattle.rules.specs.Laws.Reading.OneWalk.{usableNow, reachedNow, one-walk, reached-walk}
@@ -105,4 +105,4 @@ module _ (h : Header) (there : List PartName) (named : All (Named (topLevel h) (
   pub skipped-none : ((p : PartName) → Named (topLevel h) (h .planes) p → usable (topLevel h) (h .planes) there p ≡ true) → (k : ℕ)
       → skippedParts h there k ≡ 0
   unfolding skippedParts
-  skipped-none u k = count-none _ there (all-then _ _ there (λ x n. rw (u x n) (both-false (eqb (x .level) k))) named)
+  skipped-none u k = count-none _ there (all-then _ _ there (λ x n. rw (u x n) (and-false (eqb (x .level) k))) named)

@@ -11,7 +11,7 @@ use lib.IntN.{ℤ}
 use borrow.Author.Tests.{leb-true, leb-false, eq-eqb}
 use Rattle.rules.specs.declared.Header.{Header}
 use Rattle.rules.specs.Document.Notation.{flat}
-use Rattle.rules.specs.Document.Pyramid.{Family, family, levels}
+use Rattle.rules.specs.Document.Pyramid.{Family, family}
 use Rattle.rules.specs.Document.Passes.{Event, pass, Course, State, after, PartName, truth, coded, decoded}
 use Rattle.rules.specs.Document.Layout.{CodedPart, partBytes, codedParts, bitAt, bodyOf, nameOf, usable}
 use Rattle.rules.specs.Document.Numbers.{headed, topLevel}

@@ -14,7 +14,6 @@ use native.Mathlib.Nat.{pow-suc}
 use borrow.Author.Tests.{leb-true, leb-false, eqb-true, eqb-false, ltb-true, ltb-false, lt-ltb, le-ltb}
 use Rattle.rules.specs.Document.Notation.{greatest}
 use Rattle.rules.specs.Document.Pyramid.{mostMagnitude, magnitude, mostPlanes, log2Up, earlierPlanesOf, log2Down, planesOf}
-use Rattle.rules.specs.Document.Layout.{planesIn}
 use Rattle.rules.specs.Document.Calls.{firstOver}
 use Rattle.rules.specs.Laws.Counting.Booleans.{lowest-within, lowest-passes, lowest-least, lowest-found}
 use Rattle.rules.specs.Promises.Refusals.{InRange, FirstOver}

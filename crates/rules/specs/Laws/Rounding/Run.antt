@@ -18,9 +18,8 @@ use Rattle.rules.specs.Document.Pyramid.{legalSize, area, levels, levelO
 use Rattle.rules.specs.Document.Passes.{State, start, from, PartName, partNames, signed}
 use Rattle.rules.specs.Document.Layout.{headerBytes, CodedPart, partsWith, nameOf, reached}
 use Rattle.rules.specs.Document.Numbers.{tail, topLevel}
-use Rattle.rules.specs.Document.Calls.{accepted, unless, workFor, onHeader, onEnding, Progress, going, unfit, decodeParts, levelPlaces}
-use Rattle.rules.specs.Document.Calls.{reachedPlane, reachedPlanes, planeIn, skippedParts, skippedCounts, countIn}
-use Rattle.rules.specs.Document.Calls.{pictured, decodedParts, decoding}
+use Rattle.rules.specs.Document.Calls.{accepted, unless, workFor, onHeader, onEnding, Progress, going, unfit, decodeParts, levelPlaces, reachedPlane}
+use Rattle.rules.specs.Document.Calls.{reachedPlanes, planeIn, skippedParts, skippedCounts, countIn, pictured, decodedParts, decoding}
 use Rattle.rules.specs.Laws.Counting.Sums.{sum, one, one-most, is, _∈_, All, Every, all-then, all-every, from-length, from-all, from-once}
 use Rattle.rules.specs.Laws.Family.Sizes.{legal}
 use Rattle.rules.specs.Promises.Vocabulary.{Legal, present, headerOf, partsAt, selection, Stated, names, kept, wholeIn, tailIn, arrived, towardZero}

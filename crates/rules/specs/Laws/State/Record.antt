@@ -1,5 +1,5 @@
 -- The lists of document 01's pyramid, for every legal size: sound at the start and after each part, so that a part has room in its level.
-use mathlib.Core.Path.{_≡_, ap, _∙_, subst}
+use mathlib.Core.Path.{_≡_, ap, subst}
 use mathlib.Core.List.{List}
 use mathlib.Core.Bool.{Bool, true, false, cond}
 use Prim.Native.Nat.{ℕ, suc, _+_, _*_, _≤_, _<_}
@@ -8,17 +8,15 @@ use native.Mathlib.Decide.{decLe}
 use lib.Dec.{eqb}
 use lib.ListN.{length, length-append}
 use lib.IntN.{ℤ}
-use borrow.Author.Tests.{lt-ltb}
 use Rattle.rules.specs.declared.Size.{Size}
 use Rattle.rules.specs.declared.Part.{Part}
 use Rattle.rules.specs.declared.Header.{Header}
 use Rattle.rules.specs.Document.Pyramid.{family, area, levels, levelOf, offspringOf, magnitude, negative}
-use Rattle.rules.specs.Document.Passes.{Entry, Side, Course, passed, State, after, from, bandLL, rootOf, start, PartName, partNames}
-use Rattle.rules.specs.Document.Passes.{Reader, decoded}
+use Rattle.rules.specs.Document.Passes.{Entry, Side, Course, passed, State, after, from, bandLL, rootOf, start, PartName, partNames, Reader, decoded}
 use Rattle.rules.specs.Document.Layout.{planesIn, partsOf, bitAt, bodyOf, nameOf, usable}
 use Rattle.rules.specs.Document.Numbers.{mostBits, topLevel}
 use Rattle.rules.specs.Document.Calls.{Progress, going, unfit, used, onward}
-use Rattle.rules.specs.Laws.Counting.Sums.{sum, one, is, All, all-then, every-all, from-length, from-once}
+use Rattle.rules.specs.Laws.Counting.Sums.{sum, is, All, all-then, every-all, from-length}
 use Rattle.rules.specs.Laws.Family.Sizes.{levelSize, levelSize-fine}
 use Rattle.rules.specs.Promises.Vocabulary.{Legal}
 use Rattle.rules.specs.Laws.Offspring.Level.{level-most, level-area}
@@ -29,7 +27,7 @@ use Rattle.rules.specs.Laws.Offspring.Start.{start-top, start-else, band
 use Rattle.rules.specs.Laws.Offspring.Counts.{level-count}
 use Rattle.rules.specs.Laws.Pass.Levels.{Settled, nodeOf, settled-offspring}
 use Rattle.rules.specs.Laws.Pass.Slots.{Room, room-slots}
-use Rattle.rules.specs.Laws.State.Weight.{stateWeight, after-next}
+use Rattle.rules.specs.Laws.State.Weight.{after-next}
 use Rattle.rules.specs.Laws.State.Sound.{Sound, sound-room, sound-after}
 use Rattle.rules.specs.Laws.State.Parts.{OfLevel, decoded-sound, partNames-levels, codedParts-bits}
 use Rattle.rules.specs.Laws.State.Start.{rootsOf, Begins, roots-paid, begins-sound}
@@ -62,11 +60,6 @@ module _ (z : Size) (Z : Legal z) where
       next = omega (arith, level-count z (z .n) (Z .some) (omega arith), levelSize-fine z Z (z .n) (Z .some) (omega arith), band-length z)
 
   module _ {s : State} (h : SoundLists z s) where
-    -- Each coefficient is in just one LIP, LSP or set.
-    pub sound-once : (q : ℕ) → q < area z → stateWeight (family z) (is q) (levels z) s ≡ 1
-    unfolding one
-    sound-once q l = h .conserved (is q) ∙ from-once q (area z) ∙ ap one (lt-ltb q (area z) l)
-
     -- A part of level k has room in the stretch of its level, which has n_k coefficients.
     pub part-room : (k : ℕ) → 1 ≤ k → k ≤ levels z → Room (family z) k (levelSize z k) (length (s k .lsp)) 0 (s k .lip) (s k .lis)
     part-room k a b =
