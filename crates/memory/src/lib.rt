@@ -74,17 +74,17 @@ pub fn copy(from: &[u8], start: usize, count: usize, to: &mut [u8], at: usize)
 }
 
 // Whether the `count` bytes of `a` at `start` are the same as the `many` bytes of `b` at `from`.
-pub fn same(a: &[u8], start: usize, count: usize, b: &[u8], from: usize, many: usize) -> bool
-    ensures { λ r. ⌜ (r ≡ true) ↔ (take count (drop start (now (a .entry))) ≡ take many (drop from (now (b .entry)))) ⌝ }
+pub fn same(one: &[u8], start: usize, count: usize, other: &[u8], from: usize, many: usize) -> bool
+    ensures { λ r. ⌜ (r ≡ true) ↔ (take count (drop start (now (one .entry))) ≡ take many (drop from (now (other .entry)))) ⌝ }
 {
-    let there = lesser(count, places_from(start, a.len()));
-    let others = lesser(many, places_from(from, b.len()));
+    let there = lesser(count, places_from(start, one.len()));
+    let others = lesser(many, places_from(from, other.len()));
     if there != others {
         return false;
     }
     let mut i = 0;
     while i < there {
-        if a[start + i] != b[from + i] {
+        if one[start + i] != other[from + i] {
             return false;
         }
         i += 1;
@@ -93,12 +93,12 @@ pub fn same(a: &[u8], start: usize, count: usize, b: &[u8], from: usize, many: u
 }
 
 // The `count` bytes at `start` move `by` places to the right, the last one first: they may lie over their new place.
-pub fn move_right(s: &mut [u8], start: usize, count: usize, by: usize)
-    ensures { λ _. ⌜ now (s .exit) ≡ sets (now (s .entry)) (start + by) (take count (drop start (now (s .entry)))) ⌝ }
+pub fn move_right(bytes: &mut [u8], start: usize, count: usize, by: usize)
+    ensures { λ _. ⌜ now (bytes .exit) ≡ sets (now (bytes .entry)) (start + by) (take count (drop start (now (bytes .entry)))) ⌝ }
 {
-    let mut i = lesser(count, places_from(by, places_from(start, s.len())));
+    let mut i = lesser(count, places_from(by, places_from(start, bytes.len())));
     while 0 < i {
         i -= 1;
-        s[start + by + i] = s[start + i];
+        bytes[start + by + i] = bytes[start + i];
     }
 }

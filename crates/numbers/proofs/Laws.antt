@@ -9,7 +9,7 @@ use lib.Seq.{sets}
 use lib.Pow.{pow-mono, pow-add}
 use Rattle.rules.specs.declared.Number.the-variants.{TooManyBytes, CutOff}
 use Rattle.rules.specs.Document.Layout.{groups, numberBytes, numberFrom, readNumber}
-use Rattle.rules.specs.Laws.Bytes.Numbers.{groups-last, groups-next, numberBytes-last, numberBytes-next, numberBytes-length}
+use Rattle.rules.specs.Laws.Bytes.Numbers.{tooLarge, groups-last, groups-next, numberBytes-last, numberBytes-next, numberBytes-length}
 use Rattle.rules.specs.Laws.Bytes.Numbers.{numberFrom-cut, numberFrom-last, numberFrom-next}
 use Rattle.numbers.specs.LastByte.{lastByte}
 
@@ -34,8 +34,8 @@ module _ {s : List ℕ} {at : ℕ} where
       from-more : numberFrom (suc (left - 1)) s place worth value ≡ readNumber s at
       from-more = let e : suc (left - 1) ≡ left = omega arith in rw e (r .same)
 
-      pub reading-worth : worth ≤ 2 ^ 21
-      reading-worth = rw (r .worth-is) (pow-mono {i = 28 - 7 * left} {j = 21} (omega arith))
+      pub reading-worth : worth * 128 ≤ tooLarge
+      reading-worth = let e : worth ≤ 2 ^ 21 = rw (r .worth-is) (pow-mono {i = 28 - 7 * left} {j = 21} (omega arith)) in omega arith
 
       pub reading-cut : length s ≤ place → CutOff ≡ readNumber s at
       reading-cut g = sym (numberFrom-cut (left - 1) s place worth value g) ∙ from-more

@@ -4,19 +4,20 @@ ghost use Prim.Native.Nat.{_+_, _*_, _^_, _≤_, _<_};
 ghost use lib.ListN.{length, getD, set};
 ghost use lib.Seq.{sets};
 ghost use Rattle.rules.specs.Document.Layout.{numberBytes, readNumber};
+ghost use Rattle.rules.specs.Laws.Bytes.Numbers.{tooLarge};
 ghost use Rattle.numbers.specs.LastByte.{lastByte};
 use rules::Number;
 
-fn byte_at(s: &[u8], at: usize) -> usize
-    requires { ⌜ at < length (now s) ⌝ }
-    ensures { λ r. ⌜ (r ≡ getD (now (s .entry)) at 0) × (r < 256) ⌝ }
+fn byte_at(bytes: &[u8], at: usize) -> usize
+    requires { ⌜ at < length (now bytes) ⌝ }
+    ensures { λ r. ⌜ (r ≡ getD (now (bytes .entry)) at 0) × (r < 256) ⌝ }
 {
-    s[at] as usize
+    bytes[at] as usize
 }
 
 // The value so far with a group of seven bits that is worth so much.
 fn with_group(value: usize, worth: usize, group: usize) -> usize
-    requires { ⌜ (value < worth) × (worth ≤ 2 ^ 21) × (group < 128) ⌝ }
+    requires { ⌜ (value < worth) × (worth * 128 ≤ tooLarge) × (group < 128) ⌝ }
     ensures { λ r. ⌜ (r ≡ value + group * worth) × (r < worth * 128) ⌝ }
 {
     value + group * worth
@@ -24,7 +25,7 @@ fn with_group(value: usize, worth: usize, group: usize) -> usize
 
 // What the last byte makes of a number: of several bytes the last may not be 0.
 fn last_byte(value: usize, worth: usize, byte: usize, end: usize) -> Number
-    requires { ⌜ (value < worth) × (worth ≤ 2 ^ 21) × (byte < 128) ⌝ }
+    requires { ⌜ (value < worth) × (worth * 128 ≤ tooLarge) × (byte < 128) ⌝ }
     ensures { λ r. ⌜ r ≡ lastByte value worth byte end ⌝ }
 {
     if 1 < worth {
@@ -36,18 +37,18 @@ fn last_byte(value: usize, worth: usize, byte: usize, end: usize) -> Number
 }
 
 // The number that stands at a place.
-pub fn read_number(s: &[u8], at: usize) -> Number
-    ensures { λ r. ⌜ r ≡ readNumber (now (s .entry)) at ⌝ }
+pub fn read_number(bytes: &[u8], at: usize) -> Number
+    ensures { λ r. ⌜ r ≡ readNumber (now (bytes .entry)) at ⌝ }
 {
     let mut place = at;
     let mut worth = 1;
     let mut value = 0;
     let mut bytes_left: usize = 4;
     while 0 < bytes_left {
-        if s.len() <= place {
+        if bytes.len() <= place {
             return Number::CutOff;
         }
-        let byte = byte_at(s, place);
+        let byte = byte_at(bytes, place);
         place += 1;
         if byte < 128 {
             return last_byte(value, worth, byte, place);
@@ -85,7 +86,7 @@ fn store(out: &mut [u8], at: usize, byte: u8)
 
 // Writes a number from a place on, as far as the slice reaches, and answers the place after it.
 pub fn write_number(out: &mut [u8], at: usize, value: usize) -> usize
-    requires { ⌜ (value < 2 ^ 28) × (at < 2 ^ 62) ⌝ }
+    requires { ⌜ (value < tooLarge) × (at < 2 ^ 62) ⌝ }
     ensures { λ r. ⌜ (r ≡ at + length (numberBytes value)) × (now (out .exit) ≡ sets (now (out .entry)) at (numberBytes value)) ⌝ }
 {
     let mut place = at;

@@ -37,6 +37,4 @@ returns-2 : tie.Need-returns-2 Inv-loop μ-loop
 returns-2 c = clear-all (c .before .before .loop .inv) (omega arith)
 
 pub padding-clear-spec : {M : Type 1} → statement M
-padding-clear-spec =
-    tie.close
-    (tie.spec Inv-loop μ-loop loop-holds read-requires returns loop-less loop-again returns-2)
+padding-clear-spec = tie.close (tie.spec Inv-loop μ-loop loop-holds read-requires returns loop-less loop-again returns-2)

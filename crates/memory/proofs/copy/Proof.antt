@@ -56,21 +56,5 @@ returns c = copied-all (c .before .loop .inv .1) (omega arith)
 
 pub copy-spec : {M : Type 1} → statement M
 copy-spec =
-    tie.close
-    (tie.spec
-    Inv-loop
-    μ-loop
-    places-from-requires
-    lesser-requires
-    places-from-requires-2
-    lesser-requires-2
-    loop-holds
-    add-to
-    shared-slice-read-to
-    add-to-2
-    slice-write-to
-    add-i
-    loop-less
-    loop-again
-    same-length
-    returns)
+    tie.close (tie.spec Inv-loop μ-loop places-from-requires lesser-requires places-from-requires-2 lesser-requires-2 loop-holds add-to
+    shared-slice-read-to add-to-2 slice-write-to add-i loop-less loop-again same-length returns)

@@ -27,20 +27,20 @@ loop-holds c = (omega arith, moved-none)
 sub-i : tie.Need-sub-i Inv-loop μ-loop
 sub-i c = search needs
 
-add-s : tie.Need-add-s Inv-loop μ-loop
-add-s c = search needs
+add-bytes : tie.Need-add-bytes Inv-loop μ-loop
+add-bytes c = search needs
 
-slice-read-s : tie.Need-slice-read-s Inv-loop μ-loop
-slice-read-s c = search needs
+slice-read-bytes : tie.Need-slice-read-bytes Inv-loop μ-loop
+slice-read-bytes c = search needs
 
-add-s-2 : tie.Need-add-s-2 Inv-loop μ-loop
-add-s-2 c = search needs
+add-bytes-2 : tie.Need-add-bytes-2 Inv-loop μ-loop
+add-bytes-2 c = search needs
 
-add-s-3 : tie.Need-add-s-3 Inv-loop μ-loop
-add-s-3 c = search needs
+add-bytes-3 : tie.Need-add-bytes-3 Inv-loop μ-loop
+add-bytes-3 c = search needs
 
-slice-write-s : tie.Need-slice-write-s Inv-loop μ-loop
-slice-write-s c = search needs
+slice-write-bytes : tie.Need-slice-write-bytes Inv-loop μ-loop
+slice-write-bytes c = search needs
 
 loop-less : tie.Need-loop-less Inv-loop μ-loop
 loop-less c = omega arith
@@ -56,21 +56,5 @@ returns c = moved-all (c .before .loop .inv .1) (c .before .before .before .befo
 
 pub move-right-spec : {M : Type 1} → statement M
 move-right-spec =
-    tie.close
-    (tie.spec
-    Inv-loop
-    μ-loop
-    places-from-requires
-    places-from-requires-2
-    lesser-requires
-    loop-holds
-    sub-i
-    add-s
-    slice-read-s
-    add-s-2
-    add-s-3
-    slice-write-s
-    loop-less
-    loop-again
-    same-length
-    returns)
+    tie.close (tie.spec Inv-loop μ-loop places-from-requires places-from-requires-2 lesser-requires loop-holds sub-i add-bytes slice-read-bytes add-bytes-2
+    add-bytes-3 slice-write-bytes loop-less loop-again same-length returns)

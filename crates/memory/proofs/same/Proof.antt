@@ -61,22 +61,5 @@ returns-3 c = search (needs, alike-all)
 
 pub same-spec : {M : Type 1} → statement M
 same-spec =
-    tie.close
-    (tie.spec
-    Inv-loop
-    μ-loop
-    places-from-requires
-    lesser-requires
-    places-from-requires-2
-    lesser-requires-2
-    returns
-    loop-holds
-    add-if2
-    shared-slice-read-if2
-    add-if2-2
-    shared-slice-read-if2-2
-    returns-2
-    add-i
-    loop-less
-    loop-again
-    returns-3)
+    tie.close (tie.spec Inv-loop μ-loop places-from-requires lesser-requires places-from-requires-2 lesser-requires-2 returns loop-holds add-if2
+    shared-slice-read-if2 add-if2-2 shared-slice-read-if2-2 returns-2 add-i loop-less loop-again returns-3)

@@ -39,16 +39,4 @@ returns : tie.Need-returns Inv-loop μ-loop
 returns c = filled-all (c .before .loop .inv) (omega arith)
 
 pub zero-i32-spec : {M : Type 1} → statement M
-zero-i32-spec =
-    tie.close
-    (tie.spec
-    Inv-loop
-    μ-loop
-    loop-holds
-    mul-s
-    slice-set-of-s
-    add-i
-    loop-less
-    loop-again
-    same-length
-    returns)
+zero-i32-spec = tie.close (tie.spec Inv-loop μ-loop loop-holds mul-s slice-set-of-s add-i loop-less loop-again same-length returns)

@@ -34,15 +34,4 @@ returns : tie.Need-returns Inv-loop μ-loop
 returns c = filled-all (c .before .loop .inv) (omega arith)
 
 pub zero-u8-spec : {M : Type 1} → statement M
-zero-u8-spec =
-    tie.close
-    (tie.spec
-    Inv-loop
-    μ-loop
-    loop-holds
-    slice-write-s
-    add-i
-    loop-less
-    loop-again
-    same-length
-    returns)
+zero-u8-spec = tie.close (tie.spec Inv-loop μ-loop loop-holds slice-write-s add-i loop-less loop-again same-length returns)

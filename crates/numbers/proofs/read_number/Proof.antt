@@ -54,19 +54,5 @@ returns-3 c = reading-none (c .before .loop .inv) (omega arith)
 
 pub read-number-spec : {M : Type 1} → statement M
 read-number-spec =
-    tie.close
-    (tie.spec
-    Inv-loop
-    μ-loop
-    loop-holds
-    returns
-    byte-at-requires
-    add-place
-    last-byte-requires
-    returns-2
-    with-group-requires
-    mul-worth
-    sub-bytes-left
-    loop-less
-    loop-again
-    returns-3)
+    tie.close (tie.spec Inv-loop μ-loop loop-holds returns byte-at-requires add-place last-byte-requires returns-2 with-group-requires mul-worth
+    sub-bytes-left loop-less loop-again returns-3)

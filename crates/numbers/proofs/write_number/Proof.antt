@@ -49,19 +49,5 @@ returns c = writing-last (c .before .before .before .before .before .loop .inv) 
 
 pub write-number-spec : {M : Type 1} → statement M
 write-number-spec =
-    tie.close
-    (tie.spec
-    Inv-loop
-    μ-loop
-    loop-holds
-    add-store
-    cast-store
-    store-requires
-    add-place
-    loop-less
-    loop-again
-    cast-store-2
-    store-requires-2
-    add-result
-    same-length
-    returns)
+    tie.close (tie.spec Inv-loop μ-loop loop-holds add-store cast-store store-requires add-place loop-less loop-again cast-store-2 store-requires-2
+    add-result same-length returns)

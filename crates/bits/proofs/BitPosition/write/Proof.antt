@@ -33,6 +33,4 @@ same-length : tie.Need-same-length
 same-length c = ap length (returns c .1) ∙ setBit-length _ _ _
 
 pub write-spec : {M : Type 1} → statement M
-write-spec =
-    tie.close
-    (tie.spec slice-read-with-bit with-bit-requires slice-write-out add-t6 same-length returns)
+write-spec = tie.close (tie.spec slice-read-with-bit with-bit-requires slice-write-out add-t6 same-length returns)
