@@ -8,7 +8,7 @@ use lib.Pow.{pow-pos, shl-exact, shr-le}
 use lib.Dec.{eqb}
 use borrow.Author.Tests.{le-leb, lt-leb, ne-eqb}
 use Rattle.rules.specs.declared.Size.{Size}
-use Rattle.rules.specs.Document.Pyramid.{leastSide, greatestSide, mostArea, mostDecompositions, legalSide, legalSize}
+use Rattle.rules.specs.Document.Pyramid.{area, leastSide, greatestSide, mostArea, mostDecompositions, legalSide, legalSize}
 use Rattle.rules.specs.Document.Pyramid.{levels, row, column, within, offspringOf}
 use Rattle.rules.specs.Laws.Family.Sizes.{span, levelStart, levelEnd, legal, area-bound, levelStart-top, levelSize-end, span-most}
 use Rattle.rules.specs.Laws.Offspring.Level.{within-true}
@@ -54,9 +54,14 @@ module _ (z : Size) where
     size-second t = rw (le-leb 1 (z .n) l, le-leb (z .n) mostDecompositions h, sym e ∙ t)
 
 module _ (z : Size) (e : legalSize z ≡ true) where
-  pub span-small : (k : ℕ) → k ≤ z .n → (z .h / 2 ^ k) * (z .w / 2 ^ k) ≤ mostArea
-  unfolding span
-  span-small k h = omega (arith, span-most z (legal z e) k (omega arith), area-bound z e)
+  pub area-small : area z < 2 ^ 64
+  area-small = omega (arith, area-bound z e)
+
+  pub fourfold-small : 4 * area z < 2 ^ 64
+  fourfold-small = omega (arith, area-bound z e)
+
+  pub span-small : (k : ℕ) → (z .h / 2 ^ k) * (z .w / 2 ^ k) ≤ mostArea
+  span-small k = omega (arith, mul-le-mul (shr-le (z .h) k) (shr-le (z .w) k), area-bound z e)
 
   pub start-zero : (k : ℕ) → k ≤ levels z → z .n < k → 0 ≡ levelStart z k
   start-zero k h l = let i : k ≡ levels z = omega arith in rw i (sym (levelStart-top z))

@@ -4,9 +4,11 @@ use rules::Level;
 use rules::Size;
 ghost use mathlib.Core.Path.{_≡_};
 ghost use mathlib.Core.Bool.{true};
-ghost use Prim.Native.Nat.{_*_, _≤_, _<_};
+ghost use Prim.Native.Nat.{_+_, _*_, _≤_, _<_};
 ghost use Rattle.rules.specs.Document.Pyramid.{greatestSide, mostDecompositions, legalSide, legalSize};
 ghost use Rattle.rules.specs.Document.Pyramid.{within, levels, offspringOf};
+ghost use Rattle.rules.specs.Document.Numbers.{mostBits};
+ghost use Rattle.rules.specs.Document.Calls.{workFor};
 ghost use Rattle.rules.specs.Laws.Family.Sizes.{span, levelStart, levelEnd, levelSize};
 ghost use Rattle.shape.specs.Offspring.{offspringList, folded};
 ghost use Rattle.shape.specs.Nodes.{Node};
@@ -24,17 +26,17 @@ pub enum Offspring {
     Block(usize),
 }
 
-fn legal_side(n: usize, x: usize) -> bool
+fn legal_side(n: usize, side: usize) -> bool
     requires { ⌜ n ≤ mostDecompositions ⌝ }
-    ensures { λ r. ⌜ r ≡ legalSide n x ⌝ }
+    ensures { λ r. ⌜ r ≡ legalSide n side ⌝ }
 {
-    if x < LEAST_SIDE {
+    if side < LEAST_SIDE {
         return false;
     }
-    if GREATEST_SIDE < x {
+    if GREATEST_SIDE < side {
         return false;
     }
-    x % (1 << (n + 1)) == 0
+    side % (1 << (n + 1)) == 0
 }
 
 // N is judged before 2^(N+1) is formed.
@@ -54,9 +56,24 @@ pub fn legal_size(z: Size) -> bool
     }
 }
 
+// Four for each coefficient: no part has more bits, and that many numbers of workspace are enough.
+pub fn most_bits(z: Size) -> usize
+    requires { ⌜ legalSize z ≡ true ⌝ }
+    ensures { λ r. ⌜ r ≡ mostBits z ⌝ }
+{
+    4 * (z.w * z.h)
+}
+
+pub fn work_for(z: Size) -> usize
+    requires { ⌜ legalSize z ≡ true ⌝ }
+    ensures { λ r. ⌜ r ≡ workFor z ⌝ }
+{
+    most_bits(z)
+}
+
 // How many coefficients lie in the first H / 2^k rows and W / 2^k columns.
-fn span_of(z: Size, k: Depth) -> usize
-    requires { ⌜ (legalSize z ≡ true) × (k .0 ≤ z .n) ⌝ }
+pub fn span_of(z: Size, k: Depth) -> usize
+    requires { ⌜ (legalSize z ≡ true) × (k .0 ≤ z .n + 3) ⌝ }
     ensures { λ r. ⌜ r ≡ span z (k .0) ⌝ }
 {
     let m = k.0;

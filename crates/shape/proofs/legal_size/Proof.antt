@@ -29,6 +29,4 @@ returns-4 c =
     (c .if3 .left)
 
 pub legal-size-spec : {M : Type 1} → statement M
-legal-size-spec =
-    tie.close
-    (tie.spec returns returns-2 legal-side-requires legal-side-requires-2 returns-3 returns-4)
+legal-size-spec = tie.close (tie.spec returns returns-2 legal-side-requires legal-side-requires-2 returns-3 returns-4)

@@ -21,5 +21,4 @@ returns-3 : tie.Need-returns-3
 returns-3 c = node-finest (c .before .before .before .before .before .pre) (c .if2 .left)
 
 pub offspring-in-spec : {M : Type 1} → statement M
-offspring-in-spec =
-    tie.close (tie.spec offspring-in-band-requires returns mul-t5 returns-2 returns-3)
+offspring-in-spec = tie.close (tie.spec offspring-in-band-requires returns mul-t5 returns-2 returns-3)

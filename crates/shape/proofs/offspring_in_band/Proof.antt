@@ -51,16 +51,4 @@ returns-2 c =
 
 pub offspring-in-band-spec : {M : Type 1} → statement M
 offspring-in-band-spec =
-    tie.close
-    (tie.spec
-    div-i
-    rem-j
-    add-if1
-    returns
-    shr-folded
-    folded-requires
-    shr-folded-2
-    folded-requires-2
-    mul-t8
-    add-t9
-    returns-2)
+    tie.close (tie.spec div-i rem-j add-if1 returns shr-folded folded-requires shr-folded-2 folded-requires-2 mul-t8 add-t9 returns-2)

@@ -1,8 +1,7 @@
 -- `shape::span_of`: the product of the halved sides is at most the area.
 use mathlib.Core.Path.{refl}
 use native.Mathlib.Omega.{arith}
-use Rattle.rules.specs.Laws.Family.Sizes.{legal}
-use Rattle.rules.specs.Laws.Family.Sizes.{span}
+use Rattle.rules.specs.Laws.Family.Sizes.{legal, span}
 use Rattle.shape.proofs.Sizes.{span-small}
 use Rattle.shape.proofs.span_of.Statement.{statement}
 use Rattle.shape.proofs.span_of.Tie as tie
@@ -14,7 +13,7 @@ shr-result-2 : tie.Need-shr-result-2
 shr-result-2 c = omega (arith, legal _ (c .before .before .pre .0))
 
 mul-result : tie.Need-mul-result
-mul-result c = let s = c .before .before in record { fits = omega (arith, span-small (s .args .z) (s .pre .0) (s .args .k .0) (s .pre .1)) }
+mul-result c = let s = c .before .before in record { fits = omega (arith, span-small (s .args .z) (s .pre .0) (s .args .k .0)) }
 
 returns : tie.Need-returns
 unfolding span
