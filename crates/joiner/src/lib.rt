@@ -38,12 +38,12 @@ pub enum Step {
     Clash(usize),
 }
 
-fn refused(r: Refusal, out: &mut [u8]) -> Coded
-    ensures { λ a. ⌜ Refusing r (now (out .entry)) a (now (out .exit)) ⌝ }
+fn refused(refusal: Refusal, out: &mut [u8]) -> Coded
+    ensures { λ a. ⌜ Refusing refusal (now (out .entry)) a (now (out .exit)) ⌝ }
 {
     memory::zero_u8(out);
     Coded {
-        verdict: Verdict::Refused(r),
+        verdict: Verdict::Refused(refusal),
         length: 0,
     }
 }
@@ -59,11 +59,11 @@ fn nothing(hand: Cursor) -> Offer
 }
 
 // The next part of a record, if it has this name.
-fn offered(s: &[u8], h: Header, hand: Cursor, plane: Plane, level: Level) -> Offer
+fn offered(bytes: &[u8], h: Header, hand: Cursor, plane: Plane, level: Level) -> Offer
     requires { ⌜ legalSize (h .size) ≡ true ⌝ }
-    ensures { λ r. ⌜ r ≡ offerOf hand (nameBy plane level) (nextOf h (now (s .entry)) hand) ⌝ }
+    ensures { λ r. ⌜ r ≡ offerOf hand (nameBy plane level) (nextOf h (now (bytes .entry)) hand) ⌝ }
 {
-    match hand.next(s, h) {
+    match hand.next(bytes, h) {
         PartRead::Tail => nothing(hand),
         PartRead::Refused(_) => nothing(hand),
         PartRead::Part(p) => {
@@ -199,13 +199,13 @@ fn all_planes(first: &[u8], second: &[u8], h: Header, joint: Joint, out: &mut [u
 }
 
 // Joining two records that were read: their headers, the parts they share, at the very end the room.
-fn join_read(first: &[u8], h: Header, second: &[u8], g: Header, out: &mut [u8]) -> Coded
-    requires { ⌜ BothRead (now first) (now second) h g ⌝ }
+fn join_read(first: &[u8], h: Header, second: &[u8], other: Header, out: &mut [u8]) -> Coded
+    requires { ⌜ BothRead (now first) (now second) h other ⌝ }
     ensures { λ a. ⌜ Joining (now (first .entry)) (now (second .entry)) (now (out .entry)) a (now (out .exit)) ⌝ }
 {
     let start = Cursor::first(h);
     let end = h.end;
-    if !memory::same(first, 0, end, second, 0, g.end) {
+    if !memory::same(first, 0, end, second, 0, other.end) {
         return refused(Refusal::Mixed, out);
     }
     memory::zero_u8(out);

@@ -37,10 +37,10 @@ fn print_part(p: Part) {
     end_line();
 }
 
-fn print_parts(s: &[u8], h: Header) {
+fn print_parts(bytes: &[u8], h: Header) {
     let mut cursor = Cursor::first(h);
     loop {
-        let PartRead::Part(p) = survey::part_at(s, cursor) else {
+        let PartRead::Part(p) = survey::part_at(bytes, cursor) else {
             return;
         };
         print_part(p);
@@ -54,21 +54,21 @@ fn print_tail(length: usize) {
     end_line();
 }
 
-fn print_refusal(v: Verdict) {
+fn print_refusal(verdict: Verdict) {
     io::write_all(STDOUT_FILENO, b"refused");
-    print_number(answers::number(v) as usize);
-    print_number(answers::place(v) as usize);
+    print_number(answers::number(verdict) as usize);
+    print_number(answers::place(verdict) as usize);
     end_line();
 }
 
-fn print_listing(s: &[u8]) {
-    let found = survey::listed(s);
+fn print_listing(bytes: &[u8]) {
+    let found = survey::listed(bytes);
     let verdict = found.verdict;
     let header = found.header;
     match verdict {
         Verdict::Accepted => {
             print_header(header);
-            print_parts(s, header);
+            print_parts(bytes, header);
             print_tail(found.tail);
         }
         Verdict::Refused(_) => print_refusal(verdict),

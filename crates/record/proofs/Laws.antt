@@ -4,8 +4,7 @@ use mathlib.Core.List.{List, [], _∷_}
 use mathlib.Core.Logic.{inl, inr}
 use mathlib.Core.Bool.{Bool, true, false, cond, _&&_, and-true, and-false, or-false}
 use Prim.Native.Nat.{ℕ, _+_, _-_, _*_, _/_, _^_, _≤_, _<_}
-use native.Mathlib.Nat.{mul-assoc, mul-le-mul, lt-of-le-of-lt}
-use lib.Dec.{leb, ltb, eqb, lit<}
+use lib.Dec.{leb, ltb, eqb}
 use borrow.Author.Tests.{eq-eqb, ne-eqb, le-leb, lt-leb, lt-ltb, le-ltb, leb-true}
 use lib.ListN.{length, take, drop}
 use native.Mathlib.Omega.{arith}
@@ -26,13 +25,13 @@ use Rattle.rules.specs.declared.PartRead.{PartRead}
 use Rattle.rules.specs.declared.PartRead.the-variants as part
 use Rattle.rules.specs.declared.HeaderRead.{HeaderRead}
 use Rattle.rules.specs.declared.HeaderRead.the-variants as header
-use Rattle.rules.specs.Document.Pyramid.{legalSize, mostPlanes, greatestSide, mostArea, area}
+use Rattle.rules.specs.Document.Pyramid.{legalSize, mostPlanes, mostArea, area}
 use Rattle.rules.specs.Document.Passes.{PartName}
 use Rattle.rules.specs.Document.Layout.{readNumber, version, bytesFor, padClear, bodyOf, nameOf}
 use Rattle.rules.specs.Document.Numbers.{headNumber, judgedHeader, mostBits, partNumber, follows, legalHead, judgedPart, topLevel, partMost}
 use Rattle.record.specs.declared.Name.{Name}
 use Rattle.record.specs.Named.{nameBy, named, unreadHeader, unread, wholePart}
-use Rattle.rules.specs.Laws.Family.Sizes.{legal}
+use Rattle.rules.specs.Laws.Family.Sizes.{legal, area-bound}
 use Rattle.rules.specs.Laws.Counting.Booleans.{both-right}
 use Rattle.rules.specs.Laws.Reading.Stands.{readNumber-stands}
 
@@ -118,35 +117,24 @@ module _ (before : Name) (plane : Plane) (level : Level) where
     head-high l =
         rw (lt-leb (level .0) (topLevel h) (omega arith), and-false (ltb (plane .0) (h .planes) && leb 1 (level .0)))
 
-    pub head-bits : 4 * h .size .w * h .size .h < bits → false ≡ legalHead h (named before) (nameBy plane level) bits
+    pub head-bits : (most : ℕ) → most ≡ mostBits (h .size) → most < bits → false ≡ legalHead h (named before) (nameBy plane level) bits
     unfolding legalHead
-    head-bits l =
-        rw (lt-leb bits (mostBits (h .size)) (omega (arith, mul-assoc 4 (h .size .w) (h .size .h))))
-        (sym (and-false (ofName h (named before) (nameBy plane level))))
+    head-bits most m l =
+        rw (lt-leb bits (mostBits (h .size)) (omega arith)) (sym (and-false (ofName h (named before) (nameBy plane level))))
 
-    pub head-order : (b : Bool) → b ≡ follows (named before) (nameBy plane level) → plane .0 < h .planes → 1 ≤ level .0 → level .0 ≤ h .size .n + 1
-        → bits ≤ 4 * h .size .w * h .size .h → b ≡ legalHead h (named before) (nameBy plane level) bits
+    pub head-order : (b : Bool) (most : ℕ) → most ≡ mostBits (h .size) → b ≡ follows (named before) (nameBy plane level)
+        → plane .0 < h .planes → 1 ≤ level .0 → level .0 ≤ h .size .n + 1 → bits ≤ most → b ≡ legalHead h (named before) (nameBy plane level) bits
     unfolding legalHead
-    head-order b e n k j l =
+    head-order b most m e n k j l =
         rw (
           lt-ltb (plane .0) (h .planes) n,
           le-leb 1 (level .0) k,
           le-leb (level .0) (topLevel h) (omega arith),
-          le-leb bits (mostBits (h .size)) (omega (arith, mul-assoc 4 (h .size .w) (h .size .h))),
+          le-leb bits (mostBits (h .size)) (omega arith),
         ) (e ∙ sym (and-true _))
 
--- The bit count's limit fits.
-module _ (z : Size) (l : legalSize z ≡ true) where
-  pub depth-small : z .n + 1 < 2 ^ 64
-  depth-small = omega (arith, legal z l .few)
-
-  pub limit-small : 4 * z .w * z .h < 2 ^ 64
-  limit-small =
-      lt-of-le-of-lt (mul-le-mul {n₁ = 4 * z .w} {m₁ = z .h} {n₂ = 4 * greatestSide} {m₂ = greatestSide}
-      (omega (arith, legal z l .width .most)) (legal z l .height .most)) (lit< tt)
-
-  pub half-small : 4 * z .w < 2 ^ 64
-  half-small = omega (arith, legal z l .width .most)
+pub depth-small : (z : Size) → legalSize z ≡ true → z .n + 1 < 2 ^ 64
+depth-small z l = omega (arith, legal z l .few)
 
 -- A part's number: one that has no value decides, one that has leads on. x is what was read of y.
 pub part-told : (place : ℕ) (x y : Number) → x ≡ y → unread place y ≡ unread place x
@@ -194,7 +182,7 @@ module _ (h : Header) (before p : PartName) (bits : ℕ) (b : Bool) (l : legalSi
   unfolding legalHead
   head-few =
       let m : bits ≤ mostBits (h .size) = leb-true bits (mostBits (h .size)) (both-right (ofName h before p) _ (sym e ∙ t)) in
-      let n : area (h .size) ≤ mostArea = mul-le-mul (legal (h .size) l .width .most) (legal (h .size) l .height .most) in
+      let n : area (h .size) ≤ mostArea = area-bound (h .size) l in
       omega arith
 
   pub bits-fit : Fits w64 (bits + 7)

@@ -36,10 +36,10 @@ fn judged_header(z: Size, planes: usize, end: usize) -> HeaderRead
 }
 
 // What a number without a value makes of a header: a long form has a refusal of its own.
-fn no_header_value(x: Number, at: usize) -> HeaderRead
-    ensures { λ r. ⌜ r ≡ unreadHeader at x ⌝ }
+fn no_header_value(number: Number, at: usize) -> HeaderRead
+    ensures { λ r. ⌜ r ≡ unreadHeader at number ⌝ }
 {
-    match x {
+    match number {
         Number::TooManyBytes => HeaderRead::Refused(Refusal::Head(at)),
         Number::LongForm => HeaderRead::Refused(Refusal::LongForm(at)),
         Number::CutOff => HeaderRead::Refused(Refusal::Head(at)),
@@ -48,37 +48,37 @@ fn no_header_value(x: Number, at: usize) -> HeaderRead
 }
 
 // Width, height, decomposition count and planes.
-fn sizes(s: &[u8], at: usize) -> HeaderRead
-    ensures { λ r. ⌜ r ≡ readSizes (now (s .entry)) at ⌝ }
+fn sizes(bytes: &[u8], at: usize) -> HeaderRead
+    ensures { λ r. ⌜ r ≡ readSizes (now (bytes .entry)) at ⌝ }
 {
-    let width = numbers::read_number(s, at);
+    let width = numbers::read_number(bytes, at);
     let Number::Value(w, second) = width else {
         return no_header_value(width, at);
     };
-    let height = numbers::read_number(s, second);
+    let height = numbers::read_number(bytes, second);
     let Number::Value(h, third) = height else {
         return no_header_value(height, second);
     };
-    let count = numbers::read_number(s, third);
+    let count = numbers::read_number(bytes, third);
     let Number::Value(n, fourth) = count else {
         return no_header_value(count, third);
     };
-    let depth = numbers::read_number(s, fourth);
+    let depth = numbers::read_number(bytes, fourth);
     let Number::Value(planes, end) = depth else {
         return no_header_value(depth, fourth);
     };
     judged_header(Size { w, h, n }, planes, end)
 }
 
-pub fn header(s: &[u8]) -> HeaderRead
-    ensures { λ r. ⌜ r ≡ readHeader (now (s .entry)) ⌝ }
+pub fn header(bytes: &[u8]) -> HeaderRead
+    ensures { λ r. ⌜ r ≡ readHeader (now (bytes .entry)) ⌝ }
 {
-    let first = numbers::read_number(s, 0);
+    let first = numbers::read_number(bytes, 0);
     let Number::Value(version, at) = first else {
         return no_header_value(first, 0);
     };
     if version == VERSION {
-        sizes(s, at)
+        sizes(bytes, at)
     } else {
         HeaderRead::Refused(Refusal::Version)
     }
@@ -110,27 +110,27 @@ fn legal_head(h: Header, before: Name, plane: Plane, level: Level, bits: usize) 
     if size.n + 1 < level.0 {
         return false;
     }
-    if 4 * size.w * size.h < bits {
+    if shape::most_bits(size) < bits {
         return false;
     }
     comes_after(before, plane, level)
 }
 
 // The portion of the record that holds a part's body.
-pub fn body(s: &[u8], p: Part) -> &[u8]
-    requires { ⌜ (p .end ≡ p .body + bytesFor (p .bits)) × (p .end ≤ length (now s)) ⌝ }
-    ensures { λ r. ⌜ now r ≡ bodyOf (now (s .entry)) p ⌝ }
+pub fn body(bytes: &[u8], p: Part) -> &[u8]
+    requires { ⌜ (p .end ≡ p .body + bytesFor (p .bits)) × (p .end ≤ length (now bytes)) ⌝ }
+    ensures { λ r. ⌜ now r ≡ bodyOf (now (bytes .entry)) p ⌝ }
 {
     let start = p.body;
     let end = p.end;
-    &s[start..end]
+    &bytes[start..end]
 }
 
 // What a number without a value makes of a part: one with too many bytes or in long form refuses it, one cut off leaves a tail.
-fn no_value(x: Number, place: usize) -> PartRead
-    ensures { λ r. ⌜ r ≡ unread place x ⌝ }
+fn no_value(number: Number, place: usize) -> PartRead
+    ensures { λ r. ⌜ r ≡ unread place number ⌝ }
 {
-    match x {
+    match number {
         Number::TooManyBytes => PartRead::Refused(Refusal::Part(place)),
         Number::LongForm => PartRead::Refused(Refusal::LongForm(place)),
         Number::CutOff => PartRead::Tail,
@@ -139,15 +139,15 @@ fn no_value(x: Number, place: usize) -> PartRead
 }
 
 // A part with a legal head: whole, cut short, or with a padding bit set.
-fn whole_part(s: &[u8], p: Part) -> PartRead
+fn whole_part(bytes: &[u8], p: Part) -> PartRead
     requires { ⌜ (p .end ≡ p .body + bytesFor (p .bits)) × (p .bits < 2 ^ 40) ⌝ }
-    ensures { λ r. ⌜ r ≡ wholePart (now (s .entry)) p ⌝ }
+    ensures { λ r. ⌜ r ≡ wholePart (now (bytes .entry)) p ⌝ }
 {
-    if s.len() < p.end {
+    if bytes.len() < p.end {
         return PartRead::Tail;
     }
     let place = p.place;
-    if bits::padding_clear(body(s, p), p.bits) {
+    if bits::padding_clear(body(bytes, p), p.bits) {
         PartRead::Part(p)
     } else {
         PartRead::Refused(Refusal::Pad(place))
@@ -155,19 +155,19 @@ fn whole_part(s: &[u8], p: Part) -> PartRead
 }
 
 // The part that stands at a place, behind the one before it.
-pub fn part(s: &[u8], h: Header, before: Name, place: usize) -> PartRead
+pub fn part(bytes: &[u8], h: Header, before: Name, place: usize) -> PartRead
     requires { ⌜ legalSize (h .size) ≡ true ⌝ }
-    ensures { λ r. ⌜ r ≡ readPart h (now (s .entry)) (named before) place ⌝ }
+    ensures { λ r. ⌜ r ≡ readPart h (now (bytes .entry)) (named before) place ⌝ }
 {
-    let first = numbers::read_number(s, place);
+    let first = numbers::read_number(bytes, place);
     let Number::Value(n, second_at) = first else {
         return no_value(first, place);
     };
-    let second = numbers::read_number(s, second_at);
+    let second = numbers::read_number(bytes, second_at);
     let Number::Value(k, third_at) = second else {
         return no_value(second, place);
     };
-    let third = numbers::read_number(s, third_at);
+    let third = numbers::read_number(bytes, third_at);
     let Number::Value(bits, body) = third else {
         return no_value(third, place);
     };
@@ -176,7 +176,7 @@ pub fn part(s: &[u8], h: Header, before: Name, place: usize) -> PartRead
     if legal_head(h, before, plane, level, bits) {
         let end = body + (bits + 7) / 8;
         whole_part(
-            s,
+            bytes,
             Part {
                 plane,
                 level,

@@ -32,11 +32,11 @@ impl Cursor {
     }
 
     // The part that stands here, or what is there instead of it.
-    pub fn next(self, s: &[u8], h: Header) -> PartRead
+    pub fn next(self, bytes: &[u8], h: Header) -> PartRead
         requires { ⌜ legalSize (h .size) ≡ true ⌝ }
-        ensures { λ r. ⌜ r ≡ nextOf h (now (s .entry)) self ⌝ }
+        ensures { λ r. ⌜ r ≡ nextOf h (now (bytes .entry)) self ⌝ }
     {
-        read::part(s, h, self.before, self.place)
+        read::part(bytes, h, self.before, self.place)
     }
 
     // Behind a part that was read.

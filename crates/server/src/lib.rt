@@ -1,6 +1,5 @@
 // Serving: the header and the parts with a level and a plane of at least those asked for, copied without being decoded.
 ghost use mathlib.Core.Path.{_≡_};
-ghost use Prim.Native.Nat.{_≤_};
 ghost use lib.ListN.{length};
 ghost use Rattle.rules.specs.declared.HeaderRead.the-variants as header;
 ghost use Rattle.rules.specs.Document.Numbers.{readHeader};
@@ -24,12 +23,12 @@ pub enum Ended {
     Fault(Refusal),
 }
 
-fn refused(r: Refusal, lent: &mut [u8]) -> Served
-    ensures { λ a. ⌜ Refusing r (now (lent .entry)) a (now (lent .exit)) ⌝ }
+fn refused(refusal: Refusal, lent: &mut [u8]) -> Served
+    ensures { λ a. ⌜ Refusing refusal (now (lent .entry)) a (now (lent .exit)) ⌝ }
 {
     memory::zero_u8(lent);
     Served {
-        verdict: Verdict::Refused(r),
+        verdict: Verdict::Refused(refusal),
         length: 0,
         tail: 0,
     }
@@ -49,37 +48,44 @@ fn legal_ask(h: Header, level: Level, plane: Plane) -> bool
 }
 
 // Copies a part that is asked for behind what was written, and answers the length with it.
-fn keep(s: &[u8], p: Part, level: Level, plane: Plane, out: &mut [u8], written: usize) -> usize
-    requires { ⌜ Copies (now s) p written ⌝ }
-    ensures { λ r. ⌜ Kept (now (s .entry)) p level plane (now (out .entry)) written r (now (out .exit)) ⌝ }
+fn keep(
+    bytes: &[u8],
+    part: Part,
+    level: Level,
+    plane: Plane,
+    out: &mut [u8],
+    written: usize,
+) -> usize
+    requires { ⌜ Copies (now bytes) part written ⌝ }
+    ensures { λ r. ⌜ Kept (now (bytes .entry)) part level plane (now (out .entry)) written r (now (out .exit)) ⌝ }
 {
-    let own_level = p.level;
-    let own_plane = p.plane;
+    let own_level = part.level;
+    let own_plane = part.plane;
     if own_level.0 < level.0 {
         return written;
     }
     if own_plane.0 < plane.0 {
         return written;
     }
-    let place = p.place;
-    let count = p.end - place;
-    memory::copy(s, place, count, out, written);
+    let place = part.place;
+    let count = part.end - place;
+    memory::copy(bytes, place, count, out, written);
     written + count
 }
 
 // Walks over the parts, keeping those asked for behind the header.
-fn walk(s: &[u8], h: Header, level: Level, plane: Plane, out: &mut [u8]) -> Ended
-    requires { ⌜ Begun (now s) h (now out) ⌝ }
-    ensures { λ e. ⌜ Walked (now (s .entry)) h level plane (now (out .entry)) e (now (out .exit)) ⌝ }
+fn walk(bytes: &[u8], h: Header, level: Level, plane: Plane, out: &mut [u8]) -> Ended
+    requires { ⌜ Begun (now bytes) h (now out) ⌝ }
+    ensures { λ e. ⌜ Walked (now (bytes .entry)) h level plane (now (out .entry)) e (now (out .exit)) ⌝ }
 {
     let mut cursor = Cursor::first(h);
     let mut written = h.end;
     loop {
-        match cursor.next(s, h) {
-            PartRead::Tail => return Ended::Whole(written, s.len() - cursor.place),
+        match cursor.next(bytes, h) {
+            PartRead::Tail => return Ended::Whole(written, bytes.len() - cursor.place),
             PartRead::Refused(r) => return Ended::Fault(r),
             PartRead::Part(p) => {
-                written = keep(s, p, level, plane, out, written);
+                written = keep(bytes, p, level, plane, out, written);
                 cursor = Cursor::past(p);
             }
         }
@@ -87,17 +93,17 @@ fn walk(s: &[u8], h: Header, level: Level, plane: Plane, out: &mut [u8]) -> Ende
 }
 
 // Serving a record whose header was read: the request, the parts, at the very end the room.
-fn serve_parts(s: &[u8], h: Header, level: Level, plane: Plane, out: &mut [u8]) -> Served
-    requires { ⌜ readHeader (now s) ≡ header.Header h ⌝ }
-    ensures { λ a. ⌜ Serving (now (s .entry)) (level .0) (plane .0) (now (out .entry)) a (now (out .exit)) ⌝ }
+fn serve_parts(bytes: &[u8], h: Header, level: Level, plane: Plane, out: &mut [u8]) -> Served
+    requires { ⌜ readHeader (now bytes) ≡ header.Header h ⌝ }
+    ensures { λ a. ⌜ Serving (now (bytes .entry)) (level .0) (plane .0) (now (out .entry)) a (now (out .exit)) ⌝ }
 {
     if !legal_ask(h, level, plane) {
         return refused(Refusal::Ask, out);
     }
     let end = h.end;
     memory::zero_u8(out);
-    memory::copy(s, 0, end, out, 0);
-    let ended = walk(s, h, level, plane, out);
+    memory::copy(bytes, 0, end, out, 0);
+    let ended = walk(bytes, h, level, plane, out);
     match ended {
         Ended::Fault(r) => refused(r, out),
         Ended::Whole(length, tail) => {
@@ -114,11 +120,11 @@ fn serve_parts(s: &[u8], h: Header, level: Level, plane: Plane, out: &mut [u8]) 
     }
 }
 
-pub fn serve(s: &[u8], level: Level, plane: Plane, out: &mut [u8]) -> Served
-    ensures { λ a. ⌜ Serving (now (s .entry)) (level .0) (plane .0) (now (out .entry)) a (now (out .exit)) ⌝ }
+pub fn serve(bytes: &[u8], level: Level, plane: Plane, out: &mut [u8]) -> Served
+    ensures { λ a. ⌜ Serving (now (bytes .entry)) (level .0) (plane .0) (now (out .entry)) a (now (out .exit)) ⌝ }
 {
-    match read::header(s) {
-        HeaderRead::Header(h) => serve_parts(s, h, level, plane, out),
+    match read::header(bytes) {
+        HeaderRead::Header(h) => serve_parts(bytes, h, level, plane, out),
         HeaderRead::Refused(r) => refused(r, out),
     }
 }

@@ -1,10 +1,8 @@
 -- "It checks as serving with r = 1, p = 0 does": what serving a record whole answers, in any room, is told by its survey.
 use mathlib.Core.Path.{_≡_, refl, sym, _∙_}
 use mathlib.Core.List.{List}
-use mathlib.Core.Bool.{Bool, true, false, cond}
 use Prim.Native.Nat.{ℕ, _-_, _≤_, _<_}
 use native.Mathlib.Omega.{arith}
-use lib.Dec.{leb}
 use lib.ListN.{length, take, length-take}
 use borrow.Author.Tests.{le-leb, lt-leb}
 use Rattle.rules.specs.declared.Refusal.{Refusal}
@@ -97,14 +95,6 @@ refusal-has s r e = absurd (let z : _≡_ {A = ℕ} 0 1 = cc in omega arith)
 pub survey-header : (s : List ℕ) → surveyOf s .verdict ≡ Accepted → readHeader s ≡ header.Header (surveyOf s .header)
 unfolding HasHeader
 survey-header s = surveyOf-case (HasHeader s) s (λ r f. refusal-has s r) (λ h r f g. refusal-has s r) (λ h t f g e. f)
-
-pub listed-header : (s : List ℕ) → listedOf s .verdict ≡ Accepted → readHeader s ≡ header.Header (listedOf s .header)
-unfolding listedOf HasHeader
-listed-header s = go (leb (length s) longest)
-  where
-    go : (b : Bool) → HasHeader s (cond b (surveyOf s) (refusedWith refusal.Room))
-    go true = survey-header s
-    go false = refusal-has s refusal.Room
 
 -- A part that stands at a cursor ends behind it, within the record.
 pub part-ends : (s : List ℕ) (c : Cursor) (found : PartRead) (p : Part) (d : Cursor) → found ≡ partAt s c → found ≡ part.Part p → d ≡ pastOf p

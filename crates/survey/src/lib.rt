@@ -25,11 +25,11 @@ pub struct Survey {
     pub tail: usize,
 }
 
-fn refused(r: Refusal) -> Survey
-    ensures { λ a. ⌜ a ≡ refusedWith r ⌝ }
+fn refused(refusal: Refusal) -> Survey
+    ensures { λ a. ⌜ a ≡ refusedWith refusal ⌝ }
 {
     Survey {
-        verdict: Verdict::Refused(r),
+        verdict: Verdict::Refused(refusal),
         header: Header {
             size: Size { w: 0, h: 0, n: 0 },
             planes: 0,
@@ -40,20 +40,20 @@ fn refused(r: Refusal) -> Survey
     }
 }
 
-fn walk(s: &[u8], h: Header) -> Survey
-    requires { ⌜ readHeader (now s) ≡ header.Header h ⌝ }
-    ensures { λ a. ⌜ a ≡ walkedWith h (readParts h (now (s .entry))) ⌝ }
+fn walk(bytes: &[u8], h: Header) -> Survey
+    requires { ⌜ readHeader (now bytes) ≡ header.Header h ⌝ }
+    ensures { λ a. ⌜ a ≡ walkedWith h (readParts h (now (bytes .entry))) ⌝ }
 {
     let mut cursor = Cursor::first(h);
     let mut parts = 0;
     loop {
-        match cursor.next(s, h) {
+        match cursor.next(bytes, h) {
             PartRead::Tail => {
                 return Survey {
                     verdict: Verdict::Accepted,
                     header: h,
                     parts,
-                    tail: s.len() - cursor.place,
+                    tail: bytes.len() - cursor.place,
                 };
             }
             PartRead::Refused(r) => return refused(r),
@@ -65,31 +65,31 @@ fn walk(s: &[u8], h: Header) -> Survey
     }
 }
 
-pub fn survey_of(s: &[u8]) -> Survey
-    ensures { λ a. ⌜ a ≡ surveyOf (now (s .entry)) ⌝ }
+pub fn survey_of(bytes: &[u8]) -> Survey
+    ensures { λ a. ⌜ a ≡ surveyOf (now (bytes .entry)) ⌝ }
 {
-    match read::header(s) {
-        HeaderRead::Header(h) => walk(s, h),
+    match read::header(bytes) {
+        HeaderRead::Header(h) => walk(bytes, h),
         HeaderRead::Refused(r) => refused(r),
     }
 }
 
 // What partlist decides of its input.
-pub fn listed(s: &[u8]) -> Survey
-    ensures { λ a. ⌜ a ≡ listedOf (now (s .entry)) ⌝ }
+pub fn listed(bytes: &[u8]) -> Survey
+    ensures { λ a. ⌜ a ≡ listedOf (now (bytes .entry)) ⌝ }
 {
-    if LONGEST < s.len() {
+    if LONGEST < bytes.len() {
         return refused(Refusal::Room);
     }
-    survey_of(s)
+    survey_of(bytes)
 }
 
 // What stands at a cursor: what partlist prints one after the other.
-pub fn part_at(s: &[u8], cursor: Cursor) -> PartRead
-    ensures { λ r. ⌜ r ≡ partAt (now (s .entry)) cursor ⌝ }
+pub fn part_at(bytes: &[u8], cursor: Cursor) -> PartRead
+    ensures { λ r. ⌜ r ≡ partAt (now (bytes .entry)) cursor ⌝ }
 {
-    match read::header(s) {
-        HeaderRead::Header(h) => cursor.next(s, h),
+    match read::header(bytes) {
+        HeaderRead::Header(h) => cursor.next(bytes, h),
         HeaderRead::Refused(r) => PartRead::Refused(r),
     }
 }

@@ -49,18 +49,5 @@ returns-2 c = search (needs, plane-last)
 
 pub all-planes-spec : {M : Type 1} → statement M
 all-planes-spec =
-    tie.close
-    (tie.spec
-    Inv-loop
-    μ-loop
-    loop-holds
-    sub-plane
-    one-plane-requires
-    enum-known-step
-    same-length
-    returns
-    enum-known-step-2
-    loop-less
-    loop-again
-    same-length-2
-    returns-2)
+    tie.close (tie.spec Inv-loop μ-loop loop-holds sub-plane one-plane-requires enum-known-step same-length returns enum-known-step-2 loop-less
+    loop-again same-length-2 returns-2)

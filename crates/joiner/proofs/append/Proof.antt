@@ -29,14 +29,4 @@ returns-2 : tie.Need-returns-2
 returns-2 c = search (needs, from-first)
 
 pub append-spec : {M : Type 1} → statement M
-append-spec =
-    tie.close
-    (tie.spec
-    copy-requires
-    add-result
-    same-length
-    returns
-    copy-requires-2
-    add-result-2
-    same-length-2
-    returns-2)
+append-spec = tie.close (tie.spec copy-requires add-result same-length returns copy-requires-2 add-result-2 same-length-2 returns-2)

@@ -51,20 +51,5 @@ returns-3 c = search needs
 
 pub join-spec : {M : Type 1} → statement M
 join-spec =
-    tie.close
-    (tie.spec
-    survey-of-requires
-    enum-known-verdict
-    refused-requires
-    enum-told
-    survey-of-requires-2
-    enum-known-other
-    refused-requires-2
-    enum-told-2
-    join-read-requires
-    same-length
-    returns
-    same-length-2
-    returns-2
-    same-length-3
-    returns-3)
+    tie.close (tie.spec survey-of-requires enum-known-verdict refused-requires enum-told survey-of-requires-2 enum-known-other refused-requires-2
+    enum-told-2 join-read-requires same-length returns same-length-2 returns-2 same-length-3 returns-3)

@@ -96,23 +96,5 @@ returns-4 c =
 
 pub join-read-spec : {M : Type 1} → statement M
 join-read-spec =
-    tie.close
-    (tie.spec
-    first-requires
-    same-requires
-    refused-requires
-    same-length
-    returns
-    zero-u8-requires
-    copy-requires
-    all-planes-requires
-    enum-known-step
-    refused-requires-2
-    enum-known-step-2
-    refused-requires-3
-    same-length-2
-    returns-2
-    same-length-3
-    returns-3
-    same-length-4
-    returns-4)
+    tie.close (tie.spec first-requires same-requires refused-requires same-length returns zero-u8-requires copy-requires all-planes-requires
+    enum-known-step refused-requires-2 enum-known-step-2 refused-requires-3 same-length-2 returns-2 same-length-3 returns-3 same-length-4 returns-4)

@@ -51,20 +51,5 @@ returns-5 c = search (needs, offers-part)
 
 pub offered-spec : {M : Type 1} → statement M
 offered-spec =
-    tie.close
-    (tie.spec
-    next-requires
-    enum-told
-    nothing-requires
-    enum-told-2
-    nothing-requires-2
-    enum-known-p
-    nothing-requires-3
-    returns
-    nothing-requires-4
-    returns-2
-    past-requires
-    sub-t13
-    returns-3
-    returns-4
-    returns-5)
+    tie.close (tie.spec next-requires enum-told nothing-requires enum-told-2 nothing-requires-2 enum-known-p nothing-requires-3 returns
+    nothing-requires-4 returns-2 past-requires sub-t13 returns-3 returns-4 returns-5)

@@ -51,19 +51,5 @@ returns-2 c = search (needs, level-last)
 
 pub one-plane-spec : {M : Type 1} → statement M
 one-plane-spec =
-    tie.close
-    (tie.spec
-    Inv-loop
-    μ-loop
-    add-level
-    loop-holds
-    turn-requires
-    enum-known-step
-    same-length
-    returns
-    enum-known-step-2
-    sub-level
-    loop-less
-    loop-again
-    same-length-2
-    returns-2)
+    tie.close (tie.spec Inv-loop μ-loop add-level loop-holds turn-requires enum-known-step same-length returns enum-known-step-2 sub-level loop-less
+    loop-again same-length-2 returns-2)

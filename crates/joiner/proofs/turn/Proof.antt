@@ -30,13 +30,4 @@ returns-2 : tie.Need-returns-2
 returns-2 c = search (needs, turn-joins)
 
 pub turn-spec : {M : Type 1} → statement M
-turn-spec =
-    tie.close
-    (tie.spec
-    offered-requires
-    offered-requires-2
-    differ-requires
-    returns
-    append-requires
-    same-length
-    returns-2)
+turn-spec = tie.close (tie.spec offered-requires offered-requires-2 differ-requires returns append-requires same-length returns-2)

@@ -41,16 +41,5 @@ loop-again c = search needs
 
 pub print-parts-spec : {M : Type 1} → statement M
 print-parts-spec =
-    tie.close
-    (tie.spec
-    Inv-loop
-    μ-loop
-    first-requires
-    loop-holds
-    part-at-requires
-    enum-known-p
-    returns
-    print-part-requires
-    past-requires
-    loop-less
+    tie.close (tie.spec Inv-loop μ-loop first-requires loop-holds part-at-requires enum-known-p returns print-part-requires past-requires loop-less
     loop-again)

@@ -26,5 +26,4 @@ returns-3 : tie.Need-returns-3
 returns-3 c = search (needs, kept-whole)
 
 pub keep-spec : {M : Type 1} → statement M
-keep-spec =
-    tie.close (tie.spec returns returns-2 sub-count copy-requires add-result same-length returns-3)
+keep-spec = tie.close (tie.spec returns returns-2 sub-count copy-requires add-result same-length returns-3)

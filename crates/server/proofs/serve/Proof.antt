@@ -34,14 +34,4 @@ returns-2 c = search (needs, unheaded)
 
 pub serve-spec : {M : Type 1} → statement M
 serve-spec =
-    tie.close
-    (tie.spec
-    header-requires
-    enum-known-h
-    serve-parts-requires
-    enum-known-r
-    refused-requires
-    same-length
-    returns
-    same-length-2
-    returns-2)
+    tie.close (tie.spec header-requires enum-known-h serve-parts-requires enum-known-r refused-requires same-length returns same-length-2 returns-2)

@@ -58,22 +58,5 @@ returns-4 c = search (needs, served, not-false)
 
 pub serve-parts-spec : {M : Type 1} → statement M
 serve-parts-spec =
-    tie.close
-    (tie.spec
-    legal-ask-requires
-    refused-requires
-    same-length
-    returns
-    zero-u8-requires
-    copy-requires
-    walk-requires
-    enum-known-ended
-    refused-requires-2
-    enum-known-ended-2
-    refused-requires-3
-    same-length-2
-    returns-2
-    same-length-3
-    returns-3
-    same-length-4
-    returns-4)
+    tie.close (tie.spec legal-ask-requires refused-requires same-length returns zero-u8-requires copy-requires walk-requires enum-known-ended
+    refused-requires-2 enum-known-ended-2 refused-requires-3 same-length-2 returns-2 same-length-3 returns-3 same-length-4 returns-4)

@@ -60,22 +60,5 @@ loop-again c = search (needs, walking-past)
 
 pub walk-spec : {M : Type 1} → statement M
 walk-spec =
-    tie.close
-    (tie.spec
-    Inv-loop
-    μ-loop
-    first-requires
-    loop-holds
-    next-requires
-    enum-told
-    sub-t12
-    same-length
-    returns
-    enum-known-r
-    same-length-2
-    returns-2
-    enum-known-p
-    keep-requires
-    past-requires
-    loop-less
-    loop-again)
+    tie.close (tie.spec Inv-loop μ-loop first-requires loop-holds next-requires enum-told sub-t12 same-length returns enum-known-r same-length-2
+    returns-2 enum-known-p keep-requires past-requires loop-less loop-again)

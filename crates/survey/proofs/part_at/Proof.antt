@@ -24,5 +24,4 @@ returns-2 : tie.Need-returns-2
 returns-2 c = search (needs, found-at)
 
 pub part-at-spec : {M : Type 1} → statement M
-part-at-spec =
-    tie.close (tie.spec header-requires enum-known-h next-requires enum-known-r returns returns-2)
+part-at-spec = tie.close (tie.spec header-requires enum-known-h next-requires enum-known-r returns returns-2)

@@ -27,13 +27,4 @@ returns-2 : tie.Need-returns-2
 returns-2 c = search (needs, surveyed)
 
 pub survey-of-spec : {M : Type 1} → statement M
-survey-of-spec =
-    tie.close
-    (tie.spec
-    header-requires
-    enum-known-h
-    walk-requires
-    enum-known-r
-    refused-requires
-    returns
-    returns-2)
+survey-of-spec = tie.close (tie.spec header-requires enum-known-h walk-requires enum-known-r refused-requires returns returns-2)

@@ -57,21 +57,5 @@ loop-again c = search (needs, surveying-past)
 
 pub walk-spec : {M : Type 1} → statement M
 walk-spec =
-    tie.close
-    (tie.spec
-    Inv-loop
-    μ-loop
-    first-requires
-    loop-holds
-    next-requires
-    enum-told
-    sub-t10
-    returns
-    enum-known-r
-    refused-requires
-    returns-2
-    enum-known-p
-    past-requires
-    add-parts
-    loop-less
-    loop-again)
+    tie.close (tie.spec Inv-loop μ-loop first-requires loop-holds next-requires enum-told sub-t10 returns enum-known-r refused-requires returns-2
+    enum-known-p past-requires add-parts loop-less loop-again)

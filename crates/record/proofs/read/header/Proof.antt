@@ -30,13 +30,4 @@ unfolding readHeader
 returns-3 c = search (needs, head-step, version-wrong)
 
 pub header-spec : {M : Type 1} → statement M
-header-spec =
-    tie.close
-    (tie.spec
-    read-number-requires
-    enum-known-first
-    no-header-value-requires
-    returns
-    sizes-requires
-    returns-2
-    returns-3)
+header-spec = tie.close (tie.spec read-number-requires enum-known-first no-header-value-requires returns sizes-requires returns-2 returns-3)

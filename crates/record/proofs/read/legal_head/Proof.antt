@@ -1,5 +1,5 @@
 -- `record::read::legal_head`: a head's tests, one after the other.
-use Rattle.record.proofs.Laws.{head-plane, head-low, head-high, head-bits, head-order, depth-small, limit-small, half-small}
+use Rattle.record.proofs.Laws.{head-plane, head-low, head-high, head-bits, head-order, depth-small}
 use borrow.Author.Needs.{needs}
 use Rattle.record.proofs.read.legal_head.Statement.{statement}
 use Rattle.record.proofs.read.legal_head.Tie as tie
@@ -16,11 +16,8 @@ add-if3 c = search (needs, depth-small)
 returns-3 : tie.Need-returns-3
 returns-3 c = search (needs, head-high)
 
-mul-if4 : tie.Need-mul-if4
-mul-if4 c = search (needs, half-small)
-
-mul-if4-2 : tie.Need-mul-if4-2
-mul-if4-2 c = search (needs, limit-small)
+most-bits-requires : tie.Need-most-bits-requires
+most-bits-requires c κs = search needs
 
 returns-4 : tie.Need-returns-4
 returns-4 c = search (needs, head-bits)
@@ -32,15 +29,4 @@ returns-5 : tie.Need-returns-5
 returns-5 c = search (needs, head-order)
 
 pub legal-head-spec : {M : Type 1} → statement M
-legal-head-spec =
-    tie.close
-    (tie.spec
-    returns
-    returns-2
-    add-if3
-    returns-3
-    mul-if4
-    mul-if4-2
-    returns-4
-    comes-after-requires
-    returns-5)
+legal-head-spec = tie.close (tie.spec returns returns-2 add-if3 returns-3 most-bits-requires returns-4 comes-after-requires returns-5)

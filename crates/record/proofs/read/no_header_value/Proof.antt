@@ -35,6 +35,4 @@ unfolding headNumber unreadHeader
 returns-4 c = header-told _ _ _ (c .enum-told4 .given .1)
 
 pub no-header-value-spec : {M : Type 1} → statement M
-no-header-value-spec =
-    tie.close
-    (tie.spec enum-told enum-told-2 enum-told-3 enum-told-4 returns returns-2 returns-3 returns-4)
+no-header-value-spec = tie.close (tie.spec enum-told enum-told-2 enum-told-3 enum-told-4 returns returns-2 returns-3 returns-4)

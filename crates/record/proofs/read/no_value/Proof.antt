@@ -35,6 +35,4 @@ unfolding partNumber unread
 returns-4 c = part-told _ _ _ (c .enum-told4 .given .1)
 
 pub no-value-spec : {M : Type 1} → statement M
-no-value-spec =
-    tie.close
-    (tie.spec enum-told enum-told-2 enum-told-3 enum-told-4 returns returns-2 returns-3 returns-4)
+no-value-spec = tie.close (tie.spec enum-told enum-told-2 enum-told-3 enum-told-4 returns returns-2 returns-3 returns-4)

@@ -68,23 +68,6 @@ returns-5 c = search (needs, part-step, judged-head)
 
 pub part-spec : {M : Type 1} → statement M
 part-spec =
-    tie.close
-    (tie.spec
-    read-number-requires
-    enum-known-first
-    no-value-requires
-    returns
-    read-number-requires-2
-    enum-known-second
-    no-value-requires-2
-    returns-2
-    read-number-requires-3
-    enum-known-third
-    no-value-requires-3
-    returns-3
-    legal-head-requires
-    add-end
-    add-end-2
-    whole-part-requires
-    returns-4
-    returns-5)
+    tie.close (tie.spec read-number-requires enum-known-first no-value-requires returns read-number-requires-2 enum-known-second no-value-requires-2
+    returns-2 read-number-requires-3 enum-known-third no-value-requires-3 returns-3 legal-head-requires add-end add-end-2 whole-part-requires
+    returns-4 returns-5)

@@ -66,23 +66,6 @@ returns-5 c = search (needs, head-stop, head-step)
 
 pub sizes-spec : {M : Type 1} → statement M
 sizes-spec =
-    tie.close
-    (tie.spec
-    read-number-requires
-    enum-known-width
-    no-header-value-requires
-    returns
-    read-number-requires-2
-    enum-known-height
-    no-header-value-requires-2
-    returns-2
-    read-number-requires-3
-    enum-known-count
-    no-header-value-requires-3
-    returns-3
-    read-number-requires-4
-    enum-known-depth
-    no-header-value-requires-4
-    returns-4
-    judged-header-requires
-    returns-5)
+    tie.close (tie.spec read-number-requires enum-known-width no-header-value-requires returns read-number-requires-2 enum-known-height
+    no-header-value-requires-2 returns-2 read-number-requires-3 enum-known-count no-header-value-requires-3 returns-3 read-number-requires-4
+    enum-known-depth no-header-value-requires-4 returns-4 judged-header-requires returns-5)

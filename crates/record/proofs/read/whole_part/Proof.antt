@@ -20,5 +20,4 @@ returns-3 : tie.Need-returns-3
 returns-3 c = search (needs, whole-padded)
 
 pub whole-part-spec : {M : Type 1} → statement M
-whole-part-spec =
-    tie.close (tie.spec returns body-requires padding-clear-requires returns-2 returns-3)
+whole-part-spec = tie.close (tie.spec returns body-requires padding-clear-requires returns-2 returns-3)

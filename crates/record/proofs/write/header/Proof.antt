@@ -21,11 +21,4 @@ returns : tie.Need-returns
 returns c = search (needs, wrote-header)
 
 pub header-spec : {M : Type 1} → statement M
-header-spec =
-    tie.close
-    (tie.spec
-    write-number-requires
-    dimensions-requires
-    write-number-requires-2
-    same-length
-    returns)
+header-spec = tie.close (tie.spec write-number-requires dimensions-requires write-number-requires-2 same-length returns)

@@ -33,14 +33,5 @@ returns c = search (needs, headed-of)
 
 pub put-head-spec : {M : Type 1} → statement M
 put-head-spec =
-    tie.close
-    (tie.spec
-    add-bytes
-    add-move-right
-    number-length-requires
-    sub-move-right
-    move-right-requires
-    head-requires
-    add-result
-    same-length
+    tie.close (tie.spec add-bytes add-move-right number-length-requires sub-move-right move-right-requires head-requires add-result same-length
     returns)
