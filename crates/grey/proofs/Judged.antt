@@ -1,8 +1,8 @@
 -- What input and workspace are judged, in document 02's order, and what that means for the way in and the way back.
-use mathlib.Core.Path.{_≡_, refl, ap, ap₂, sym, _∙_, subst}
+use mathlib.Core.Path.{_≡_, refl, ap, sym, _∙_}
 use mathlib.Core.Bool.{Bool, true, false, cond}
 use mathlib.Core.List.{List}
-use Prim.Native.Nat.{ℕ, _*_, _≤_, _<_}
+use Prim.Native.Nat.{ℕ, _^_, _≤_, _<_}
 use native.Mathlib.Omega.{arith}
 use lib.Dec.{leb, eqb}
 use lib.ListN.{length}
@@ -14,28 +14,33 @@ use Rattle.rules.specs.declared.Refusal.the-variants as refusal
 use Rattle.rules.specs.declared.Verdict.{Verdict}
 use Rattle.rules.specs.declared.Verdict.the-variants.{Accepted, Refused}
 use Rattle.rules.specs.Document.Pyramid.{legalSize, area}
-use Rattle.rules.specs.Document.Calls.{Result, refused, accepted, unless, workFor, firstOver}
+use Rattle.rules.specs.Document.Calls.{Result, refused, unless, workFor, firstOver}
+use Rattle.rules.specs.Laws.Family.Sizes.{area-bound}
 use Rattle.pictures.specs.Document.Calls.{mostDecoded}
 use Rattle.grey.specs.Outcomes.{judgedIn, unlessOver, judgedOut, Fits, Printing}
 
-module _ (z : Size) (room work : ℕ) where
-  pub judged-size : legalSize z ≡ false → Refused refusal.Size ≡ judgedIn z room work
-  unfolding judgedIn
-  judged-size a = rw a
+pub area-small : (z : Size) (l : Bool) → l ≡ legalSize z → l ≡ true → area z < 2 ^ 64
+area-small z l found a = omega (arith, area-bound z (sym found ∙ a))
 
-  module _ (a : legalSize z ≡ true) where
+-- The tests, one after the other. l is what was found of the size.
+module _ (z : Size) (room work : ℕ) (l : Bool) (found : l ≡ legalSize z) where
+  pub judged-size : l ≡ false → Refused refusal.Size ≡ judgedIn z room work
+  unfolding judgedIn
+  judged-size a = rw (sym found ∙ a)
+
+  module _ (a : l ≡ true) where
     pub judged-length : (room ≡ area z → ⊥) → Refused refusal.Length ≡ judgedIn z room work
     unfolding judgedIn
-    judged-length b = rw (a, ne-eqb room (area z) b)
+    judged-length b = rw (sym found ∙ a, ne-eqb room (area z) b)
 
-    module _ (b : room ≡ area z) where
-      pub judged-work : work < workFor z → Refused refusal.Work ≡ judgedIn z room work
+    module _ (b : room ≡ area z) (least : ℕ) (c : least ≡ workFor z) where
+      pub judged-work : work < least → Refused refusal.Work ≡ judgedIn z room work
       unfolding judgedIn
-      judged-work c = rw (a, eq-eqb room (area z) b, lt-leb (workFor z) work c)
+      judged-work d = rw (sym found ∙ a, eq-eqb room (area z) b, lt-leb (workFor z) work (omega arith))
 
-      pub judged-fits : workFor z ≤ work → Accepted ≡ judgedIn z room work
+      pub judged-fits : least ≤ work → Accepted ≡ judgedIn z room work
       unfolding judgedIn
-      judged-fits c = rw (a, eq-eqb room (area z) b, le-leb (workFor z) work c)
+      judged-fits d = rw (sym found ∙ a, eq-eqb room (area z) b, le-leb (workFor z) work (omega arith))
 
 -- A verdict in front of a result.
 abbrev pub ruled : {X : Type 0} → Verdict → Result X → Result X

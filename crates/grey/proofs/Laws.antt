@@ -1,18 +1,17 @@
 -- Tones and pixels: what a loop over them has done so far.
-use mathlib.Core.Path.{_≡_, refl, ap, ap₂, sym, _∙_, subst}
+use mathlib.Core.Path.{_≡_, refl, ap, ap₂, sym, _∙_}
 use mathlib.Core.Logic.{_≢_}
 use mathlib.Core.List.{List, [], _∷_, _++_, map, map-append}
 use mathlib.Core.Bool.{Bool, true, false, cond}
-use Prim.Native.Nat.{ℕ, zero, suc, _+_, _-_, _≤_, _<_, min}
+use Prim.Native.Nat.{ℕ, suc, _+_, _-_, _≤_, _<_}
 use native.Mathlib.Nat.{min-eq-left, min-eq-right}
 use native.Mathlib.Decide.{decLt}
 use native.Mathlib.Omega.{arith}
 use lib.Dec.{ltb}
-use lib.ListN.{length, getD, set, take, length-set, length-map, length-take}
+use lib.ListN.{length, getD, set, take, length-map, length-take}
 use native.Mathlib.Numerals.{add-one}
 use lib.Seq.{sets, take-suc, length-take-le, getD-set-same, getD-set-other}
-use lib.IntN.{ℤ, pos, negsuc, subℕ}
-use borrow.Author.Tests.{lt-ltb, le-ltb}
+use lib.IntN.{ℤ}
 use Rattle.pictures.specs.Document.Calls.{clip, outside, clippedIn}
 use Rattle.pictures.specs.Laws.Tones.{bias, toned, sub-below, sub-least}
 use Rattle.grey.specs.Pixels.{counted, numbersIn}

@@ -1,7 +1,7 @@
 -- The way back: the tones of a pyramid's picture are its numbers, and header and pixels written one behind the other are the file.
-use mathlib.Core.Path.{_≡_, refl, ap, ap₂, sym, _∙_, subst}
+use mathlib.Core.Path.{_≡_, refl, ap, ap₂, sym, _∙_}
 use mathlib.Core.Bool.{Bool, true, false}
-use mathlib.Core.List.{List, [], _∷_, _++_, map}
+use mathlib.Core.List.{List, [], _∷_, map}
 use Prim.Native.Nat.{ℕ, zero, suc, _+_, _-_, _≤_, _<_}
 use native.Mathlib.Omega.{arith}
 use native.Mathlib.Decide.{decLe}
@@ -16,8 +16,8 @@ use Rattle.rules.specs.declared.Refusal.the-variants as refusal
 use Rattle.rules.specs.declared.Verdict.{Verdict}
 use Rattle.rules.specs.declared.Verdict.the-variants.{Accepted, Refused}
 use Rattle.rules.specs.Document.Notation.{zeros}
-use Rattle.rules.specs.Document.Pyramid.{legalSize, area, row, column, magnitude}
-use Rattle.rules.specs.Document.Calls.{Result, refused, accepted, unless, firstOver, filled}
+use Rattle.rules.specs.Document.Pyramid.{legalSize, area, row, column}
+use Rattle.rules.specs.Document.Calls.{Result, refused, accepted, unless, filled}
 use Rattle.rules.specs.Laws.Family.Sizes.{legal}
 use Rattle.rules.specs.Promises.Vocabulary.{Legal}
 use Rattle.rules.specs.Laws.Rounding.Planes.{under-first}

@@ -1,12 +1,11 @@
 -- The way in: pixels loaded as tones are the picture's, and what is read, judged and lifted is what document 02 says.
 use mathlib.Core.Path.{_≡_, refl, ap, ap₂, sym, _∙_, subst}
-use mathlib.Core.Bool.{Bool, true, false, cond, true≢false}
+use mathlib.Core.Bool.{Bool, true, false, true≢false}
 use mathlib.Core.List.{List}
-use Prim.Native.Nat.{ℕ, _+_, _-_, _*_, _≤_, _<_, min}
+use Prim.Native.Nat.{ℕ, _+_, _-_, _*_, _≤_, _<_}
 use native.Mathlib.Nat.{mul-comm, min-eq-left}
 use native.Mathlib.Omega.{arith}
 use lib.Arith.{digits-lt}
-use lib.Dec.{leb, eqb}
 use lib.ListN.{length, getD, take, drop, length-drop}
 use lib.Seq.{ext-getD, getD-take, getD-drop}
 use lib.IntN.{ℤ, pos}
@@ -17,7 +16,7 @@ use Rattle.rules.specs.declared.Refusal.the-variants as refusal
 use Rattle.rules.specs.declared.Verdict.{Verdict}
 use Rattle.rules.specs.declared.Verdict.the-variants.{Accepted, Refused}
 use Rattle.rules.specs.Document.Pyramid.{legalSize, area, row, column}
-use Rattle.rules.specs.Document.Calls.{Result, refused, accepted, unless, workFor}
+use Rattle.rules.specs.Document.Calls.{Result, refused, accepted}
 use Rattle.rules.specs.Laws.Family.Sizes.{legal}
 use Rattle.rules.specs.Promises.Vocabulary.{Legal}
 use Rattle.rules.specs.Laws.Offspring.Level.{column-lt, row-lt}
@@ -26,7 +25,7 @@ use Rattle.pictures.specs.declared.Grey.{Grey}
 use Rattle.pictures.specs.declared.Grey.the-variants.{Picture, NotGrey}
 use Rattle.pictures.specs.declared.GreyRead.{GreyRead}
 use Rattle.pictures.specs.Document.Lifting.{Grid, forward, greyOf, pyramidOf}
-use Rattle.pictures.specs.Document.Netpbm.{GreyHeader, noHeader, header, notGrey, picture, pixelsThere, taken, readGrey, readFile, greatestTold, told}
+use Rattle.pictures.specs.Document.Netpbm.{GreyHeader, notGrey, picture, pixelsThere, taken, readGrey, readFile, greatestTold, told}
 use Rattle.pictures.specs.Document.Calls.{GreyPyramid, onPicture, lifted, greyIn, greyInOut, greyInAnswer, GreyIn, greySize, GreySize}
 use Rattle.pictures.specs.Laws.Tones.{bias, toned, sub-least}
 use Rattle.pictures.specs.Laws.Grids.{list-at, pyramid-length}
@@ -112,13 +111,14 @@ told-small : (v : ℕ) → v ≤ greatestTold → told v ≡ v
 unfolding told
 told-small v l = min-eq-left l
 
+sized-told : (w h n : ℕ) → w ≤ greatestTold → h ≤ greatestTold → sized (told w) (told h) n ≡ sized w h n
+sized-told w h n a b = rw (told-small w a, told-small h b)
+
 told-same : (w h n : ℕ) → legalSize (sized (told w) (told h) n) ≡ true → sized (told w) (told h) n ≡ sized w h n
 unfolding told
 told-same w h n e =
     let Z = legal (sized (told w) (told h) n) e in
-    let a : told w ≡ w = told-small w (omega (arith, Z .width .most)) in
-    let b : told h ≡ h = told-small h (omega (arith, Z .height .most)) in
-    λ i. record { w = a i; h = b i; n = n }
+    sized-told w h n (omega (arith, Z .width .most)) (omega (arith, Z .height .most))
 
 judged-told : (w h n room work : ℕ) → judgedIn (sized (told w) (told h) n) room work ≡ judgedIn (sized w h n) room work
 unfolding judgedIn
@@ -127,9 +127,7 @@ judged-told w h n room work = by (legalSize (sized (told w) (told h) n)) refl
     true-size : legalSize (sized w h n) ≡ true → sized (told w) (told h) n ≡ sized w h n
     true-size e =
         let Z = legal (sized w h n) e in
-        let a : told w ≡ w = told-small w (omega (arith, Z .width .most)) in
-        let b : told h ≡ h = told-small h (omega (arith, Z .height .most)) in
-        λ i. record { w = a i; h = b i; n = n }
+        sized-told w h n (omega (arith, Z .width .most)) (omega (arith, Z .height .most))
 
     other : legalSize (sized (told w) (told h) n) ≡ false → (b : Bool) → legalSize (sized w h n) ≡ b
         → judgedIn (sized (told w) (told h) n) room work ≡ judgedIn (sized w h n) room work

@@ -4,7 +4,7 @@ ghost use mathlib.Core.List.{map};
 ghost use mathlib.Core.Bool.{true};
 ghost use Prim.Native.Nat.{_+_, _≤_, _<_};
 ghost use lib.Dec.{leb};
-ghost use lib.ListN.{length, take};
+ghost use lib.ListN.{length};
 ghost use lib.Seq.{sets};
 ghost use Rattle.rules.specs.Document.Notation.{zeros};
 ghost use Rattle.rules.specs.Document.Pyramid.{legalSize, area};
@@ -105,7 +105,7 @@ fn judged_in(z: Size, length: usize, work: usize) -> Verdict
     if length != area {
         return Verdict::Refused(Refusal::Length);
     }
-    if work < 4 * area {
+    if work < shape::work_for(z) {
         return Verdict::Refused(Refusal::Work);
     }
     Verdict::Accepted

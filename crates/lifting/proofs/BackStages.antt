@@ -12,7 +12,7 @@ use lib.IntN.{ℤ, pos, negsuc, natAbs}
 use lib.ListN.{length, getD}
 use lib.Pow.{shr-le}
 use Rattle.rules.specs.declared.Size.{Size}
-use Rattle.rules.specs.Document.Pyramid.{magnitude, mostDecompositions}
+use Rattle.rules.specs.Document.Pyramid.{magnitude}
 use Rattle.rules.specs.Laws.Family.Sizes.{legal, side-some, side-falls}
 use Rattle.rules.specs.Promises.Vocabulary.{Legal}
 use Rattle.pictures.specs.Document.Lifting.{Line, Grid, even, odd, joined, turnBack}

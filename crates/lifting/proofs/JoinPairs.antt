@@ -13,9 +13,8 @@ use Rattle.pictures.specs.Laws.Room.{shallow}
 use Rattle.lifting.specs.declared.Turn.{Turn}
 use Rattle.lifting.specs.Fills.{along, Off, Filled, Both}
 use Rattle.lifting.specs.Lines.{reach, line, Near}
-use Rattle.lifting.specs.Joins.{tonesAt, evenT, oddT, joinedT}
-use Rattle.lifting.specs.Joins.{BackRoom, highsBefore, lowsJoined, lowRow, highRow, ForLowRow, LowRowJoined, ForHighRow, HighRowJoined}
-use Rattle.lifting.specs.Joins.{ForEvenRow, rowEven, ForOddRow, rowOdd, ForJoinPair, pairEven, PairJoined}
+use Rattle.lifting.specs.Joins.{tonesAt, evenT, oddT, joinedT, BackRoom, highsBefore, lowsJoined, lowRow, highRow, LowRowJoined, ForHighRow}
+use Rattle.lifting.specs.Joins.{HighRowJoined, ForEvenRow, rowEven, ForOddRow, rowOdd, ForJoinPair, pairEven, PairJoined}
 use Rattle.lifting.proofs.JoinLines.{evenT-near, joinedT-even, joinedT-odd}
 use Rattle.lifting.proofs.JoinRows.{bands-there, cells-inside, tones-near}
 use Rattle.lifting.proofs.PairLaws.{stands-near}

@@ -11,9 +11,8 @@ use Rattle.pictures.specs.Laws.Room.{shallow, mostBack}
 use Rattle.lifting.specs.declared.Turn.{Turn}
 use Rattle.lifting.specs.Fills.{along, Filled, Both}
 use Rattle.lifting.specs.Lines.{line, Near}
-use Rattle.lifting.specs.Joins.{toneOf, tonesAt, ForLoad, ForJoin, OddAsks, LineJoined}
-use Rattle.lifting.specs.Joins.{BackRoom, lowsJoined, loaded, ForLowRow, LowRowJoined, ForHighRow, HighRowJoined}
-use Rattle.lifting.specs.Joins.{ForEvenRow, rowEven, ForOddRow, rowOdd}
+use Rattle.lifting.specs.Joins.{toneOf, tonesAt, ForLoad, ForJoin, OddAsks, LineJoined, BackRoom, lowsJoined, loaded, ForLowRow, LowRowJoined}
+use Rattle.lifting.specs.Joins.{ForHighRow, HighRowJoined, ForEvenRow, rowEven, ForOddRow, rowOdd}
 use Rattle.lifting.proofs.Filling.{filled-more, both-more}
 use Rattle.lifting.proofs.JoinLines.{EvenAsks, joinedT-same}
 

@@ -87,13 +87,6 @@ module _ {t : Turn} {s₀ : List ℕ} {out₀ : List ℤ} (F : ForTurn t s₀ ou
         most = λ c l. highT-near k (λ q. picture t s₀ q c) shallow (omega arith) (column-near c l) .most r h;
       }
 
-  pub lows-near : (r : ℕ) → r < k → Near (lowsOf t s₀ r) (2 * m) (2 * shallow)
-  lows-near r h =
-      record {
-        least = λ c l. lowT-near k (λ q. picture t s₀ q c) shallow (omega arith) (column-near c l) .least r h;
-        most = λ c l. lowT-near k (λ q. picture t s₀ q c) shallow (omega arith) (column-near c l) .most r h;
-      }
-
   -- the first row of highs
   row-near : (r : ℕ) → r < 2 * k → Near (line s₀ (r * (2 * m))) (2 * m) reach
   row-near r h = weaker reach (F .near r h) (omega arith)

@@ -54,100 +54,104 @@ fn coefficient_of(t: u32) -> i32
 }
 
 // The row of highs of three rows.
-fn high_line(s: &mut [u32], a: usize, b: usize, c: usize, to: usize, w: usize)
-    requires { ⌜ ForHighs (now s) a b c to w ⌝ }
-    ensures { λ _. ⌜ Filled 0 (now (s .entry)) (along to) (rowHigh (now (s .entry)) a b c) w (now (s .exit)) ⌝ }
+fn high_line(work: &mut [u32], a: usize, b: usize, c: usize, to: usize, width: usize)
+    requires { ⌜ ForHighs (now work) a b c to width ⌝ }
+    ensures { λ _. ⌜ Filled 0 (now (work .entry)) (along to) (rowHigh (now (work .entry)) a b c) width (now (work .exit)) ⌝ }
 {
     let mut j = 0;
-    while j < w {
-        let high = tone_high(s[a + j], s[b + j], s[c + j]);
-        s[to + j] = high;
+    while j < width {
+        let high = tone_high(work[a + j], work[b + j], work[c + j]);
+        work[to + j] = high;
         j += 1;
     }
 }
 
 // Of rows a, b and c and the highs before, which stand at d: the lows to e, the highs to d.
-fn lift_rows(s: &mut [u32], a: usize, b: usize, c: usize, d: usize, e: usize, w: usize)
-    requires { ⌜ ForRows (now s) a b c d e w ⌝ }
-    ensures { λ _. ⌜ Both (now (s .entry)) (along e) (rowLow (now (s .entry)) a b c d) (along d) (rowHigh (now (s .entry)) a b c) w (now (s .exit)) ⌝ }
+fn lift_rows(work: &mut [u32], a: usize, b: usize, c: usize, d: usize, e: usize, width: usize)
+    requires { ⌜ ForRows (now work) a b c d e width ⌝ }
+    ensures { λ _.
+        ⌜ Both (now (work .entry)) (along e) (rowLow (now (work .entry)) a b c d) (along d)
+        (rowHigh (now (work .entry)) a b c) width (now (work .exit)) ⌝ }
 {
     let mut j = 0;
-    while j < w {
-        let even = s[a + j];
-        let high = tone_high(even, s[b + j], s[c + j]);
-        let low = tone_low(even, s[d + j], high);
-        s[e + j] = low;
-        s[d + j] = high;
+    while j < width {
+        let even = work[a + j];
+        let high = tone_high(even, work[b + j], work[c + j]);
+        let low = tone_low(even, work[d + j], high);
+        work[e + j] = low;
+        work[d + j] = high;
         j += 1;
     }
 }
 
 // The line of 2m numbers at x, with one more behind it, split: its lows and its highs.
-fn split_line(s: &mut [u32], x: usize, lows: usize, highs: usize, m: usize)
-    requires { ⌜ ForSplit (now s) x lows highs m ⌝ }
-    ensures { λ _. ⌜ Both (now (s .entry)) (along lows) (lowOf (line (now (s .entry)) x)) (along highs) (highOf (line (now (s .entry)) x)) m (now (s .exit)) ⌝ }
+fn split_line(work: &mut [u32], x: usize, lows: usize, highs: usize, m: usize)
+    requires { ⌜ ForSplit (now work) x lows highs m ⌝ }
+    ensures { λ _.
+        ⌜ Both (now (work .entry)) (along lows) (lowOf (line (now (work .entry)) x)) (along highs)
+        (highOf (line (now (work .entry)) x)) m (now (work .exit)) ⌝ }
 {
-    let mut before = tone_high(s[x], s[x + 1], s[x + 2]);
+    let mut before = tone_high(work[x], work[x + 1], work[x + 2]);
     let mut j = 0;
     while j < m {
-        let even = s[x + 2 * j];
-        let high = tone_high(even, s[x + (2 * j + 1)], s[x + (2 * j + 2)]);
+        let even = work[x + 2 * j];
+        let high = tone_high(even, work[x + (2 * j + 1)], work[x + (2 * j + 2)]);
         let low = tone_low(even, before, high);
-        s[lows + j] = low;
-        s[highs + j] = high;
+        work[lows + j] = low;
+        work[highs + j] = high;
         before = high;
         j += 1;
     }
 }
 
 // Symmetric extension: behind the line the last but one again.
-fn mirror(s: &mut [u32], x: usize, w: usize)
-    requires { ⌜ (2 ≤ w) × (x + w < length (now s)) ⌝ }
-    ensures { λ _. ⌜ now (s .exit) ≡ set (now (s .entry)) (x + w) (getD (now (s .entry)) (x + (w - 2)) 0) ⌝ }
+fn mirror(work: &mut [u32], x: usize, width: usize)
+    requires { ⌜ (2 ≤ width) × (x + width < length (now work)) ⌝ }
+    ensures { λ _. ⌜ now (work .exit) ≡ set (now (work .entry)) (x + width) (getD (now (work .entry)) (x + (width - 2)) 0) ⌝ }
 {
-    let v = s[x + (w - 2)];
-    s[x + w] = v;
+    let v = work[x + (width - 2)];
+    work[x + width] = v;
 }
 
-fn store_line(s: &[u32], from: usize, out: &mut [i32], at: usize, count: usize)
-    requires { ⌜ ForStore (now s) from (now out) at count ⌝ }
-    ensures { λ _. ⌜ Filled (pos 0) (now (out .entry)) (along at) (λ c. toned (line (now (s .entry)) from c)) count (now (out .exit)) ⌝ }
+fn store_line(work: &[u32], from: usize, out: &mut [i32], at: usize, count: usize)
+    requires { ⌜ ForStore (now work) from (now out) at count ⌝ }
+    ensures { λ _. ⌜ Filled (pos 0) (now (out .entry)) (along at) (λ c. toned (line (now (work .entry)) from c)) count (now (out .exit)) ⌝ }
 {
     let mut j = 0;
     while j < count {
-        let v = coefficient_of(s[from + j]);
+        let v = coefficient_of(work[from + j]);
         out[at + j] = v;
         j += 1;
     }
 }
 
 // The row of lows: its lows are the next picture's, its highs the pyramid's.
-fn split_low_row(t: Turn, s: &mut [u32], out: &mut [i32], i: usize)
-    requires { ⌜ ForRow t (now s) (now out) i (lowsAt t) ⌝ }
-    ensures { λ _. ⌜ LowRow t (now (s .entry)) (now (out .entry)) i (now (s .exit)) (now (out .exit)) ⌝ }
+fn split_low_row(turn: Turn, work: &mut [u32], out: &mut [i32], i: usize)
+    requires { ⌜ ForRow turn (now work) (now out) i (lowsAt turn) ⌝ }
+    ensures { λ _. ⌜ LowRow turn (now (work .entry)) (now (out .entry)) i (now (work .exit)) (now (out .exit)) ⌝ }
 {
-    let m = t.half;
+    let m = turn.half;
     let row = i * m;
-    let at = i * t.stride + m;
-    let x = t.lines + (2 * m + 1);
-    let spare = t.lines + (4 * m + 2);
-    mirror(s, x, 2 * m);
-    split_line(s, x, row, spare, m);
-    store_line(s, spare, out, at, m);
+    let at = i * turn.stride + m;
+    let x = turn.lines + (2 * m + 1);
+    let spare = turn.lines + (4 * m + 2);
+    mirror(work, x, 2 * m);
+    split_line(work, x, row, spare, m);
+    store_line(work, spare, out, at, m);
 }
 
 // The row of highs: all of it is the pyramid's.
-fn split_high_row(t: Turn, s: &mut [u32], out: &mut [i32], i: usize)
-    requires { ⌜ ForRow t (now s) (now out) i (t .lines) ⌝ }
-    ensures { λ _. ⌜ HighRow t (now (s .entry)) (now (out .entry)) i (now (s .exit)) (now (out .exit)) ⌝ }
+fn split_high_row(turn: Turn, work: &mut [u32], out: &mut [i32], i: usize)
+    requires { ⌜ ForRow turn (now work) (now out) i (turn .lines) ⌝ }
+    ensures { λ _. ⌜ HighRow turn (now (work .entry)) (now (out .entry)) i (now (work .exit)) (now (out .exit)) ⌝ }
 {
-    let m = t.half;
-    let at = (t.pairs + i) * t.stride;
-    let x = t.lines;
+    let m = turn.half;
+    let at = (turn.pairs + i) * turn.stride;
+    let x = turn.lines;
     let spare = x + (4 * m + 2);
-    mirror(s, x, 2 * m);
-    split_line(s, x, spare, spare + m, m);
-    store_line(s, spare, out, at, 2 * m);
+    mirror(work, x, 2 * m);
+    split_line(work, x, spare, spare + m, m);
+    store_line(work, spare, out, at, 2 * m);
 }
 
 // The even row after pair i; behind the last one it is that pair's own.
@@ -162,29 +166,29 @@ fn pair_after(i: usize, pairs: usize) -> usize
 }
 
 // Rows 2i and 2i + 1 of the picture, with the highs before.
-fn split_pair(t: Turn, s: &mut [u32], out: &mut [i32], i: usize)
-    requires { ⌜ ForPair t (now s) (now out) i ⌝ }
-    ensures { λ _. ⌜ Pair t (now (s .entry)) (now (out .entry)) i (now (s .exit)) (now (out .exit)) ⌝ }
+fn split_pair(turn: Turn, work: &mut [u32], out: &mut [i32], i: usize)
+    requires { ⌜ ForPair turn (now work) (now out) i ⌝ }
+    ensures { λ _. ⌜ Pair turn (now (work .entry)) (now (out .entry)) i (now (work .exit)) (now (out .exit)) ⌝ }
 {
-    let w = 2 * t.half;
+    let w = 2 * turn.half;
     let a = 2 * i * w;
-    let c = 2 * pair_after(i, t.pairs) * w;
-    lift_rows(s, a, a + w, c, t.lines, t.lines + (w + 1), w);
-    split_low_row(t, s, out, i);
-    split_high_row(t, s, out, i);
+    let c = 2 * pair_after(i, turn.pairs) * w;
+    lift_rows(work, a, a + w, c, turn.lines, turn.lines + (w + 1), w);
+    split_low_row(turn, work, out, i);
+    split_high_row(turn, work, out, i);
 }
 
 // One turn: the picture's block before it, at the start of the workspace, becomes the next picture there, and the three bands in the pyramid.
-fn split_turn(t: Turn, s: &mut [u32], out: &mut [i32])
-    requires { ⌜ ForTurn t (now s) (now out) ⌝ }
-    ensures { λ _. ⌜ TurnSplit t (now (s .entry)) (now (out .entry)) (now (s .exit)) (now (out .exit)) ⌝ }
+fn split_turn(turn: Turn, work: &mut [u32], out: &mut [i32])
+    requires { ⌜ ForTurn turn (now work) (now out) ⌝ }
+    ensures { λ _. ⌜ TurnSplit turn (now (work .entry)) (now (out .entry)) (now (work .exit)) (now (out .exit)) ⌝ }
 {
-    let w = 2 * t.half;
-    let c = 2 * pair_after(0, t.pairs) * w;
-    high_line(s, 0, w, c, t.lines, w);
+    let w = 2 * turn.half;
+    let c = 2 * pair_after(0, turn.pairs) * w;
+    high_line(work, 0, w, c, turn.lines, w);
     let mut i = 0;
-    while i < t.pairs {
-        split_pair(t, s, out, i);
+    while i < turn.pairs {
+        split_pair(turn, work, out, i);
         i += 1;
     }
 }
@@ -202,13 +206,13 @@ fn turn_of(z: Size, l: usize) -> Turn
 }
 
 // What is left of the picture after the last turn is the LL band.
-fn store_block(s: &[u32], out: &mut [i32], h: usize, w: usize, stride: usize)
-    requires { ⌜ ForBlock (now s) (now out) h w stride ⌝ }
-    ensures { λ _. ⌜ BlockStored (now (s .entry)) (now (out .entry)) h w stride (now (out .exit)) ⌝ }
+fn store_block(work: &[u32], out: &mut [i32], height: usize, width: usize, stride: usize)
+    requires { ⌜ ForBlock (now work) (now out) height width stride ⌝ }
+    ensures { λ _. ⌜ BlockStored (now (work .entry)) (now (out .entry)) height width stride (now (out .exit)) ⌝ }
 {
     let mut i = 0;
-    while i < h {
-        store_line(s, i * w, out, i * stride, w);
+    while i < height {
+        store_line(work, i * width, out, i * stride, width);
         i += 1;
     }
 }
@@ -246,105 +250,109 @@ fn tone_of(v: i32) -> u32
     (v + SIGNED_BIAS) as u32
 }
 
-fn load_line(pyramid: &[i32], at: usize, s: &mut [u32], to: usize, count: usize)
-    requires { ⌜ ForLoad (now pyramid) at (now s) to count ⌝ }
-    ensures { λ _. ⌜ Filled 0 (now (s .entry)) (along to) (tonesAt (now (pyramid .entry)) at) count (now (s .exit)) ⌝ }
+fn load_line(pyramid: &[i32], at: usize, work: &mut [u32], to: usize, count: usize)
+    requires { ⌜ ForLoad (now pyramid) at (now work) to count ⌝ }
+    ensures { λ _. ⌜ Filled 0 (now (work .entry)) (along to) (tonesAt (now (pyramid .entry)) at) count (now (work .exit)) ⌝ }
 {
     let mut j = 0;
     while j < count {
         let t = tone_of(pyramid[at + j]);
-        s[to + j] = t;
+        work[to + j] = t;
         j += 1;
     }
 }
 
 // Of m lows and m highs the even numbers of the line at `to`.
-fn even_line(s: &mut [u32], lows: usize, highs: usize, to: usize, m: usize)
-    requires { ⌜ ForJoin (now s) lows highs to m ⌝ }
-    ensures { λ _. ⌜ Filled 0 (now (s .entry)) (λ c. to + 2 * c) (evenT (line (now (s .entry)) lows) (line (now (s .entry)) highs)) m (now (s .exit)) ⌝ }
+fn even_line(work: &mut [u32], lows: usize, highs: usize, to: usize, m: usize)
+    requires { ⌜ ForJoin (now work) lows highs to m ⌝ }
+    ensures { λ _.
+        ⌜ Filled 0 (now (work .entry)) (λ c. to + 2 * c)
+        (evenT (line (now (work .entry)) lows) (line (now (work .entry)) highs)) m (now (work .exit)) ⌝ }
 {
-    let mut before = s[highs];
+    let mut before = work[highs];
     let mut j = 0;
     while j < m {
-        let high = s[highs + j];
-        let even = tone_even(s[lows + j], before, high);
-        s[to + 2 * j] = even;
+        let high = work[highs + j];
+        let even = tone_even(work[lows + j], before, high);
+        work[to + 2 * j] = even;
         before = high;
         j += 1;
     }
 }
 
 // And of its even numbers, mirrored, and the highs the odd ones.
-fn odd_line(s: &mut [u32], highs: usize, to: usize, m: usize)
-    requires { ⌜ ForOdds (now s) highs to m ⌝ }
-    ensures { λ _. ⌜ Filled 0 (now (s .entry)) (λ c. to + (2 * c + 1)) (between (now (s .entry)) highs to) m (now (s .exit)) ⌝ }
+fn odd_line(work: &mut [u32], highs: usize, to: usize, m: usize)
+    requires { ⌜ ForOdds (now work) highs to m ⌝ }
+    ensures { λ _. ⌜ Filled 0 (now (work .entry)) (λ c. to + (2 * c + 1)) (between (now (work .entry)) highs to) m (now (work .exit)) ⌝ }
 {
     let mut j = 0;
     while j < m {
-        let odd = tone_odd(s[highs + j], s[to + 2 * j], s[to + (2 * j + 2)]);
-        s[to + (2 * j + 1)] = odd;
+        let odd = tone_odd(work[highs + j], work[to + 2 * j], work[to + (2 * j + 2)]);
+        work[to + (2 * j + 1)] = odd;
         j += 1;
     }
 }
 
-fn join_line(s: &mut [u32], lows: usize, highs: usize, to: usize, m: usize)
-    requires { ⌜ ForJoin (now s) lows highs to m ⌝ }
-    ensures { λ _. ⌜ LineJoined (now (s .entry)) lows highs to m (now (s .exit)) ⌝ }
+fn join_line(work: &mut [u32], lows: usize, highs: usize, to: usize, m: usize)
+    requires { ⌜ ForJoin (now work) lows highs to m ⌝ }
+    ensures { λ _. ⌜ LineJoined (now (work .entry)) lows highs to m (now (work .exit)) ⌝ }
 {
-    even_line(s, lows, highs, to, m);
-    mirror(s, to, 2 * m);
-    odd_line(s, highs, to, m);
+    even_line(work, lows, highs, to, m);
+    mirror(work, to, 2 * m);
+    odd_line(work, highs, to, m);
 }
 
 // The row of lows: its lows are of the picture, its highs of the pyramid.
-fn join_low_row(t: Turn, pyramid: &[i32], s: &mut [u32], i: usize)
-    requires { ⌜ ForLowRow t (now pyramid) (now s) i ⌝ }
-    ensures { λ _. ⌜ LowRowJoined t (now (pyramid .entry)) (now (s .entry)) i (now (s .exit)) ⌝ }
+fn join_low_row(turn: Turn, pyramid: &[i32], work: &mut [u32], i: usize)
+    requires { ⌜ ForLowRow turn (now pyramid) (now work) i ⌝ }
+    ensures { λ _. ⌜ LowRowJoined turn (now (pyramid .entry)) (now (work .entry)) i (now (work .exit)) ⌝ }
 {
-    let m = t.half;
+    let m = turn.half;
     let row = i * m;
-    let at = i * t.stride + m;
-    let to = t.lines + (4 * m + 2);
-    let spare = t.lines + (6 * m + 3);
-    load_line(pyramid, at, s, spare, m);
-    join_line(s, row, spare, to, m);
+    let at = i * turn.stride + m;
+    let to = turn.lines + (4 * m + 2);
+    let spare = turn.lines + (6 * m + 3);
+    load_line(pyramid, at, work, spare, m);
+    join_line(work, row, spare, to, m);
 }
 
 // The row of highs: all of it is of the pyramid.
-fn join_high_row(t: Turn, pyramid: &[i32], s: &mut [u32], i: usize, to: usize)
-    requires { ⌜ ForHighRow t (now pyramid) (now s) i to ⌝ }
-    ensures { λ _. ⌜ HighRowJoined t (now (pyramid .entry)) (now (s .entry)) i to (now (s .exit)) ⌝ }
+fn join_high_row(turn: Turn, pyramid: &[i32], work: &mut [u32], i: usize, to: usize)
+    requires { ⌜ ForHighRow turn (now pyramid) (now work) i to ⌝ }
+    ensures { λ _. ⌜ HighRowJoined turn (now (pyramid .entry)) (now (work .entry)) i to (now (work .exit)) ⌝ }
 {
-    let m = t.half;
-    let at = (t.pairs + i) * t.stride;
-    let spare = t.lines + (6 * m + 3);
-    load_line(pyramid, at, s, spare, 2 * m);
-    join_line(s, spare, spare + m, to, m);
+    let m = turn.half;
+    let at = (turn.pairs + i) * turn.stride;
+    let spare = turn.lines + (6 * m + 3);
+    load_line(pyramid, at, work, spare, 2 * m);
+    join_line(work, spare, spare + m, to, m);
 }
 
-fn even_rows(s: &mut [u32], e: usize, p: usize, d: usize, to: usize, w: usize)
-    requires { ⌜ ForEvenRow (now s) e p d to w ⌝ }
-    ensures { λ _. ⌜ Filled 0 (now (s .entry)) (along to) (rowEven (now (s .entry)) e p d) w (now (s .exit)) ⌝ }
+fn even_rows(work: &mut [u32], e: usize, p: usize, d: usize, to: usize, width: usize)
+    requires { ⌜ ForEvenRow (now work) e p d to width ⌝ }
+    ensures { λ _. ⌜ Filled 0 (now (work .entry)) (along to) (rowEven (now (work .entry)) e p d) width (now (work .exit)) ⌝ }
 {
     let mut j = 0;
-    while j < w {
-        let even = tone_even(s[e + j], s[p + j], s[d + j]);
-        s[to + j] = even;
+    while j < width {
+        let even = tone_even(work[e + j], work[p + j], work[d + j]);
+        work[to + j] = even;
         j += 1;
     }
 }
 
 // The odd row behind the even one at `to`; the highs before, at p, become the highs at d.
-fn odd_rows(s: &mut [u32], d: usize, p: usize, next: usize, to: usize, w: usize)
-    requires { ⌜ ForOddRow (now s) d p next to w ⌝ }
-    ensures { λ _. ⌜ Both (now (s .entry)) (along (to + w)) (rowOdd (now (s .entry)) d to next) (along d) (line (now (s .entry)) p) w (now (s .exit)) ⌝ }
+fn odd_rows(work: &mut [u32], d: usize, p: usize, next: usize, to: usize, width: usize)
+    requires { ⌜ ForOddRow (now work) d p next to width ⌝ }
+    ensures { λ _.
+        ⌜ Both (now (work .entry)) (along (to + width)) (rowOdd (now (work .entry)) d to next) (along d)
+        (line (now (work .entry)) p) width (now (work .exit)) ⌝ }
 {
     let mut j = 0;
-    while j < w {
-        let odd = tone_odd(s[d + j], s[to + j], s[next + j]);
-        let before = s[p + j];
-        s[to + w + j] = odd;
-        s[d + j] = before;
+    while j < width {
+        let odd = tone_odd(work[d + j], work[to + j], work[next + j]);
+        let before = work[p + j];
+        work[to + width + j] = odd;
+        work[d + j] = before;
         j += 1;
     }
 }
@@ -359,47 +367,47 @@ fn pair_before(i: usize) -> usize
 }
 
 // Rows 2i and 2i + 1 of the picture, whose own row of highs stands in its line; then the one before stands there.
-fn join_pair(t: Turn, pyramid: &[i32], s: &mut [u32], i: usize)
-    requires { ⌜ ForJoinPair t (now pyramid) (now s) i ⌝ }
-    ensures { λ _. ⌜ PairJoined t (now (pyramid .entry)) (now (s .entry)) i (now (s .exit)) ⌝ }
+fn join_pair(turn: Turn, pyramid: &[i32], work: &mut [u32], i: usize)
+    requires { ⌜ ForJoinPair turn (now pyramid) (now work) i ⌝ }
+    ensures { λ _. ⌜ PairJoined turn (now (pyramid .entry)) (now (work .entry)) i (now (work .exit)) ⌝ }
 {
-    let w = 2 * t.half;
+    let w = 2 * turn.half;
     let to = 2 * i * w;
-    let next = 2 * pair_after(i, t.pairs) * w;
+    let next = 2 * pair_after(i, turn.pairs) * w;
     let before = pair_before(i);
-    let d = t.lines;
+    let d = turn.lines;
     let p = d + (w + 1);
-    let e = d + (4 * t.half + 2);
-    join_low_row(t, pyramid, s, i);
-    join_high_row(t, pyramid, s, before, p);
-    even_rows(s, e, p, d, to, w);
-    odd_rows(s, d, p, next, to, w);
+    let e = d + (4 * turn.half + 2);
+    join_low_row(turn, pyramid, work, i);
+    join_high_row(turn, pyramid, work, before, p);
+    even_rows(work, e, p, d, to, w);
+    odd_rows(work, d, p, next, to, w);
 }
 
 // One turn back: the last pair of rows first, so that what is still to be read lies before what is written.
-fn join_turn(t: Turn, pyramid: &[i32], s: &mut [u32])
-    requires { ⌜ ForJoinTurn t (now pyramid) (now s) ⌝ }
-    ensures { λ _. ⌜ TurnJoined t (now (pyramid .entry)) (now (s .entry)) (now (s .exit)) ⌝ }
+fn join_turn(turn: Turn, pyramid: &[i32], work: &mut [u32])
+    requires { ⌜ ForJoinTurn turn (now pyramid) (now work) ⌝ }
+    ensures { λ _. ⌜ TurnJoined turn (now (pyramid .entry)) (now (work .entry)) (now (work .exit)) ⌝ }
 {
-    let last = t.pairs - 1;
-    join_high_row(t, pyramid, s, last, t.lines);
-    let mut i = t.pairs;
+    let last = turn.pairs - 1;
+    join_high_row(turn, pyramid, work, last, turn.lines);
+    let mut i = turn.pairs;
     while 0 < i {
         i -= 1;
-        join_pair(t, pyramid, s, i);
+        join_pair(turn, pyramid, work, i);
     }
 }
 
 // The LL band is what the way back starts from.
-fn load_block(pyramid: &[i32], s: &mut [u32], h: usize, w: usize, stride: usize)
-    requires { ⌜ ForBlockLoad (now pyramid) (now s) h w stride ⌝ }
-    ensures { λ _. ⌜ BlockLoaded (now (pyramid .entry)) (now (s .entry)) h w stride (now (s .exit)) ⌝ }
+fn load_block(pyramid: &[i32], work: &mut [u32], height: usize, width: usize, stride: usize)
+    requires { ⌜ ForBlockLoad (now pyramid) (now work) height width stride ⌝ }
+    ensures { λ _. ⌜ BlockLoaded (now (pyramid .entry)) (now (work .entry)) height width stride (now (work .exit)) ⌝ }
 {
     let mut i = 0;
-    while i < h {
+    while i < height {
         let from = i * stride;
-        let to = i * w;
-        load_line(pyramid, from, s, to, w);
+        let to = i * width;
+        load_line(pyramid, from, work, to, width);
         i += 1;
     }
 }

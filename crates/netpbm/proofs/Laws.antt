@@ -1,8 +1,8 @@
 -- Reading by places: what is left to pass over, or to read, from here on is what was left at entry.
 use mathlib.Core.Path.{_≡_, refl, ap, sym, _∙_, subst}
-use mathlib.Core.List.{List, [], _∷_, _++_}
-use mathlib.Core.Bool.{Bool, true, false, cond, not, _&&_, _||_, true≢false}
-use Prim.Native.Nat.{ℕ, zero, suc, _+_, _-_, _*_, _/_, _≤_, _<_, min}
+use mathlib.Core.List.{List, [], _∷_}
+use mathlib.Core.Bool.{Bool, true, false, cond, not, true≢false, and-false}
+use Prim.Native.Nat.{ℕ, zero, suc, _+_, _-_, _*_, _/_, _≤_, _<_}
 use native.Mathlib.Nat.{le-div-iff-mul-le, mul-le-mul, mul-comm}
 use native.Mathlib.Numerals.{add-one}
 use native.Mathlib.Omega.{arith}
@@ -10,13 +10,12 @@ use native.Mathlib.Decide.{decLe}
 use lib.Dec.{leb, eqb}
 use lib.ListN.{length, getD, drop, drop-of-length-le, List·getD-eq-default}
 use lib.Seq.{drop-cons, drop-drop}
-use borrow.Author.Tests.{leb-true, leb-false, le-leb, lt-leb, eqb-true, eq-eqb, ne-eqb}
+use borrow.Author.Tests.{leb-true, leb-false, le-leb, lt-leb, eq-eqb, ne-eqb}
 use Rattle.rules.specs.Laws.Counting.Booleans.{clash, both-left, both-right, same-test}
 use Rattle.pictures.specs.declared.Grey.{Grey}
 use Rattle.pictures.specs.declared.Grey.the-variants.{Picture, NotGrey}
-use Rattle.pictures.specs.Document.Netpbm.{lineEnd, blank, hash, gapByte, digit, begins, afterComment, afterBlanks, afterGap, number, GreyHeader}
-use Rattle.pictures.specs.Document.Netpbm.{noHeader, header}
-use Rattle.pictures.specs.Document.Netpbm.{isP5, onMagic, onNumber, lastBlank, onEnd, greatestPixel, readGrey, greatestTold, told}
+use Rattle.pictures.specs.Document.Netpbm.{lineEnd, blank, hash, gapByte, digit, begins, afterComment, afterBlanks, afterGap, number, GreyHeader, noHeader}
+use Rattle.pictures.specs.Document.Netpbm.{header, isP5, onMagic, onNumber, lastBlank, onEnd, greatestPixel, readGrey, greatestTold, told}
 use Rattle.pictures.specs.Laws.GreyCauses.{no-more}
 use Rattle.pictures.specs.Laws.GreyCauses.Gap.{a-blank}
 use Rattle.pictures.specs.Laws.GreyCases.{end-blank, gap-passed}
@@ -234,10 +233,6 @@ no-digit-byte = refl
 no-blank-byte : blank 0 ≡ false
 unfolding blank lineEnd
 no-blank-byte = refl
-
-and-false : (a : Bool) → a && false ≡ false
-and-false true = refl
-and-false false = refl
 
 -- A field.
 module _ (s : List ℕ) (at : ℕ) where

@@ -1,6 +1,6 @@
 -- Bytes written from a place on: what would fall past the end of the slice is left out, and the place after them is answered all the same.
 use mathlib.Core.Path.{_≡_}
-use mathlib.Core.List.{List, [], _∷_, _++_}
+use mathlib.Core.List.{List, _∷_, _++_}
 use Prim.Native.Nat.{ℕ, _+_, _≤_}
 use lib.ListN.{length}
 use lib.Seq.{sets}

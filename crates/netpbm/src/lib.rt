@@ -25,10 +25,10 @@ pub enum Field {
 }
 
 // Past the end of the file it is 0, which no header has.
-fn byte_at(s: &[u8], at: usize) -> u8
-    ensures { λ r. ⌜ r ≡ getD (now (s .entry)) at 0 ⌝ }
+fn byte_at(file: &[u8], at: usize) -> u8
+    ensures { λ r. ⌜ r ≡ getD (now (file .entry)) at 0 ⌝ }
 {
-    if at < s.len() { s[at] } else { 0 }
+    if at < file.len() { file[at] } else { 0 }
 }
 
 fn is_line_end(b: u8) -> bool
@@ -58,24 +58,24 @@ fn is_digit(b: u8) -> bool
     if b < 48 { false } else { b <= 57 }
 }
 
-fn is_p5(s: &[u8]) -> bool
-    ensures { λ r. ⌜ r ≡ isP5 (now (s .entry)) ⌝ }
+fn is_p5(file: &[u8]) -> bool
+    ensures { λ r. ⌜ r ≡ isP5 (now (file .entry)) ⌝ }
 {
-    if byte_at(s, 0) == 80 {
-        byte_at(s, 1) == 53
+    if byte_at(file, 0) == 80 {
+        byte_at(file, 1) == 53
     } else {
         false
     }
 }
 
 // From inside a comment to the line end behind it.
-fn past_comment(s: &[u8], at: usize) -> usize
-    requires { ⌜ at ≤ length (now s) ⌝ }
-    ensures { λ r. ⌜ Moved (now (s .entry)) at r (afterComment (drop at (now (s .entry)))) ⌝ }
+fn past_comment(file: &[u8], at: usize) -> usize
+    requires { ⌜ at ≤ length (now file) ⌝ }
+    ensures { λ r. ⌜ Moved (now (file .entry)) at r (afterComment (drop at (now (file .entry)))) ⌝ }
 {
     let mut i = at;
-    while i < s.len() {
-        if is_line_end(s[i]) {
+    while i < file.len() {
+        if is_line_end(file[i]) {
             return i;
         }
         i += 1;
@@ -84,19 +84,19 @@ fn past_comment(s: &[u8], at: usize) -> usize
 }
 
 // Past all blanks and comments.
-fn past_gap(s: &[u8], at: usize) -> usize
-    requires { ⌜ at ≤ length (now s) ⌝ }
-    ensures { λ r. ⌜ Moved (now (s .entry)) at r (afterGap (drop at (now (s .entry)))) ⌝ }
+fn past_gap(file: &[u8], at: usize) -> usize
+    requires { ⌜ at ≤ length (now file) ⌝ }
+    ensures { λ r. ⌜ Moved (now (file .entry)) at r (afterGap (drop at (now (file .entry)))) ⌝ }
 {
     let mut i = at;
-    while i < s.len() {
-        let b = s[i];
+    while i < file.len() {
+        let b = file[i];
         if !in_gap(b) {
             return i;
         }
         i += 1;
         if b == 35 {
-            i = past_comment(s, i);
+            i = past_comment(file, i);
         }
     }
     i
@@ -121,14 +121,14 @@ fn digit_of(b: u8) -> usize
     (b - 48) as usize
 }
 
-fn read_digits(s: &[u8], at: usize) -> Digits
-    requires { ⌜ at ≤ length (now s) ⌝ }
-    ensures { λ r. ⌜ DigitsAt (now (s .entry)) at r ⌝ }
+fn read_digits(file: &[u8], at: usize) -> Digits
+    requires { ⌜ at ≤ length (now file) ⌝ }
+    ensures { λ r. ⌜ DigitsAt (now (file .entry)) at r ⌝ }
 {
     let mut i = at;
     let mut value = 0;
-    while i < s.len() {
-        let b = s[i];
+    while i < file.len() {
+        let b = file[i];
         if !is_digit(b) {
             return Digits { value, end: i };
         }
@@ -139,28 +139,28 @@ fn read_digits(s: &[u8], at: usize) -> Digits
 }
 
 // A gap and a number behind it.
-fn read_field(s: &[u8], at: usize) -> Field
-    requires { ⌜ at ≤ length (now s) ⌝ }
-    ensures { λ r. ⌜ FieldAt (now (s .entry)) at r ⌝ }
+fn read_field(file: &[u8], at: usize) -> Field
+    requires { ⌜ at ≤ length (now file) ⌝ }
+    ensures { λ r. ⌜ FieldAt (now (file .entry)) at r ⌝ }
 {
-    if !in_gap(byte_at(s, at)) {
+    if !in_gap(byte_at(file, at)) {
         return Field::Missing;
     }
-    let from = past_gap(s, at);
-    if !is_digit(byte_at(s, from)) {
+    let from = past_gap(file, at);
+    if !is_digit(byte_at(file, from)) {
         return Field::Missing;
     }
-    let d = read_digits(s, from);
+    let d = read_digits(file, from);
     Field::Number(d.value, d.end)
 }
 
 // To the one blank behind the maxval: past a comment that stands there.
-fn last_blank(s: &[u8], at: usize) -> usize
-    requires { ⌜ at ≤ length (now s) ⌝ }
-    ensures { λ r. ⌜ Moved (now (s .entry)) at r (lastBlank (drop at (now (s .entry)))) ⌝ }
+fn last_blank(file: &[u8], at: usize) -> usize
+    requires { ⌜ at ≤ length (now file) ⌝ }
+    ensures { λ r. ⌜ Moved (now (file .entry)) at r (lastBlank (drop at (now (file .entry)))) ⌝ }
 {
-    if byte_at(s, at) == 35 {
-        past_comment(s, at)
+    if byte_at(file, at) == 35 {
+        past_comment(file, at)
     } else {
         at
     }

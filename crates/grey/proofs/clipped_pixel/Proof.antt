@@ -3,8 +3,6 @@ use Rattle.grey.proofs.Laws.{clip-under, clip-over, clip-between}
 use borrow.Author.Needs.{needs}
 use Rattle.grey.proofs.clipped_pixel.Statement.{statement}
 use Rattle.grey.proofs.clipped_pixel.Tie as tie
-use Rattle.grey.proofs.clipped_pixel.Reads as reads
-use Rattle.grey.proofs.clipped_pixel.Lts as lts
 
 returns : tie.Need-returns
 returns c = clip-under _ (c .if1 .taken)

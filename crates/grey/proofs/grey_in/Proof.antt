@@ -3,12 +3,6 @@ use Rattle.grey.proofs.Taking.{in-none, in-refused, in-lifting, in-lift
 use borrow.Author.Needs.{needs}
 use Rattle.grey.proofs.grey_in.Statement.{statement}
 use Rattle.grey.proofs.grey_in.Tie as tie
-use Rattle.grey.proofs.grey_in.Reads as reads
-use Rattle.grey.proofs.grey_in.Lts as lts
-use Rattle.grey.proofs.judged_in.Reads as judged-in-reads
-use Rattle.grey.proofs.lift.Reads as lift-reads
-use Rattle.grey.proofs.refuse_in.Reads as refuse-in-reads
-use Rattle.netpbm.proofs.read_grey.Reads as read-grey-reads
 
 read-grey-requires : tie.Need-read-grey-requires
 read-grey-requires c κs = search needs
@@ -66,23 +60,5 @@ returns-3 c = search (needs, in-lifted)
 
 pub grey-in-spec : {M : Type 1} → statement M
 grey-in-spec =
-    tie.close
-    (tie.spec
-    read-grey-requires
-    enum-known-w
-    enum-told
-    refuse-in-requires
-    same-length
-    same-length-2
-    returns
-    judged-in-requires
-    enum-known-verdict
-    refuse-in-requires-2
-    enum-told-2
-    lift-requires
-    same-length-3
-    same-length-4
-    returns-2
-    same-length-5
-    same-length-6
-    returns-3)
+    tie.close (tie.spec read-grey-requires enum-known-w enum-told refuse-in-requires same-length same-length-2 returns judged-in-requires
+    enum-known-verdict refuse-in-requires-2 enum-told-2 lift-requires same-length-3 same-length-4 returns-2 same-length-5 same-length-6 returns-3)

@@ -3,11 +3,6 @@ use Rattle.grey.proofs.Printing.{out-printing, out-refused, out-printed
 use borrow.Author.Needs.{needs}
 use Rattle.grey.proofs.grey_out.Statement.{statement}
 use Rattle.grey.proofs.grey_out.Tie as tie
-use Rattle.grey.proofs.grey_out.Reads as reads
-use Rattle.grey.proofs.grey_out.Lts as lts
-use Rattle.grey.proofs.judged_out.Reads as judged-out-reads
-use Rattle.grey.proofs.print.Reads as print-reads
-use Rattle.grey.proofs.refuse_out.Reads as refuse-out-reads
 
 judged-out-requires : tie.Need-judged-out-requires
 judged-out-requires c κs = search needs
@@ -44,16 +39,5 @@ returns-2 c = search (needs, out-printed)
 
 pub grey-out-spec : {M : Type 1} → statement M
 grey-out-spec =
-    tie.close
-    (tie.spec
-    judged-out-requires
-    enum-known-verdict
-    refuse-out-requires
-    enum-told
-    print-requires
-    same-length
-    same-length-2
-    returns
-    same-length-3
-    same-length-4
-    returns-2)
+    tie.close (tie.spec judged-out-requires enum-known-verdict refuse-out-requires enum-told print-requires same-length same-length-2 returns
+    same-length-3 same-length-4 returns-2)

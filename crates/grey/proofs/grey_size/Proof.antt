@@ -3,9 +3,6 @@ use Rattle.grey.proofs.Taking.{size-none, size-told}
 use borrow.Author.Needs.{needs}
 use Rattle.grey.proofs.grey_size.Statement.{statement}
 use Rattle.grey.proofs.grey_size.Tie as tie
-use Rattle.grey.proofs.grey_size.Reads as reads
-use Rattle.grey.proofs.grey_size.Lts as lts
-use Rattle.netpbm.proofs.read_grey.Reads as read-grey-reads
 
 read-grey-requires : tie.Need-read-grey-requires
 read-grey-requires c κs = search needs
@@ -23,5 +20,4 @@ returns-2 : tie.Need-returns-2
 returns-2 c = search (needs, size-told)
 
 pub grey-size-spec : {M : Type 1} → statement M
-grey-size-spec =
-    tie.close (tie.spec read-grey-requires enum-told enum-known-read returns returns-2)
+grey-size-spec = tie.close (tie.spec read-grey-requires enum-told enum-known-read returns returns-2)

@@ -1,10 +1,7 @@
 -- `grey::has_room`: by what is left behind the place.
 use Rattle.grey.proofs.Printing.{room-none, room-left}
-use borrow.Author.Needs.{needs}
 use Rattle.grey.proofs.has_room.Statement.{statement}
 use Rattle.grey.proofs.has_room.Tie as tie
-use Rattle.grey.proofs.has_room.Reads as reads
-use Rattle.grey.proofs.has_room.Lts as lts
 
 returns : tie.Need-returns
 returns c = room-none _ _ _ (c .if1 .taken)

@@ -3,10 +3,6 @@ use Rattle.grey.proofs.Judged.{over-range, over-refused, over-none}
 use borrow.Author.Needs.{needs}
 use Rattle.grey.proofs.judged_out.Statement.{statement}
 use Rattle.grey.proofs.judged_out.Tie as tie
-use Rattle.grey.proofs.judged_out.Reads as reads
-use Rattle.grey.proofs.judged_out.Lts as lts
-use Rattle.coefficients.proofs.first_over.Reads as first-over-reads
-use Rattle.grey.proofs.judged_in.Reads as judged-in-reads
 
 judged-in-requires : tie.Need-judged-in-requires
 judged-in-requires c κs = search needs
@@ -34,13 +30,4 @@ returns-3 c =
     over-none _ _ _ (before .ensures) (c .before .before .enum-told .given .1) _ (c .before .first-over .ensures) (c .if1 .left)
 
 pub judged-out-spec : {M : Type 1} → statement M
-judged-out-spec =
-    tie.close
-    (tie.spec
-    judged-in-requires
-    enum-known-first
-    enum-told
-    first-over-requires
-    returns
-    returns-2
-    returns-3)
+judged-out-spec = tie.close (tie.spec judged-in-requires enum-known-first enum-told first-over-requires returns returns-2 returns-3)

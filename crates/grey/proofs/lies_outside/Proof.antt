@@ -1,10 +1,7 @@
 -- `grey::lies_outside`: under the bias, or by how much it is over.
 use Rattle.grey.proofs.Laws.{outside-under, outside-over}
-use borrow.Author.Needs.{needs}
 use Rattle.grey.proofs.lies_outside.Statement.{statement}
 use Rattle.grey.proofs.lies_outside.Tie as tie
-use Rattle.grey.proofs.lies_outside.Reads as reads
-use Rattle.grey.proofs.lies_outside.Lts as lts
 
 returns : tie.Need-returns
 returns c = outside-under _ (c .if1 .taken)

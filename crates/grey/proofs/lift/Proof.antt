@@ -7,11 +7,6 @@ use Rattle.grey.proofs.Taking.{loaded-splitting, loaded-lifted}
 use borrow.Author.Needs.{needs}
 use Rattle.grey.proofs.lift.Statement.{statement}
 use Rattle.grey.proofs.lift.Tie as tie
-use Rattle.grey.proofs.lift.Reads as reads
-use Rattle.grey.proofs.lift.Lts as lts
-use Rattle.grey.proofs.load_pixels.Reads as load-pixels-reads
-use Rattle.lifting.proofs.split_picture.Reads as split-picture-reads
-use Rattle.memory.proofs.zero_u32.Reads as zero-u32-reads
 
 mul-load-pixels : tie.Need-mul-load-pixels
 mul-load-pixels c = search needs
@@ -49,13 +44,4 @@ returns c =
     }
 
 pub lift-spec : {M : Type 1} → statement M
-lift-spec =
-    tie.close
-    (tie.spec
-    mul-load-pixels
-    load-pixels-requires
-    split-picture-requires
-    zero-u32-requires
-    same-length
-    same-length-2
-    returns)
+lift-spec = tie.close (tie.spec mul-load-pixels load-pixels-requires split-picture-requires zero-u32-requires same-length same-length-2 returns)

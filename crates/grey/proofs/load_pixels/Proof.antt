@@ -8,9 +8,6 @@ use Rattle.grey.proofs.Laws.{load-onward}
 use borrow.Author.Needs.{needs}
 use Rattle.grey.proofs.load_pixels.Statement.{statement}
 use Rattle.grey.proofs.load_pixels.Tie as tie
-use Rattle.grey.proofs.load_pixels.Reads as reads
-use Rattle.grey.proofs.load_pixels.Lts as lts
-use Rattle.grey.proofs.tone_of.Reads as tone-of-reads
 
 abbrev Inv-loop : tie.InvT-loop
 Inv-loop file at count work₀ q₀ work q =
@@ -59,18 +56,5 @@ returns c =
 
 pub load-pixels-spec : {M : Type 1} → statement M
 load-pixels-spec =
-    tie.close
-    (tie.spec
-    Inv-loop
-    μ-loop
-    loop-holds
-    add-tone-of
-    shared-slice-read-tone-of
-    tone-of-requires
-    mul-work
-    slice-write-work
-    add-q
-    loop-less
-    loop-again
-    same-length
-    returns)
+    tie.close (tie.spec Inv-loop μ-loop loop-holds add-tone-of shared-slice-read-tone-of tone-of-requires mul-work slice-write-work add-q loop-less
+    loop-again same-length returns)

@@ -3,9 +3,6 @@ use Rattle.grey.proofs.Laws.{counted-outside, counted-inside}
 use borrow.Author.Needs.{needs}
 use Rattle.grey.proofs.one_more.Statement.{statement}
 use Rattle.grey.proofs.one_more.Tie as tie
-use Rattle.grey.proofs.one_more.Reads as reads
-use Rattle.grey.proofs.one_more.Lts as lts
-use Rattle.grey.proofs.lies_outside.Reads as lies-outside-reads
 
 lies-outside-requires : tie.Need-lies-outside-requires
 lies-outside-requires c κs = search needs

@@ -5,12 +5,6 @@ use Rattle.grey.proofs.Printing.{prints-short, prints-whole}
 use borrow.Author.Needs.{needs}
 use Rattle.grey.proofs.print.Statement.{statement}
 use Rattle.grey.proofs.print.Tie as tie
-use Rattle.grey.proofs.print.Reads as reads
-use Rattle.grey.proofs.print.Lts as lts
-use Rattle.grey.proofs.has_room.Reads as has-room-reads
-use Rattle.grey.proofs.print_pixels.Reads as print-pixels-reads
-use Rattle.grey.proofs.refuse_out.Reads as refuse-out-reads
-use Rattle.grey.proofs.write_lines.Reads as write-lines-reads
 
 write-lines-requires : tie.Need-write-lines-requires
 write-lines-requires c κs = search needs
@@ -59,16 +53,5 @@ returns-2 c =
 
 pub print-spec : {M : Type 1} → statement M
 print-spec =
-    tie.close
-    (tie.spec
-    write-lines-requires
-    mul-has-room
-    has-room-requires
-    print-pixels-requires
-    refuse-out-requires
-    same-length
-    same-length-2
-    returns
-    same-length-3
-    same-length-4
-    returns-2)
+    tie.close (tie.spec write-lines-requires mul-has-room has-room-requires print-pixels-requires refuse-out-requires same-length same-length-2
+    returns same-length-3 same-length-4 returns-2)

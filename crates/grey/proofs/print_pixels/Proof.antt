@@ -1,18 +1,12 @@
 -- `grey::print_pixels`: the tones of the picture, stored and counted.
-use Rattle.grey.proofs.Printing.{joining, joined-numbers}
+use Rattle.grey.proofs.Printing.{joining, joined-numbers, pixels-printed}
 use mathlib.Core.Path.{ap, _∙_}
 use native.Mathlib.Omega.{arith}
 use Rattle.rules.specs.Document.Notation.{zeros}
 use Rattle.rules.specs.Laws.Family.Sizes.{area-bound}
-use Rattle.grey.proofs.Printing.{pixels-printed}
 use borrow.Author.Needs.{needs}
 use Rattle.grey.proofs.print_pixels.Statement.{statement}
 use Rattle.grey.proofs.print_pixels.Tie as tie
-use Rattle.grey.proofs.print_pixels.Reads as reads
-use Rattle.grey.proofs.print_pixels.Lts as lts
-use Rattle.grey.proofs.store_pixels.Reads as store-pixels-reads
-use Rattle.lifting.proofs.join_pyramid.Reads as join-pyramid-reads
-use Rattle.memory.proofs.zero_u32.Reads as zero-u32-reads
 
 join-pyramid-requires : tie.Need-join-pyramid-requires
 join-pyramid-requires c κs = search (needs, joining)
@@ -57,14 +51,5 @@ returns c =
 
 pub print-pixels-spec : {M : Type 1} → statement M
 print-pixels-spec =
-    tie.close
-    (tie.spec
-    join-pyramid-requires
-    mul-store-pixels
-    store-pixels-requires
-    zero-u32-requires
-    mul-t12
-    add-t18
-    same-length
-    same-length-2
+    tie.close (tie.spec join-pyramid-requires mul-store-pixels store-pixels-requires zero-u32-requires mul-t12 add-t18 same-length same-length-2
     returns)

@@ -11,10 +11,6 @@ use Rattle.grey.proofs.Laws.{store-onward, count-onward, counted-most, 
 use borrow.Author.Needs.{needs}
 use Rattle.grey.proofs.store_pixels.Statement.{statement}
 use Rattle.grey.proofs.store_pixels.Tie as tie
-use Rattle.grey.proofs.store_pixels.Reads as reads
-use Rattle.grey.proofs.store_pixels.Lts as lts
-use Rattle.grey.proofs.clipped_pixel.Reads as clipped-pixel-reads
-use Rattle.grey.proofs.one_more.Reads as one-more-reads
 
 abbrev Inv-loop : tie.InvT-loop
 Inv-loop work count out₀ at clipped₀ q₀ out clipped q =
@@ -72,19 +68,5 @@ returns c =
 
 pub store-pixels-spec : {M : Type 1} → statement M
 store-pixels-spec =
-    tie.close
-    (tie.spec
-    Inv-loop
-    μ-loop
-    loop-holds
-    mul-tone
-    shared-slice-read-tone
-    clipped-pixel-requires
-    add-out
-    slice-write-out
-    one-more-requires
-    add-q
-    loop-less
-    loop-again
-    same-length
-    returns)
+    tie.close (tie.spec Inv-loop μ-loop loop-holds mul-tone shared-slice-read-tone clipped-pixel-requires add-out slice-write-out one-more-requires
+    add-q loop-less loop-again same-length returns)

@@ -7,10 +7,6 @@ use Rattle.pictures.specs.Document.Netpbm.{greyLines}
 use borrow.Author.Needs.{needs}
 use Rattle.grey.proofs.write_lines.Statement.{statement}
 use Rattle.grey.proofs.write_lines.Tie as tie
-use Rattle.grey.proofs.write_lines.Reads as reads
-use Rattle.grey.proofs.write_lines.Lts as lts
-use Rattle.memory.proofs.zero_u8.Reads as zero-u8-reads
-use Rattle.netpbm.proofs.write_header.Reads as write-header-reads
 
 zero-u8-requires : tie.Need-zero-u8-requires
 zero-u8-requires c κs = search needs

@@ -51,17 +51,17 @@ tone-even-requires c κs =
     let I = c .before .before .before .loop .inv in
     even-asks (c .before .before .before .before .before .before .pre) (I .1) (omega arith) _ (I .2)
 
-mul-s : tie.Need-mul-s Inv-loop μ-loop
-mul-s c = search needs
+mul-work : tie.Need-mul-work Inv-loop μ-loop
+mul-work c = search needs
 
-add-s : tie.Need-add-s Inv-loop μ-loop
-add-s c = search needs
+add-work : tie.Need-add-work Inv-loop μ-loop
+add-work c = search needs
 
-mul-s-2 : tie.Need-mul-s-2 Inv-loop μ-loop
-mul-s-2 c = search needs
+mul-work-2 : tie.Need-mul-work-2 Inv-loop μ-loop
+mul-work-2 c = search needs
 
-slice-write-s : tie.Need-slice-write-s Inv-loop μ-loop
-slice-write-s c = search needs
+slice-write-work : tie.Need-slice-write-work Inv-loop μ-loop
+slice-write-work c = search needs
 
 add-j : tie.Need-add-j Inv-loop μ-loop
 add-j c = search needs
@@ -83,26 +83,5 @@ returns c = filled-end (c .before .loop .inv .1) (omega arith)
 
 pub even-line-spec : {M : Type 1} → statement M
 even-line-spec =
-    tie.close
-    (tie.spec
-    Inv-loop
-    μ-loop
-    mul-before
-    slice-read-before
-    loop-holds
-    add-high
-    mul-high
-    slice-read-high
-    add-tone-even
-    mul-tone-even
-    slice-read-tone-even
-    tone-even-requires
-    mul-s
-    add-s
-    mul-s-2
-    slice-write-s
-    add-j
-    loop-less
-    loop-again
-    same-length
-    returns)
+    tie.close (tie.spec Inv-loop μ-loop mul-before slice-read-before loop-holds add-high mul-high slice-read-high add-tone-even mul-tone-even
+    slice-read-tone-even tone-even-requires mul-work add-work mul-work-2 slice-write-work add-j loop-less loop-again same-length returns)

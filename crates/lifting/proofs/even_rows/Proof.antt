@@ -48,14 +48,14 @@ slice-read-tone-even-3 c = search needs
 tone-even-requires : tie.Need-tone-even-requires Inv-loop μ-loop
 tone-even-requires c κs = even-row-asks (c .before .before .before .before .before .before .pre) (c .before .before .before .before .loop .inv .1) (omega arith)
 
-add-s : tie.Need-add-s Inv-loop μ-loop
-add-s c = search needs
+add-work : tie.Need-add-work Inv-loop μ-loop
+add-work c = search needs
 
-mul-s : tie.Need-mul-s Inv-loop μ-loop
-mul-s c = search needs
+mul-work : tie.Need-mul-work Inv-loop μ-loop
+mul-work c = search needs
 
-slice-write-s : tie.Need-slice-write-s Inv-loop μ-loop
-slice-write-s c = search needs
+slice-write-work : tie.Need-slice-write-work Inv-loop μ-loop
+slice-write-work c = search needs
 
 add-j : tie.Need-add-j Inv-loop μ-loop
 add-j c = search needs
@@ -74,26 +74,6 @@ returns c = filled-end (c .before .loop .inv .1) (omega arith)
 
 pub even-rows-spec : {M : Type 1} → statement M
 even-rows-spec =
-    tie.close
-    (tie.spec
-    Inv-loop
-    μ-loop
-    loop-holds
-    add-tone-even
-    mul-tone-even
-    slice-read-tone-even
-    add-tone-even-2
-    mul-tone-even-2
-    slice-read-tone-even-2
-    add-tone-even-3
-    mul-tone-even-3
-    slice-read-tone-even-3
-    tone-even-requires
-    add-s
-    mul-s
-    slice-write-s
-    add-j
-    loop-less
-    loop-again
-    same-length
-    returns)
+    tie.close (tie.spec Inv-loop μ-loop loop-holds add-tone-even mul-tone-even slice-read-tone-even add-tone-even-2 mul-tone-even-2
+    slice-read-tone-even-2 add-tone-even-3 mul-tone-even-3 slice-read-tone-even-3 tone-even-requires add-work mul-work slice-write-work add-j loop-less
+    loop-again same-length returns)

@@ -40,16 +40,5 @@ returns c = search (needs, high-row-joined)
 
 pub join-high-row-spec : {M : Type 1} → statement M
 join-high-row-spec =
-    tie.close
-    (tie.spec
-    add-at
-    mul-at
-    mul-spare
-    add-spare
-    add-spare-2
-    mul-load-line
-    load-line-requires
-    add-join-line
-    join-line-requires
-    same-length
+    tie.close (tie.spec add-at mul-at mul-spare add-spare add-spare-2 mul-load-line load-line-requires add-join-line join-line-requires same-length
     returns)

@@ -23,6 +23,4 @@ returns : tie.Need-returns
 returns c = search (needs, line-joined)
 
 pub join-line-spec : {M : Type 1} → statement M
-join-line-spec =
-    tie.close
-    (tie.spec even-line-requires mul-mirror mirror-requires odd-line-requires same-length returns)
+join-line-spec = tie.close (tie.spec even-line-requires mul-mirror mirror-requires odd-line-requires same-length returns)

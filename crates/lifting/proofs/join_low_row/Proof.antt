@@ -46,18 +46,5 @@ returns c = search (needs, low-row-joined)
 
 pub join-low-row-spec : {M : Type 1} → statement M
 join-low-row-spec =
-    tie.close
-    (tie.spec
-    mul-row
-    mul-at
-    add-at
-    mul-to
-    add-to
-    add-to-2
-    mul-spare
-    add-spare
-    add-spare-2
-    load-line-requires
-    join-line-requires
-    same-length
+    tie.close (tie.spec mul-row mul-at add-at mul-to add-to add-to-2 mul-spare add-spare add-spare-2 load-line-requires join-line-requires same-length
     returns)

@@ -83,23 +83,5 @@ returns c =
 
 pub join-pair-spec : {M : Type 1} → statement M
 join-pair-spec =
-    tie.close
-    (tie.spec
-    mul-w
-    mul-to
-    mul-to-2
-    pair-after-requires
-    mul-next
-    mul-next-2
-    pair-before-requires
-    add-p
-    add-p-2
-    mul-e
-    add-e
-    add-e-2
-    join-low-row-requires
-    join-high-row-requires
-    even-rows-requires
-    odd-rows-requires
-    same-length
-    returns)
+    tie.close (tie.spec mul-w mul-to mul-to-2 pair-after-requires mul-next mul-next-2 pair-before-requires add-p add-p-2 mul-e add-e add-e-2
+    join-low-row-requires join-high-row-requires even-rows-requires odd-rows-requires same-length returns)

@@ -49,18 +49,5 @@ returns c = search (needs, back-end)
 
 pub join-pyramid-spec : {M : Type 1} → statement M
 join-pyramid-spec =
-    tie.close
-    (tie.spec
-    Inv-loop
-    μ-loop
-    shr-load-block
-    shr-load-block-2
-    load-block-requires
-    loop-holds
-    sub-l
-    turn-of-requires
-    join-turn-requires
-    loop-less
-    loop-again
-    same-length
-    returns)
+    tie.close (tie.spec Inv-loop μ-loop shr-load-block shr-load-block-2 load-block-requires loop-holds sub-l turn-of-requires join-turn-requires
+    loop-less loop-again same-length returns)

@@ -42,16 +42,4 @@ returns c = search (needs, turn-joined)
 
 pub join-turn-spec : {M : Type 1} → statement M
 join-turn-spec =
-    tie.close
-    (tie.spec
-    Inv-loop
-    μ-loop
-    sub-last
-    join-high-row-requires
-    loop-holds
-    sub-i
-    join-pair-requires
-    loop-less
-    loop-again
-    same-length
-    returns)
+    tie.close (tie.spec Inv-loop μ-loop sub-last join-high-row-requires loop-holds sub-i join-pair-requires loop-less loop-again same-length returns)

@@ -64,23 +64,23 @@ tone-low-requires c κs =
     let high = c .before .tone-high in
     rows-ask-low (at-loop .before .before .pre) (at-loop .loop .inv .1) (omega arith) (high .result) (high .ensures)
 
-add-s : tie.Need-add-s Inv-loop μ-loop
-add-s c = search needs
+add-work : tie.Need-add-work Inv-loop μ-loop
+add-work c = search needs
 
-mul-s : tie.Need-mul-s Inv-loop μ-loop
-mul-s c = search needs
+mul-work : tie.Need-mul-work Inv-loop μ-loop
+mul-work c = search needs
 
-slice-write-s : tie.Need-slice-write-s Inv-loop μ-loop
-slice-write-s c = search needs
+slice-write-work : tie.Need-slice-write-work Inv-loop μ-loop
+slice-write-work c = search needs
 
-add-s-2 : tie.Need-add-s-2 Inv-loop μ-loop
-add-s-2 c = search needs
+add-work-2 : tie.Need-add-work-2 Inv-loop μ-loop
+add-work-2 c = search needs
 
-mul-s-2 : tie.Need-mul-s-2 Inv-loop μ-loop
-mul-s-2 c = search needs
+mul-work-2 : tie.Need-mul-work-2 Inv-loop μ-loop
+mul-work-2 c = search needs
 
-slice-write-s-2 : tie.Need-slice-write-s-2 Inv-loop μ-loop
-slice-write-s-2 c = simp length-set (omega arith)
+slice-write-work-2 : tie.Need-slice-write-work-2 Inv-loop μ-loop
+slice-write-work-2 c = simp length-set (omega arith)
 
 add-j : tie.Need-add-j Inv-loop μ-loop
 add-j c = search needs
@@ -99,33 +99,6 @@ returns c = both-end (c .before .loop .inv .1) (omega arith)
 
 pub lift-rows-spec : {M : Type 1} → statement M
 lift-rows-spec =
-    tie.close
-    (tie.spec
-    Inv-loop
-    μ-loop
-    loop-holds
-    add-even
-    mul-even
-    slice-read-even
-    add-tone-high
-    mul-tone-high
-    slice-read-tone-high
-    add-tone-high-2
-    mul-tone-high-2
-    slice-read-tone-high-2
-    tone-high-requires
-    add-tone-low
-    mul-tone-low
-    slice-read-tone-low
-    tone-low-requires
-    add-s
-    mul-s
-    slice-write-s
-    add-s-2
-    mul-s-2
-    slice-write-s-2
-    add-j
-    loop-less
-    loop-again
-    same-length
-    returns)
+    tie.close (tie.spec Inv-loop μ-loop loop-holds add-even mul-even slice-read-even add-tone-high mul-tone-high slice-read-tone-high add-tone-high-2
+    mul-tone-high-2 slice-read-tone-high-2 tone-high-requires add-tone-low mul-tone-low slice-read-tone-low tone-low-requires add-work mul-work
+    slice-write-work add-work-2 mul-work-2 slice-write-work-2 add-j loop-less loop-again same-length returns)

@@ -41,17 +41,4 @@ returns : tie.Need-returns Inv-loop μ-loop
 returns c = loads-end (c .before .loop .inv .1) (omega arith)
 
 pub load-block-spec : {M : Type 1} → statement M
-load-block-spec =
-    tie.close
-    (tie.spec
-    Inv-loop
-    μ-loop
-    loop-holds
-    mul-from
-    mul-to
-    load-line-requires
-    add-i
-    loop-less
-    loop-again
-    same-length
-    returns)
+load-block-spec = tie.close (tie.spec Inv-loop μ-loop loop-holds mul-from mul-to load-line-requires add-i loop-less loop-again same-length returns)

@@ -30,14 +30,14 @@ shared-slice-copy-out-tone-of c = search needs
 tone-of-requires : tie.Need-tone-of-requires Inv-loop μ-loop
 tone-of-requires c κs = load-asks (c .before .before .before .before .pre) (c .before .before .loop .inv .1) (omega arith)
 
-add-s : tie.Need-add-s Inv-loop μ-loop
-add-s c = search needs
+add-work : tie.Need-add-work Inv-loop μ-loop
+add-work c = search needs
 
-mul-s : tie.Need-mul-s Inv-loop μ-loop
-mul-s c = search needs
+mul-work : tie.Need-mul-work Inv-loop μ-loop
+mul-work c = search needs
 
-slice-write-s : tie.Need-slice-write-s Inv-loop μ-loop
-slice-write-s c = search needs
+slice-write-work : tie.Need-slice-write-work Inv-loop μ-loop
+slice-write-work c = search needs
 
 add-j : tie.Need-add-j Inv-loop μ-loop
 add-j c = search needs
@@ -58,20 +58,5 @@ returns c = filled-end (c .before .loop .inv .1) (omega arith)
 
 pub load-line-spec : {M : Type 1} → statement M
 load-line-spec =
-    tie.close
-    (tie.spec
-    Inv-loop
-    μ-loop
-    loop-holds
-    add-tone-of
-    mul-tone-of
-    shared-slice-copy-out-tone-of
-    tone-of-requires
-    add-s
-    mul-s
-    slice-write-s
-    add-j
-    loop-less
-    loop-again
-    same-length
-    returns)
+    tie.close (tie.spec Inv-loop μ-loop loop-holds add-tone-of mul-tone-of shared-slice-copy-out-tone-of tone-of-requires add-work mul-work slice-write-work
+    add-j loop-less loop-again same-length returns)

@@ -57,20 +57,20 @@ slice-read-tone-odd-3 c = search needs
 tone-odd-requires : tie.Need-tone-odd-requires Inv-loop μ-loop
 tone-odd-requires c κs = odd-asks (c .before .before .before .before .before .before .pre) (c .before .before .before .before .loop .inv .1) (omega arith)
 
-mul-s : tie.Need-mul-s Inv-loop μ-loop
-mul-s c = search needs
+mul-work : tie.Need-mul-work Inv-loop μ-loop
+mul-work c = search needs
 
-add-s : tie.Need-add-s Inv-loop μ-loop
-add-s c = search needs
+add-work : tie.Need-add-work Inv-loop μ-loop
+add-work c = search needs
 
-add-s-2 : tie.Need-add-s-2 Inv-loop μ-loop
-add-s-2 c = search needs
+add-work-2 : tie.Need-add-work-2 Inv-loop μ-loop
+add-work-2 c = search needs
 
-mul-s-2 : tie.Need-mul-s-2 Inv-loop μ-loop
-mul-s-2 c = search needs
+mul-work-2 : tie.Need-mul-work-2 Inv-loop μ-loop
+mul-work-2 c = search needs
 
-slice-write-s : tie.Need-slice-write-s Inv-loop μ-loop
-slice-write-s c = search needs
+slice-write-work : tie.Need-slice-write-work Inv-loop μ-loop
+slice-write-work c = search needs
 
 add-j : tie.Need-add-j Inv-loop μ-loop
 add-j c = search needs
@@ -89,31 +89,6 @@ returns c = filled-end (c .before .loop .inv .1) (omega arith)
 
 pub odd-line-spec : {M : Type 1} → statement M
 odd-line-spec =
-    tie.close
-    (tie.spec
-    Inv-loop
-    μ-loop
-    loop-holds
-    add-tone-odd
-    mul-tone-odd
-    slice-read-tone-odd
-    mul-tone-odd-2
-    add-tone-odd-2
-    mul-tone-odd-3
-    slice-read-tone-odd-2
-    mul-tone-odd-4
-    add-tone-odd-3
-    add-tone-odd-4
-    mul-tone-odd-5
-    slice-read-tone-odd-3
-    tone-odd-requires
-    mul-s
-    add-s
-    add-s-2
-    mul-s-2
-    slice-write-s
-    add-j
-    loop-less
-    loop-again
-    same-length
-    returns)
+    tie.close (tie.spec Inv-loop μ-loop loop-holds add-tone-odd mul-tone-odd slice-read-tone-odd mul-tone-odd-2 add-tone-odd-2 mul-tone-odd-3
+    slice-read-tone-odd-2 mul-tone-odd-4 add-tone-odd-3 add-tone-odd-4 mul-tone-odd-5 slice-read-tone-odd-3 tone-odd-requires mul-work add-work add-work-2
+    mul-work-2 slice-write-work add-j loop-less loop-again same-length returns)

@@ -59,26 +59,26 @@ mul-before c = search needs
 slice-read-before : tie.Need-slice-read-before Inv-loop μ-loop
 slice-read-before c = search needs
 
-add-s : tie.Need-add-s Inv-loop μ-loop
-add-s c = search needs
+add-work : tie.Need-add-work Inv-loop μ-loop
+add-work c = search needs
 
-add-s-2 : tie.Need-add-s-2 Inv-loop μ-loop
-add-s-2 c = search needs
+add-work-2 : tie.Need-add-work-2 Inv-loop μ-loop
+add-work-2 c = search needs
 
-mul-s : tie.Need-mul-s Inv-loop μ-loop
-mul-s c = search needs
+mul-work : tie.Need-mul-work Inv-loop μ-loop
+mul-work c = search needs
 
-slice-write-s : tie.Need-slice-write-s Inv-loop μ-loop
-slice-write-s c = search needs
+slice-write-work : tie.Need-slice-write-work Inv-loop μ-loop
+slice-write-work c = search needs
 
-add-s-3 : tie.Need-add-s-3 Inv-loop μ-loop
-add-s-3 c = search needs
+add-work-3 : tie.Need-add-work-3 Inv-loop μ-loop
+add-work-3 c = search needs
 
-mul-s-2 : tie.Need-mul-s-2 Inv-loop μ-loop
-mul-s-2 c = search needs
+mul-work-2 : tie.Need-mul-work-2 Inv-loop μ-loop
+mul-work-2 c = search needs
 
-slice-write-s-2 : tie.Need-slice-write-s-2 Inv-loop μ-loop
-slice-write-s-2 c = simp length-set (omega arith)
+slice-write-work-2 : tie.Need-slice-write-work-2 Inv-loop μ-loop
+slice-write-work-2 c = simp length-set (omega arith)
 
 add-j : tie.Need-add-j Inv-loop μ-loop
 add-j c = search needs
@@ -97,33 +97,6 @@ returns c = both-end (c .before .loop .inv .1) (omega arith)
 
 pub odd-rows-spec : {M : Type 1} → statement M
 odd-rows-spec =
-    tie.close
-    (tie.spec
-    Inv-loop
-    μ-loop
-    loop-holds
-    add-tone-odd
-    mul-tone-odd
-    slice-read-tone-odd
-    add-tone-odd-2
-    mul-tone-odd-2
-    slice-read-tone-odd-2
-    add-tone-odd-3
-    mul-tone-odd-3
-    slice-read-tone-odd-3
-    tone-odd-requires
-    add-before
-    mul-before
-    slice-read-before
-    add-s
-    add-s-2
-    mul-s
-    slice-write-s
-    add-s-3
-    mul-s-2
-    slice-write-s-2
-    add-j
-    loop-less
-    loop-again
-    same-length
-    returns)
+    tie.close (tie.spec Inv-loop μ-loop loop-holds add-tone-odd mul-tone-odd slice-read-tone-odd add-tone-odd-2 mul-tone-odd-2 slice-read-tone-odd-2
+    add-tone-odd-3 mul-tone-odd-3 slice-read-tone-odd-3 tone-odd-requires add-before mul-before slice-read-before add-work add-work-2 mul-work slice-write-work
+    add-work-3 mul-work-2 slice-write-work-2 add-j loop-less loop-again same-length returns)

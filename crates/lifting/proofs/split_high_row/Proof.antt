@@ -49,19 +49,5 @@ returns c = search (needs, high-row)
 
 pub split-high-row-spec : {M : Type 1} → statement M
 split-high-row-spec =
-    tie.close
-    (tie.spec
-    add-at
-    mul-at
-    mul-spare
-    add-spare
-    add-spare-2
-    mul-mirror
-    mirror-requires
-    add-split-line
-    split-line-requires
-    mul-store-line
-    store-line-requires
-    same-length
-    same-length-2
-    returns)
+    tie.close (tie.spec add-at mul-at mul-spare add-spare add-spare-2 mul-mirror mirror-requires add-split-line split-line-requires mul-store-line
+    store-line-requires same-length same-length-2 returns)

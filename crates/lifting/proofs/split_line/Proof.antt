@@ -102,23 +102,23 @@ tone-low-requires c κs =
     let I = at-loop .loop .inv in
     split-ask-low (at-loop .before .before .before .before .before .before .pre) (I .1) (omega arith) _ (c .tone-high2 .result) (I .2) (c .tone-high2 .ensures)
 
-add-s : tie.Need-add-s Inv-loop μ-loop
-add-s c = search needs
+add-work : tie.Need-add-work Inv-loop μ-loop
+add-work c = search needs
 
-mul-s : tie.Need-mul-s Inv-loop μ-loop
-mul-s c = search needs
+mul-work : tie.Need-mul-work Inv-loop μ-loop
+mul-work c = search needs
 
-slice-write-s : tie.Need-slice-write-s Inv-loop μ-loop
-slice-write-s c = search needs
+slice-write-work : tie.Need-slice-write-work Inv-loop μ-loop
+slice-write-work c = search needs
 
-add-s-2 : tie.Need-add-s-2 Inv-loop μ-loop
-add-s-2 c = search needs
+add-work-2 : tie.Need-add-work-2 Inv-loop μ-loop
+add-work-2 c = search needs
 
-mul-s-2 : tie.Need-mul-s-2 Inv-loop μ-loop
-mul-s-2 c = search needs
+mul-work-2 : tie.Need-mul-work-2 Inv-loop μ-loop
+mul-work-2 c = search needs
 
-slice-write-s-2 : tie.Need-slice-write-s-2 Inv-loop μ-loop
-slice-write-s-2 c = simp length-set (omega arith)
+slice-write-work-2 : tie.Need-slice-write-work-2 Inv-loop μ-loop
+slice-write-work-2 c = simp length-set (omega arith)
 
 add-j : tie.Need-add-j Inv-loop μ-loop
 add-j c = search needs
@@ -145,44 +145,8 @@ returns c = both-end (c .before .loop .inv .1) (omega arith)
 
 pub split-line-spec : {M : Type 1} → statement M
 split-line-spec =
-    tie.close
-    (tie.spec
-    Inv-loop
-    μ-loop
-    mul-tone-high
-    slice-read-tone-high
-    add-tone-high
-    mul-tone-high-2
-    slice-read-tone-high-2
-    add-tone-high-2
-    mul-tone-high-3
-    slice-read-tone-high-3
-    tone-high-requires
-    loop-holds
-    mul-even
-    add-even
-    mul-even-2
-    slice-read-even
-    mul-tone-high-4
-    add-tone-high-3
-    add-tone-high-4
-    mul-tone-high-5
-    slice-read-tone-high-4
-    mul-tone-high-6
-    add-tone-high-5
-    add-tone-high-6
-    mul-tone-high-7
-    slice-read-tone-high-5
-    tone-high-requires-2
-    tone-low-requires
-    add-s
-    mul-s
-    slice-write-s
-    add-s-2
-    mul-s-2
-    slice-write-s-2
-    add-j
-    loop-less
-    loop-again
-    same-length
-    returns)
+    tie.close (tie.spec Inv-loop μ-loop mul-tone-high slice-read-tone-high add-tone-high mul-tone-high-2 slice-read-tone-high-2 add-tone-high-2
+    mul-tone-high-3 slice-read-tone-high-3 tone-high-requires loop-holds mul-even add-even mul-even-2 slice-read-even mul-tone-high-4 add-tone-high-3
+    add-tone-high-4 mul-tone-high-5 slice-read-tone-high-4 mul-tone-high-6 add-tone-high-5 add-tone-high-6 mul-tone-high-7 slice-read-tone-high-5
+    tone-high-requires-2 tone-low-requires add-work mul-work slice-write-work add-work-2 mul-work-2 slice-write-work-2 add-j loop-less loop-again
+    same-length returns)

@@ -55,21 +55,5 @@ returns c = search (needs, low-row)
 
 pub split-low-row-spec : {M : Type 1} → statement M
 split-low-row-spec =
-    tie.close
-    (tie.spec
-    mul-row
-    mul-at
-    add-at
-    mul-x
-    add-x
-    add-x-2
-    mul-spare
-    add-spare
-    add-spare-2
-    mul-mirror
-    mirror-requires
-    split-line-requires
-    store-line-requires
-    same-length
-    same-length-2
-    returns)
+    tie.close (tie.spec mul-row mul-at add-at mul-x add-x add-x-2 mul-spare add-spare add-spare-2 mul-mirror mirror-requires split-line-requires
+    store-line-requires same-length same-length-2 returns)

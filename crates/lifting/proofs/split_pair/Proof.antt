@@ -64,20 +64,5 @@ returns c =
 
 pub split-pair-spec : {M : Type 1} → statement M
 split-pair-spec =
-    tie.close
-    (tie.spec
-    mul-w
-    mul-a
-    mul-a-2
-    pair-after-requires
-    mul-c
-    mul-c-2
-    add-lift-rows
-    add-lift-rows-2
-    add-lift-rows-3
-    lift-rows-requires
-    split-low-row-requires
-    split-high-row-requires
-    same-length
-    same-length-2
-    returns)
+    tie.close (tie.spec mul-w mul-a mul-a-2 pair-after-requires mul-c mul-c-2 add-lift-rows add-lift-rows-2 add-lift-rows-3 lift-rows-requires
+    split-low-row-requires split-high-row-requires same-length same-length-2 returns)

@@ -51,19 +51,5 @@ returns c = search (needs, last-end)
 
 pub split-picture-spec : {M : Type 1} → statement M
 split-picture-spec =
-    tie.close
-    (tie.spec
-    Inv-loop
-    μ-loop
-    loop-holds
-    turn-of-requires
-    split-turn-requires
-    add-l
-    loop-less
-    loop-again
-    shr-store-block
-    shr-store-block-2
-    store-block-requires
-    same-length
-    same-length-2
-    returns)
+    tie.close (tie.spec Inv-loop μ-loop loop-holds turn-of-requires split-turn-requires add-l loop-less loop-again shr-store-block shr-store-block-2
+    store-block-requires same-length same-length-2 returns)

@@ -55,20 +55,5 @@ returns c = search (needs, turn-done)
 
 pub split-turn-spec : {M : Type 1} → statement M
 split-turn-spec =
-    tie.close
-    (tie.spec
-    Inv-loop
-    μ-loop
-    mul-w
-    pair-after-requires
-    mul-c
-    mul-c-2
-    high-line-requires
-    loop-holds
-    split-pair-requires
-    add-i
-    loop-less
-    loop-again
-    same-length
-    same-length-2
-    returns)
+    tie.close (tie.spec Inv-loop μ-loop mul-w pair-after-requires mul-c mul-c-2 high-line-requires loop-holds split-pair-requires add-i loop-less
+    loop-again same-length same-length-2 returns)

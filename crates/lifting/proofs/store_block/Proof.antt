@@ -42,16 +42,4 @@ returns c = block-end (c .before .loop .inv .1) (omega arith)
 
 pub store-block-spec : {M : Type 1} → statement M
 store-block-spec =
-    tie.close
-    (tie.spec
-    Inv-loop
-    μ-loop
-    loop-holds
-    mul-store-line
-    mul-store-line-2
-    store-line-requires
-    add-i
-    loop-less
-    loop-again
-    same-length
-    returns)
+    tie.close (tie.spec Inv-loop μ-loop loop-holds mul-store-line mul-store-line-2 store-line-requires add-i loop-less loop-again same-length returns)

@@ -60,20 +60,5 @@ returns c = filled-end (c .before .loop .inv .1) (omega arith)
 
 pub store-line-spec : {M : Type 1} → statement M
 store-line-spec =
-    tie.close
-    (tie.spec
-    Inv-loop
-    μ-loop
-    loop-holds
-    add-coefficient-of
-    mul-coefficient-of
-    shared-slice-read-coefficient-of
-    coefficient-of-requires
-    add-v
-    mul-v
-    slice-set-from-v
-    add-j
-    loop-less
-    loop-again
-    same-length
-    returns)
+    tie.close (tie.spec Inv-loop μ-loop loop-holds add-coefficient-of mul-coefficient-of shared-slice-read-coefficient-of coefficient-of-requires
+    add-v mul-v slice-set-from-v add-j loop-less loop-again same-length returns)

@@ -12,7 +12,7 @@ returns : tie.Need-returns
 returns c = search needs
 
 returns-2 : tie.Need-returns-2
-returns-2 c = let a = c .before .args in sym (List·getD-eq-default (a .s .now) 0 {n = a .at} (omega arith))
+returns-2 c = let a = c .before .args in sym (List·getD-eq-default (a .file .now) 0 {n = a .at} (omega arith))
 
 pub byte-at-spec : {M : Type 1} → statement M
 byte-at-spec = tie.close (tie.spec shared-slice-read-result returns returns-2)

@@ -1,7 +1,6 @@
 use Rattle.netpbm.proofs.Laws.{Still, still-begins, comment-on, comment-ends, comment-out}
 use Prim.Native.Nat.{_-_}
 use lib.ListN.{length}
-use native.Mathlib.Omega.{arith}
 use Rattle.pictures.specs.Document.Netpbm.{afterComment}
 use borrow.Author.Needs.{needs}
 use Rattle.netpbm.proofs.past_comment.Statement.{statement}
@@ -39,15 +38,4 @@ returns-2 c = search (needs, comment-out)
 
 pub past-comment-spec : {M : Type 1} → statement M
 past-comment-spec =
-    tie.close
-    (tie.spec
-    Inv-loop
-    μ-loop
-    loop-holds
-    shared-slice-read-is-line-end
-    is-line-end-requires
-    returns
-    add-i
-    loop-less
-    loop-again
-    returns-2)
+    tie.close (tie.spec Inv-loop μ-loop loop-holds shared-slice-read-is-line-end is-line-end-requires returns add-i loop-less loop-again returns-2)

@@ -1,7 +1,6 @@
 use Rattle.netpbm.proofs.Laws.{Still, still-begins, gap-ends, gap-out, gap-blank, gap-comment}
 use Prim.Native.Nat.{_-_}
 use lib.ListN.{length}
-use native.Mathlib.Omega.{arith}
 use borrow.Author.Tests.{not-true, not-false}
 use Rattle.pictures.specs.Document.Netpbm.{afterGap}
 use borrow.Author.Needs.{needs}
@@ -49,18 +48,5 @@ returns-2 c = search (needs, gap-out)
 
 pub past-gap-spec : {M : Type 1} → statement M
 past-gap-spec =
-    tie.close
-    (tie.spec
-    Inv-loop
-    μ-loop
-    loop-holds
-    shared-slice-read-b
-    in-gap-requires
-    returns
-    add-i
-    past-comment-requires
-    loop-less
-    loop-again
-    loop-less-2
-    loop-again-2
-    returns-2)
+    tie.close (tie.spec Inv-loop μ-loop loop-holds shared-slice-read-b in-gap-requires returns add-i past-comment-requires loop-less loop-again
+    loop-less-2 loop-again-2 returns-2)

@@ -3,7 +3,6 @@ use mathlib.Core.Path.{sym, _∙_}
 use Rattle.netpbm.proofs.Laws.{Counting, counting-begins, counting-on, counting-ends, counting-out}
 use Prim.Native.Nat.{_-_}
 use lib.ListN.{length}
-use native.Mathlib.Omega.{arith}
 use borrow.Author.Needs.{needs}
 use Rattle.netpbm.proofs.read_digits.Statement.{statement}
 use Rattle.netpbm.proofs.read_digits.Tie as tie
@@ -46,17 +45,5 @@ returns-2 c = search (needs, counting-out)
 
 pub read-digits-spec : {M : Type 1} → statement M
 read-digits-spec =
-    tie.close
-    (tie.spec
-    Inv-loop
-    μ-loop
-    loop-holds
-    shared-slice-read-b
-    is-digit-requires
-    returns
-    digit-of-requires
-    with-digit-requires
-    add-i
-    loop-less
-    loop-again
-    returns-2)
+    tie.close (tie.spec Inv-loop μ-loop loop-holds shared-slice-read-b is-digit-requires returns digit-of-requires with-digit-requires add-i loop-less
+    loop-again returns-2)

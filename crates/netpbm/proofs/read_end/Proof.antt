@@ -39,14 +39,5 @@ returns-3 c = search (needs, end-short, not-false)
 
 pub read-end-spec : {M : Type 1} → statement M
 read-end-spec =
-    tie.close
-    (tie.spec
-    last-blank-requires
-    byte-at-requires
-    is-blank-requires
-    returns
-    add-pixels
-    sub-are-there
-    are-there-requires
-    returns-2
+    tie.close (tie.spec last-blank-requires byte-at-requires is-blank-requires returns add-pixels sub-are-there are-there-requires returns-2
     returns-3)

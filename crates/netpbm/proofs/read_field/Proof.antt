@@ -33,14 +33,5 @@ returns-3 c = search (needs, field-read, not-false)
 
 pub read-field-spec : {M : Type 1} → statement M
 read-field-spec =
-    tie.close
-    (tie.spec
-    byte-at-requires
-    in-gap-requires
-    returns
-    past-gap-requires
-    byte-at-requires-2
-    is-digit-requires
-    returns-2
-    read-digits-requires
+    tie.close (tie.spec byte-at-requires in-gap-requires returns past-gap-requires byte-at-requires-2 is-digit-requires returns-2 read-digits-requires
     returns-3)

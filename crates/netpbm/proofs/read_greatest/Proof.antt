@@ -1,4 +1,4 @@
-use Rattle.netpbm.proofs.Laws.{FieldThere, field-there, greatest-missing, greatest-right, greatest-wrong}
+use Rattle.netpbm.proofs.Laws.{field-there, greatest-missing, greatest-right, greatest-wrong}
 use borrow.Author.Needs.{needs}
 use Rattle.netpbm.proofs.read_greatest.Statement.{statement}
 use Rattle.netpbm.proofs.read_greatest.Tie as tie
@@ -25,13 +25,4 @@ returns-3 : tie.Need-returns-3
 returns-3 c = greatest-wrong (field-there _ _ (c .before .before .before .before .read-field .ensures) (c .before .before .greatest .given .1)) (c .if1 .left)
 
 pub read-greatest-spec : {M : Type 1} → statement M
-read-greatest-spec =
-    tie.close
-    (tie.spec
-    read-field-requires
-    enum-known-greatest
-    enum-told
-    returns
-    read-end-requires
-    returns-2
-    returns-3)
+read-greatest-spec = tie.close (tie.spec read-field-requires enum-known-greatest enum-told returns read-end-requires returns-2 returns-3)

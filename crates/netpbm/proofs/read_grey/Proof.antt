@@ -1,4 +1,4 @@
-use Rattle.netpbm.proofs.Laws.{FieldThere, field-there, not-p5, p5-within, no-width, no-height, sides-read}
+use Rattle.netpbm.proofs.Laws.{field-there, not-p5, p5-within, no-width, no-height, sides-read}
 use borrow.Author.Tests.{not-true, not-false}
 use borrow.Author.Needs.{needs}
 use Rattle.netpbm.proofs.read_grey.Statement.{statement}
@@ -48,17 +48,5 @@ returns-4 c =
 
 pub read-grey-spec : {M : Type 1} → statement M
 read-grey-spec =
-    tie.close
-    (tie.spec
-    is-p5-requires
-    returns
-    read-field-requires
-    enum-known-width
-    enum-told
-    returns-2
-    read-field-requires-2
-    enum-known-height
-    enum-told-2
-    returns-3
-    read-greatest-requires
-    returns-4)
+    tie.close (tie.spec is-p5-requires returns read-field-requires enum-known-width enum-told returns-2 read-field-requires-2 enum-known-height
+    enum-told-2 returns-3 read-greatest-requires returns-4)

@@ -22,12 +22,4 @@ returns : tie.Need-returns
 returns c = search (needs, wrote-lines)
 
 pub write-header-spec : {M : Type 1} → statement M
-write-header-spec =
-    tie.close
-    (tie.spec
-    write-sides-requires
-    slice-aggregate-copy
-    copy-requires
-    add-result
-    same-length
-    returns)
+write-header-spec = tie.close (tie.spec write-sides-requires slice-aggregate-copy copy-requires add-result same-length returns)

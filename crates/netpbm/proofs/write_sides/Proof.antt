@@ -22,12 +22,4 @@ returns : tie.Need-returns
 returns c = search (needs, wrote-sides)
 
 pub write-sides-spec : {M : Type 1} → statement M
-write-sides-spec =
-    tie.close
-    (tie.spec
-    write-width-requires
-    store-requires
-    add-write-decimal
-    write-decimal-requires
-    same-length
-    returns)
+write-sides-spec = tie.close (tie.spec write-width-requires store-requires add-write-decimal write-decimal-requires same-length returns)

@@ -19,6 +19,4 @@ returns : tie.Need-returns
 returns c = search (needs, wrote-width)
 
 pub write-width-spec : {M : Type 1} → statement M
-write-width-spec =
-    tie.close
-    (tie.spec slice-aggregate-copy copy-requires write-decimal-requires same-length returns)
+write-width-spec = tie.close (tie.spec slice-aggregate-copy copy-requires write-decimal-requires same-length returns)
