@@ -21,10 +21,10 @@ use rules::Served;
 use rules::Verdict;
 use survey::Survey;
 
-fn refusal_number(r: Refusal) -> u64
-    ensures { λ n. ⌜ n ≡ refusalNumber r ⌝ }
+fn refusal_number(refusal: Refusal) -> u64
+    ensures { λ n. ⌜ n ≡ refusalNumber refusal ⌝ }
 {
-    match r {
+    match refusal {
         Refusal::Size => 1,
         Refusal::Length => 2,
         Refusal::Work => 3,
@@ -43,10 +43,10 @@ fn refusal_number(r: Refusal) -> u64
     }
 }
 
-fn refusal_place(r: Refusal) -> u64
-    ensures { λ n. ⌜ n ≡ refusalPlace r ⌝ }
+fn refusal_place(refusal: Refusal) -> u64
+    ensures { λ n. ⌜ n ≡ refusalPlace refusal ⌝ }
 {
-    match r {
+    match refusal {
         Refusal::Range(place) => place as u64,
         Refusal::Head(place) => place as u64,
         Refusal::Part(place) => place as u64,
@@ -65,54 +65,54 @@ fn refusal_place(r: Refusal) -> u64
     }
 }
 
-pub fn number(v: Verdict) -> u64
-    ensures { λ n. ⌜ n ≡ verdictNumber v ⌝ }
+pub fn number(verdict: Verdict) -> u64
+    ensures { λ n. ⌜ n ≡ verdictNumber verdict ⌝ }
 {
-    match v {
+    match verdict {
         Verdict::Accepted => 0,
         Verdict::Refused(r) => refusal_number(r),
     }
 }
 
-pub fn place(v: Verdict) -> u64
-    ensures { λ n. ⌜ n ≡ verdictPlace v ⌝ }
+pub fn place(verdict: Verdict) -> u64
+    ensures { λ n. ⌜ n ≡ verdictPlace verdict ⌝ }
 {
-    match v {
+    match verdict {
         Verdict::Accepted => 0,
         Verdict::Refused(r) => refusal_place(r),
     }
 }
 
 // All 0, but for number and place in front.
-fn report_verdict(v: Verdict, answer: &mut [u64]) -> u64
+fn report_verdict(verdict: Verdict, answer: &mut [u64]) -> u64
     requires { ⌜ codePlaces ≤ length (now answer) ⌝ }
-    ensures { λ n. ⌜ Reported (verdictNumbers v) (now (answer .entry)) n (now (answer .exit)) ⌝ }
+    ensures { λ n. ⌜ Reported (verdictNumbers verdict) (now (answer .entry)) n (now (answer .exit)) ⌝ }
 {
     memory::zero_u64(answer);
-    let n = number(v);
+    let n = number(verdict);
     answer[0] = n;
-    answer[1] = place(v);
+    answer[1] = place(verdict);
     n
 }
 
-pub fn report_coded(a: Coded, answer: &mut [u64]) -> u64
+pub fn report_coded(coded: Coded, answer: &mut [u64]) -> u64
     requires { ⌜ codePlaces ≤ length (now answer) ⌝ }
-    ensures { λ n. ⌜ Reported (codeNumbers a) (now (answer .entry)) n (now (answer .exit)) ⌝ }
+    ensures { λ n. ⌜ Reported (codeNumbers coded) (now (answer .entry)) n (now (answer .exit)) ⌝ }
 {
-    let v = a.verdict;
+    let v = coded.verdict;
     let n = report_verdict(v, answer);
-    answer[2] = a.length as u64;
+    answer[2] = coded.length as u64;
     n
 }
 
-pub fn report_served(a: Served, answer: &mut [u64]) -> u64
+pub fn report_served(served: Served, answer: &mut [u64]) -> u64
     requires { ⌜ servePlaces ≤ length (now answer) ⌝ }
-    ensures { λ n. ⌜ Reported (serveNumbers a) (now (answer .entry)) n (now (answer .exit)) ⌝ }
+    ensures { λ n. ⌜ Reported (serveNumbers served) (now (answer .entry)) n (now (answer .exit)) ⌝ }
 {
-    let v = a.verdict;
+    let v = served.verdict;
     let n = report_verdict(v, answer);
-    answer[2] = a.length as u64;
-    answer[3] = a.tail as u64;
+    answer[2] = served.length as u64;
+    answer[3] = served.tail as u64;
     n
 }
 
@@ -142,62 +142,62 @@ fn store_counts(counts: [usize; LEVEL_PLACES], answer: &mut [u64], at: usize)
 }
 
 // What decoding says of each level: the planes, and the counts behind them.
-fn store_levels(a: Decoded, answer: &mut [u64], at: usize)
+fn store_levels(decoded: Decoded, answer: &mut [u64], at: usize)
     requires { ⌜ at + 2 * levelPlaces ≤ length (now answer) ⌝ }
-    ensures { λ _. ⌜ now (answer .exit) ≡ sets (now (answer .entry)) at (levelNumbers a) ⌝ }
+    ensures { λ _. ⌜ now (answer .exit) ≡ sets (now (answer .entry)) at (levelNumbers decoded) ⌝ }
 {
-    let reached = a.reached;
+    let reached = decoded.reached;
     store_planes(reached, answer, at);
-    let skipped = a.skipped;
+    let skipped = decoded.skipped;
     store_counts(skipped, answer, at + LEVEL_PLACES);
 }
 
-pub fn report_decoded(a: Decoded, answer: &mut [u64]) -> u64
+pub fn report_decoded(decoded: Decoded, answer: &mut [u64]) -> u64
     requires { ⌜ decodePlaces ≤ length (now answer) ⌝ }
-    ensures { λ n. ⌜ Reported (decodeNumbers a) (now (answer .entry)) n (now (answer .exit)) ⌝ }
+    ensures { λ n. ⌜ Reported (decodeNumbers decoded) (now (answer .entry)) n (now (answer .exit)) ⌝ }
 {
-    let v = a.verdict;
+    let v = decoded.verdict;
     let n = report_verdict(v, answer);
-    answer[2] = a.tail as u64;
-    store_levels(a, answer, 3);
+    answer[2] = decoded.tail as u64;
+    store_levels(decoded, answer, 3);
     n
 }
 
-pub fn report_surveyed(a: Survey, answer: &mut [u64]) -> u64
+pub fn report_surveyed(surveyed: Survey, answer: &mut [u64]) -> u64
     requires { ⌜ surveyPlaces ≤ length (now answer) ⌝ }
-    ensures { λ n. ⌜ Reported (surveyNumbers a) (now (answer .entry)) n (now (answer .exit)) ⌝ }
+    ensures { λ n. ⌜ Reported (surveyNumbers surveyed) (now (answer .entry)) n (now (answer .exit)) ⌝ }
 {
-    let v = a.verdict;
+    let v = surveyed.verdict;
     let n = report_verdict(v, answer);
-    let header = a.header;
+    let header = surveyed.header;
     let size = header.size;
     answer[2] = size.w as u64;
     answer[3] = size.h as u64;
     answer[4] = size.n as u64;
     answer[5] = header.planes as u64;
-    answer[6] = a.parts as u64;
-    answer[7] = a.tail as u64;
+    answer[6] = surveyed.parts as u64;
+    answer[7] = surveyed.tail as u64;
     n
 }
 
-pub fn report_grey_read(a: GreyRead, answer: &mut [u64]) -> u64
+pub fn report_grey_read(read: GreyRead, answer: &mut [u64]) -> u64
     requires { ⌜ greyPlaces ≤ length (now answer) ⌝ }
-    ensures { λ n. ⌜ Reported (greyReadNumbers a) (now (answer .entry)) n (now (answer .exit)) ⌝ }
+    ensures { λ n. ⌜ Reported (greyReadNumbers read) (now (answer .entry)) n (now (answer .exit)) ⌝ }
 {
-    let v = a.verdict;
+    let v = read.verdict;
     let n = report_verdict(v, answer);
-    answer[2] = a.w as u64;
-    answer[3] = a.h as u64;
+    answer[2] = read.w as u64;
+    answer[3] = read.h as u64;
     n
 }
 
-pub fn report_grey_written(a: GreyWritten, answer: &mut [u64]) -> u64
+pub fn report_grey_written(written: GreyWritten, answer: &mut [u64]) -> u64
     requires { ⌜ greyPlaces ≤ length (now answer) ⌝ }
-    ensures { λ n. ⌜ Reported (greyWrittenNumbers a) (now (answer .entry)) n (now (answer .exit)) ⌝ }
+    ensures { λ n. ⌜ Reported (greyWrittenNumbers written) (now (answer .entry)) n (now (answer .exit)) ⌝ }
 {
-    let v = a.verdict;
+    let v = written.verdict;
     let n = report_verdict(v, answer);
-    answer[2] = a.length as u64;
-    answer[3] = a.clipped as u64;
+    answer[2] = written.length as u64;
+    answer[3] = written.clipped as u64;
     n
 }

@@ -52,12 +52,12 @@ module _ (pyramid : List ℤ) (z : Size) (work : ℕ) (l : Bool) (found : l ≡ 
     unfolding judgedInput
     judged-length b = rw (sym found ∙ a, ne-eqb (length pyramid) (area z) b)
 
-    module _ (b : length pyramid ≡ area z) where
-      pub judged-work : work < workFor z → Refused refusal.Work ≡ judgedInput pyramid z work
+    module _ (b : length pyramid ≡ area z) (least : ℕ) (m : least ≡ workFor z) where
+      pub judged-work : work < least → Refused refusal.Work ≡ judgedInput pyramid z work
       unfolding judgedInput
-      judged-work c = rw (sym found ∙ a, eq-eqb (length pyramid) (area z) b, lt-leb (workFor z) work c)
+      judged-work c = rw (sym found ∙ a, eq-eqb (length pyramid) (area z) b, lt-leb (workFor z) work (omega arith))
 
-      module _ (c : workFor z ≤ work) where
+      module _ (c : least ≤ work) where
         pub judged-range : (over : ℕ) → over ≡ firstOver mostMagnitude pyramid → (over ≡ length pyramid → ⊥)
             → Refused (refusal.Range over) ≡ judgedInput pyramid z work
         unfolding judgedInput
@@ -65,7 +65,7 @@ module _ (pyramid : List ℤ) (z : Size) (work : ℕ) (l : Bool) (found : l ≡ 
             rw (
               sym found ∙ a,
               eq-eqb (length pyramid) (area z) b,
-              le-leb (workFor z) work c,
+              le-leb (workFor z) work (omega arith),
               ne-eqb (firstOver mostMagnitude pyramid) (length pyramid) (λ f. d (e ∙ f)),
               e,
             )
@@ -76,7 +76,7 @@ module _ (pyramid : List ℤ) (z : Size) (work : ℕ) (l : Bool) (found : l ≡ 
             rw (
               sym found ∙ a,
               eq-eqb (length pyramid) (area z) b,
-              le-leb (workFor z) work c,
+              le-leb (workFor z) work (omega arith),
               eq-eqb (firstOver mostMagnitude pyramid) (length pyramid) (sym e ∙ d),
             )
 

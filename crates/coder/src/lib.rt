@@ -54,7 +54,7 @@ fn judged(pyramid: &[i32], z: Size, work: usize) -> Verdict
     if pyramid.len() != area {
         return Verdict::Refused(Refusal::Length);
     }
-    if work < 4 * area {
+    if work < shape::work_for(z) {
         return Verdict::Refused(Refusal::Work);
     }
     let over = coefficients::first_over(pyramid, MOST_MAGNITUDE);

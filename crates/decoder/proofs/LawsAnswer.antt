@@ -1,9 +1,9 @@
 -- What is answered and left in the memory lent, refused or accepted.
 use mathlib.Core.Path.{_≡_, refl, ap, sym, _∙_}
+use mathlib.Core.Bool.{true}
 use mathlib.Core.List.{List}
 use Prim.Native.Nat.{ℕ, _*_, _≤_, _<_}
 use native.Mathlib.Omega.{arith}
-use native.Mathlib.Nat.{mul-assoc, mul-le-mul}
 use borrow.Author.Tests.{le-leb, lt-leb, eq-eqb, ne-eqb}
 use lib.ListN.{length, replicate}
 use lib.IntN.{ℤ, pos}
@@ -16,11 +16,10 @@ use Rattle.rules.specs.declared.Header.{Header}
 use Rattle.rules.specs.declared.HeaderRead.{HeaderRead}
 use Rattle.rules.specs.declared.HeaderRead.the-variants as header
 use Rattle.rules.specs.declared.Decoded.{Decoded}
-use Rattle.rules.specs.Document.Pyramid.{area, greatestSide, mostArea}
+use Rattle.rules.specs.Document.Pyramid.{area, legalSize}
 use Rattle.rules.specs.Document.Numbers.{readHeader, readParts}
 use Rattle.rules.specs.Document.Calls.{Result, refused, accepted, unless, workFor, onHeader, Picture, decodedParts, decoding, decodeOut, decodeAnswer, Decoding}
-use Rattle.rules.specs.Laws.Family.Sizes.{legal}
-use Rattle.rules.specs.Promises.Vocabulary.{Legal}
+use Rattle.rules.specs.Laws.Family.Sizes.{area-bound}
 use Rattle.rules.specs.Laws.Reading.Stands.{HeaderStands, readHeader-stands, header-legal}
 use Rattle.decoder.specs.Walking.{Answered, Refusing, Accepting, Lent}
 
@@ -47,32 +46,22 @@ module _ (x : Result Picture) (out between : List ℤ) (work since : List ℕ) (
         clears = t .clears ∙ ap (λ (n : ℕ). replicate n 0) b;
       }
 
+pub least-known : {least needed room : ℕ} → least ≡ needed → least ≤ room → needed ≤ room
+least-known e h = omega arith
+
 -- A header that was read: y is what was found of the bytes.
 module _ (s : List ℕ) (y : HeaderRead) (e : y ≡ readHeader s) (h : Header) (f : y ≡ header.Header h) where
   whole-header : HeaderStands s h
   whole-header = readHeader-stands s h (sym e ∙ f)
 
-  -- the products that the lengths are judged by
-  header-area : (4 * h .size .w ≤ 4 * greatestSide) × (area (h .size) ≤ mostArea) × (4 * h .size .w * h .size .h ≡ workFor (h .size))
-  header-area =
-      let Z : Legal (h .size) = legal (h .size) (header-legal whole-header) in (
-        omega (arith, Z .width .most),
-        mul-le-mul (Z .width .most) (Z .height .most),
-        mul-assoc 4 (h .size .w) (h .size .h),
-      )
-
   pub area-fits : Fits w64 (h .size .w * h .size .h)
-  area-fits = record { fits = omega (arith, header-area .1) }
+  area-fits = record { fits = omega (arith, area-bound (h .size) (header-legal whole-header)) }
 
-  pub row-fits : Fits w64 (4 * h .size .w)
-  row-fits = record { fits = omega (arith, header-area .0) }
+  pub size-legal : legalSize (h .size) ≡ true
+  size-legal = header-legal whole-header
 
-  pub work-fits : Fits w64 (4 * h .size .w * h .size .h)
-  work-fits = record { fits = omega (arith, header-area .1, header-area .2) }
-
-  pub header-lent : (out : List ℤ) (work : List ℕ) → length out ≡ area (h .size) → 4 * h .size .w * h .size .h ≤ length work → Lent h s out work
-  header-lent out work a l =
-      record { read = sym e ∙ f; whole = a; room = omega (arith, header-area .2) }
+  pub header-lent : (out : List ℤ) (work : List ℕ) → length out ≡ area (h .size) → workFor (h .size) ≤ length work → Lent h s out work
+  header-lent out work a l = record { read = sym e ∙ f; whole = a; room = l }
 
 -- What decoding comes to, by what was read of the header: y is what was found.
 module _ (s : List ℕ) (room work : ℕ) (y : HeaderRead) (e : y ≡ readHeader s) where
@@ -85,22 +74,22 @@ module _ (s : List ℕ) (room work : ℕ) (y : HeaderRead) (e : y ≡ readHeader
     unfolding decoding onHeader unless
     decoding-length d = rw (sym e ∙ f, ne-eqb room (area (h .size)) d)
 
-    pub decoding-work : room ≡ area (h .size) → work < 4 * h .size .w * h .size .h → decoding s room work ≡ refused refusal.Work
+    pub decoding-work : (least : ℕ) → room ≡ area (h .size) → least ≡ workFor (h .size) → work < least → decoding s room work ≡ refused refusal.Work
     unfolding decoding onHeader unless
-    decoding-work a l =
+    decoding-work least a m l =
         rw (
           sym e ∙ f,
           eq-eqb room (area (h .size)) a,
-          lt-leb (workFor (h .size)) work (omega (arith, header-area s y e h f .2)),
+          lt-leb (workFor (h .size)) work (omega arith),
         )
 
-    pub decoding-parts : room ≡ area (h .size) → 4 * h .size .w * h .size .h ≤ work → decoding s room work ≡ decodedParts h s (readParts h s)
+    pub decoding-parts : room ≡ area (h .size) → workFor (h .size) ≤ work → decoding s room work ≡ decodedParts h s (readParts h s)
     unfolding decoding onHeader unless
     decoding-parts a l =
         rw (
           sym e ∙ f,
           eq-eqb room (area (h .size)) a,
-          le-leb (workFor (h .size)) work (omega (arith, header-area s y e h f .2)),
+          le-leb (workFor (h .size)) work l,
         )
 
 -- The public contract.

@@ -228,7 +228,7 @@ pub fn decode(bytes: &[u8], out: &mut [i32], work: &mut [u32]) -> Decoded
             if out.len() != size.w * size.h {
                 return refuse(Refusal::Length, out, work);
             }
-            if work.len() < 4 * size.w * size.h {
+            if work.len() < shape::work_for(size) {
                 return refuse(Refusal::Work, out, work);
             }
             decode_parts(bytes, h, out, work)

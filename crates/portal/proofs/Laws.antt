@@ -1,10 +1,8 @@
 -- An exported call: an answer slice that is too short, and one that takes the answer.
-use mathlib.Core.Path.{_≡_, refl, ap, sym, _∙_}
+use mathlib.Core.Path.{_≡_, ap, _∙_}
 use mathlib.Core.List.{List}
-use mathlib.Core.Bool.{cond}
 use Prim.Native.Nat.{ℕ, _≤_, _<_}
-use lib.Dec.{leb}
-use lib.ListN.{length, getD, replicate}
+use lib.ListN.{length, replicate}
 use lib.IntN.{ℤ, pos}
 use borrow.Author.Tests.{le-leb, lt-leb}
 use Rattle.rules.specs.declared.Size.{Size}
@@ -12,10 +10,8 @@ use Rattle.rules.specs.declared.Coded.{Coded}
 use Rattle.rules.specs.declared.Served.{Served}
 use Rattle.rules.specs.declared.Decoded.{Decoded}
 use Rattle.rules.specs.Document.Notation.{zeros}
-use Rattle.rules.specs.Document.Calls.{returned, reported, lentOut}
-use Rattle.rules.specs.Document.Calls.{codePlaces, coding, codeAnswer, codeNumbers, Coding, AfsCode}
-use Rattle.rules.specs.Document.Calls.{servePlaces, serving, serveAnswer, serveNumbers, Serving, AfsServe}
-use Rattle.rules.specs.Document.Calls.{decodePlaces, decoding, decodeAnswer, decodeNumbers, Decoding, AfsDecode}
+use Rattle.rules.specs.Document.Calls.{returned, reported, lentOut, codePlaces, coding, codeAnswer, codeNumbers, Coding, AfsCode, servePlaces, serving}
+use Rattle.rules.specs.Document.Calls.{serveAnswer, serveNumbers, Serving, AfsServe, decodePlaces, decoding, decodeAnswer, decodeNumbers, Decoding, AfsDecode}
 use Rattle.joins.specs.Document.Joining.{joining, Joining, AfsJoin}
 use Rattle.survey.specs.declared.Survey.{Survey}
 use Rattle.survey.specs.Surveyed.{surveyPlaces, surveyOf, surveyNumbers, AfsSurvey}

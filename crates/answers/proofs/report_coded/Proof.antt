@@ -23,5 +23,4 @@ unfolding verdictNumbers codeNumbers
 returns c = reported-more (_ ∷ []) (c .before .before .report-verdict .ensures) (omega arith) (omega arith) refl
 
 pub report-coded-spec : {M : Type 1} → statement M
-report-coded-spec =
-    tie.close (tie.spec report-verdict-requires slice-write-answer same-length returns)
+report-coded-spec = tie.close (tie.spec report-verdict-requires slice-write-answer same-length returns)

@@ -30,6 +30,4 @@ unfolding decodeNumbers from
 same-length c = reported-length (returns c) (omega arith)
 
 pub report-decoded-spec : {M : Type 1} → statement M
-report-decoded-spec =
-    tie.close
-    (tie.spec report-verdict-requires slice-write-answer store-levels-requires same-length returns)
+report-decoded-spec = tie.close (tie.spec report-verdict-requires slice-write-answer store-levels-requires same-length returns)

@@ -26,6 +26,4 @@ unfolding verdictNumbers greyWrittenNumbers
 returns c = reported-more (_ ∷ _ ∷ []) (c .before .before .report-verdict .ensures) (omega arith) (omega arith) refl
 
 pub report-grey-written-spec : {M : Type 1} → statement M
-report-grey-written-spec =
-    tie.close
-    (tie.spec report-verdict-requires slice-write-answer slice-write-answer-2 same-length returns)
+report-grey-written-spec = tie.close (tie.spec report-verdict-requires slice-write-answer slice-write-answer-2 same-length returns)

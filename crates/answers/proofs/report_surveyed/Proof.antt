@@ -40,14 +40,5 @@ returns c = reported-more (_ ∷ _ ∷ _ ∷ _ ∷ _ ∷ _ ∷ []) (c .before .b
 
 pub report-surveyed-spec : {M : Type 1} → statement M
 report-surveyed-spec =
-    tie.close
-    (tie.spec
-    report-verdict-requires
-    slice-write-answer
-    slice-write-answer-2
-    slice-write-answer-3
-    slice-write-answer-4
-    slice-write-answer-5
-    slice-write-answer-6
-    same-length
-    returns)
+    tie.close (tie.spec report-verdict-requires slice-write-answer slice-write-answer-2 slice-write-answer-3 slice-write-answer-4 slice-write-answer-5
+    slice-write-answer-6 same-length returns)

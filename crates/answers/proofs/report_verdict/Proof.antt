@@ -34,12 +34,4 @@ returns c =
 
 pub report-verdict-spec : {M : Type 1} → statement M
 report-verdict-spec =
-    tie.close
-    (tie.spec
-    zero-u64-requires
-    number-requires
-    slice-write-answer
-    place-requires
-    slice-write-answer-2
-    same-length
-    returns)
+    tie.close (tie.spec zero-u64-requires number-requires slice-write-answer place-requires slice-write-answer-2 same-length returns)

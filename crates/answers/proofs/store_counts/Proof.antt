@@ -48,18 +48,5 @@ returns c = search (needs, storing-all)
 
 pub store-counts-spec : {M : Type 1} → statement M
 store-counts-spec =
-    tie.close
-    (tie.spec
-    Inv-loop
-    μ-loop
-    loop-holds
-    mul-answer
-    array-read-answer
-    add-answer
-    mul-answer-2
-    slice-write-answer
-    add-i
-    loop-less
-    loop-again
-    same-length
-    returns)
+    tie.close (tie.spec Inv-loop μ-loop loop-holds mul-answer array-read-answer add-answer mul-answer-2 slice-write-answer add-i loop-less loop-again
+    same-length returns)

@@ -23,6 +23,4 @@ returns c =
     levels-stored _ _ _ planes counts
 
 pub store-levels-spec : {M : Type 1} → statement M
-store-levels-spec =
-    tie.close
-    (tie.spec store-planes-requires add-store-counts store-counts-requires same-length returns)
+store-levels-spec = tie.close (tie.spec store-planes-requires add-store-counts store-counts-requires same-length returns)

@@ -1,6 +1,5 @@
 -- `answers::store_planes` meets its contract.
 use Prim.Native.Nat.{_-_}
-use native.Mathlib.Omega.{arith}
 use Rattle.rules.specs.Document.Calls.{levelPlaces, planeIn}
 use Rattle.answers.proofs.Laws.{Storing, storing-none, storing-more, storing-all}
 use borrow.Author.Needs.{needs}
@@ -49,18 +48,5 @@ returns c = search (needs, storing-all)
 
 pub store-planes-spec : {M : Type 1} → statement M
 store-planes-spec =
-    tie.close
-    (tie.spec
-    Inv-loop
-    μ-loop
-    loop-holds
-    mul-plane
-    array-copy-out-plane
-    add-answer
-    mul-answer
-    slice-write-answer
-    add-i
-    loop-less
-    loop-again
-    same-length
-    returns)
+    tie.close (tie.spec Inv-loop μ-loop loop-holds mul-plane array-copy-out-plane add-answer mul-answer slice-write-answer add-i loop-less loop-again
+    same-length returns)

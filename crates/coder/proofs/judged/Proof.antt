@@ -1,4 +1,5 @@
 -- `coder::judged`: the tests of the input, in document 01's order.
+use mathlib.Core.Path.{sym, _∙_}
 use borrow.Author.Needs.{needs}
 use borrow.Author.Tests.{not-true, not-false}
 use Rattle.coder.proofs.Outcomes.{area-fits, judged-size, judged-length, judged-work, judged-range, judged-accepted}
@@ -17,8 +18,8 @@ mul-area c = search (needs, area-fits, not-false)
 returns-2 : tie.Need-returns-2
 returns-2 c = search (needs, judged-length, not-false)
 
-mul-if3 : tie.Need-mul-if3
-mul-if3 c = search needs
+work-for-requires : tie.Need-work-for-requires
+work-for-requires c κs = sym (c .before .before .before .legal-size .ensures) ∙ not-false _ (c .before .before .if1 .left)
 
 returns-3 : tie.Need-returns-3
 returns-3 c = search (needs, judged-work, not-false)
@@ -40,7 +41,7 @@ judged-spec =
     returns
     mul-area
     returns-2
-    mul-if3
+    work-for-requires
     returns-3
     first-over-requires
     returns-4

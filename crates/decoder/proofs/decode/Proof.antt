@@ -1,5 +1,5 @@
 -- `decoder::decode`: header, pyramid, workspace, parts.
-use Rattle.decoder.proofs.LawsAnswer.{area-fits, row-fits, work-fits, header-lent, decoding-refused, decoding-length, decoding-work, decoding-parts}
+use Rattle.decoder.proofs.LawsAnswer.{area-fits, size-legal, least-known, header-lent, decoding-refused, decoding-length, decoding-work, decoding-parts}
 use Rattle.decoder.proofs.LawsAnswer.{answered-decoding, refusing-decoding}
 use borrow.Author.Needs.{needs}
 use Rattle.decoder.proofs.decode.Statement.{statement}
@@ -32,11 +32,8 @@ same-length-2 c = search needs
 returns : tie.Need-returns
 returns c = search (needs, refusing-decoding, decoding-length)
 
-mul-if2 : tie.Need-mul-if2
-mul-if2 c = search (needs, row-fits)
-
-mul-if2-2 : tie.Need-mul-if2-2
-mul-if2-2 c = search (needs, work-fits)
+work-for-requires : tie.Need-work-for-requires
+work-for-requires c κs = search (needs, size-legal)
 
 refuse-requires-3 : tie.Need-refuse-requires-3
 refuse-requires-3 c κs = search needs
@@ -51,7 +48,8 @@ returns-2 : tie.Need-returns-2
 returns-2 c = search (needs, refusing-decoding, decoding-work)
 
 decode-parts-requires : tie.Need-decode-parts-requires
-decode-parts-requires c κs = search (needs, header-lent)
+decode-parts-requires c κs =
+    let room = least-known (c .before .before .before .work-for .ensures) (c .before .before .if2 .left) in search (needs, header-lent)
 
 same-length-5 : tie.Need-same-length-5
 same-length-5 c = search needs
@@ -69,7 +67,10 @@ same-length-8 : tie.Need-same-length-8
 same-length-8 c = search needs
 
 returns-4 : tie.Need-returns-4
-returns-4 c = search (needs, answered-decoding, decoding-parts)
+returns-4 c =
+    let lent = c .before .before .before .before .before .before in
+    let room = least-known (lent .before .work-for .ensures) (lent .if2 .left) in
+    search (needs, answered-decoding, decoding-parts)
 
 pub decode-spec : {M : Type 1} → statement M
 decode-spec =
@@ -84,8 +85,7 @@ decode-spec =
     same-length
     same-length-2
     returns
-    mul-if2
-    mul-if2-2
+    work-for-requires
     refuse-requires-3
     same-length-3
     same-length-4

@@ -44,18 +44,5 @@ returns-2 c = search (needs, code-long)
 
 pub afs-code-spec : {M : Type 1} → statement M
 afs-code-spec =
-    tie.close
-    (tie.spec
-    zero-u8-requires
-    zero-u32-requires
-    too-short-requires
-    same-length
-    same-length-2
-    same-length-3
-    returns
-    code-requires
-    report-coded-requires
-    same-length-4
-    same-length-5
-    same-length-6
-    returns-2)
+    tie.close (tie.spec zero-u8-requires zero-u32-requires too-short-requires same-length same-length-2 same-length-3 returns code-requires
+    report-coded-requires same-length-4 same-length-5 same-length-6 returns-2)

@@ -44,18 +44,5 @@ returns-2 c = search (needs, decode-long)
 
 pub afs-decode-spec : {M : Type 1} → statement M
 afs-decode-spec =
-    tie.close
-    (tie.spec
-    zero-i32-requires
-    zero-u32-requires
-    too-short-requires
-    same-length
-    same-length-2
-    same-length-3
-    returns
-    decode-requires
-    report-decoded-requires
-    same-length-4
-    same-length-5
-    same-length-6
-    returns-2)
+    tie.close (tie.spec zero-i32-requires zero-u32-requires too-short-requires same-length same-length-2 same-length-3 returns decode-requires
+    report-decoded-requires same-length-4 same-length-5 same-length-6 returns-2)

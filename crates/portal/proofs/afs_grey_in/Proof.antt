@@ -45,18 +45,5 @@ returns-2 c = search (needs, in-long)
 
 pub afs-grey-in-spec : {M : Type 1} → statement M
 afs-grey-in-spec =
-    tie.close
-    (tie.spec
-    zero-i32-requires
-    zero-u32-requires
-    too-short-requires
-    same-length
-    same-length-2
-    same-length-3
-    returns
-    grey-in-requires
-    report-grey-read-requires
-    same-length-4
-    same-length-5
-    same-length-6
-    returns-2)
+    tie.close (tie.spec zero-i32-requires zero-u32-requires too-short-requires same-length same-length-2 same-length-3 returns grey-in-requires
+    report-grey-read-requires same-length-4 same-length-5 same-length-6 returns-2)

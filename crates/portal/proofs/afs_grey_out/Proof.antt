@@ -45,18 +45,5 @@ returns-2 c = search (needs, out-long)
 
 pub afs-grey-out-spec : {M : Type 1} → statement M
 afs-grey-out-spec =
-    tie.close
-    (tie.spec
-    zero-u8-requires
-    zero-u32-requires
-    too-short-requires
-    same-length
-    same-length-2
-    same-length-3
-    returns
-    grey-out-requires
-    report-grey-written-requires
-    same-length-4
-    same-length-5
-    same-length-6
-    returns-2)
+    tie.close (tie.spec zero-u8-requires zero-u32-requires too-short-requires same-length same-length-2 same-length-3 returns grey-out-requires
+    report-grey-written-requires same-length-4 same-length-5 same-length-6 returns-2)

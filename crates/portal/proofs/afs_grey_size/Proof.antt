@@ -25,13 +25,4 @@ returns-2 : tie.Need-returns-2
 returns-2 c = search (needs, size-long)
 
 pub afs-grey-size-spec : {M : Type 1} → statement M
-afs-grey-size-spec =
-    tie.close
-    (tie.spec
-    too-short-requires
-    same-length
-    returns
-    grey-size-requires
-    report-grey-read-requires
-    same-length-2
-    returns-2)
+afs-grey-size-spec = tie.close (tie.spec too-short-requires same-length returns grey-size-requires report-grey-read-requires same-length-2 returns-2)

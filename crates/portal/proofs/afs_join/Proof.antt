@@ -36,15 +36,5 @@ returns-2 c = search (needs, join-long)
 
 pub afs-join-spec : {M : Type 1} → statement M
 afs-join-spec =
-    tie.close
-    (tie.spec
-    zero-u8-requires
-    too-short-requires
-    same-length
-    same-length-2
-    returns
-    join-requires
-    report-coded-requires
-    same-length-3
-    same-length-4
-    returns-2)
+    tie.close (tie.spec zero-u8-requires too-short-requires same-length same-length-2 returns join-requires report-coded-requires same-length-3
+    same-length-4 returns-2)

@@ -35,15 +35,5 @@ returns-2 c = search (needs, serve-long)
 
 pub afs-serve-spec : {M : Type 1} → statement M
 afs-serve-spec =
-    tie.close
-    (tie.spec
-    zero-u8-requires
-    too-short-requires
-    same-length
-    same-length-2
-    returns
-    serve-requires
-    report-served-requires
-    same-length-3
-    same-length-4
-    returns-2)
+    tie.close (tie.spec zero-u8-requires too-short-requires same-length same-length-2 returns serve-requires report-served-requires same-length-3
+    same-length-4 returns-2)

@@ -25,13 +25,4 @@ returns-2 : tie.Need-returns-2
 returns-2 c = search (needs, survey-long)
 
 pub afs-survey-spec : {M : Type 1} → statement M
-afs-survey-spec =
-    tie.close
-    (tie.spec
-    too-short-requires
-    same-length
-    returns
-    survey-of-requires
-    report-surveyed-requires
-    same-length-2
-    returns-2)
+afs-survey-spec = tie.close (tie.spec too-short-requires same-length returns survey-of-requires report-surveyed-requires same-length-2 returns-2)
