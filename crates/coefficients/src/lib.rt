@@ -2,13 +2,14 @@
 use rules::Plane;
 ghost use mathlib.Core.Path.{_≡_};
 ghost use mathlib.Core.Bool.{cond};
-ghost use Prim.Native.Nat.{_^_, _<_, max};
+ghost use Prim.Native.Nat.{_+_, _*_, _^_, _<_, max};
 ghost use lib.ListN.{getD, set};
 ghost use lib.IntN.{pos, natAbs};
 ghost use Rattle.rules.specs.Document.Notation.{greatest};
 ghost use Rattle.rules.specs.Document.Pyramid.{magnitude, negative, below0, planesOf};
 ghost use Rattle.rules.specs.Document.Passes.{signed, grown};
 ghost use Rattle.rules.specs.Document.Calls.{firstOver};
+ghost use Rattle.coefficients.specs.Words.{wordOf, worded, valueOf};
 
 pub fn is_negative(v: i32) -> bool
     ensures { λ r. ⌜ r ≡ below0 v ⌝ }
@@ -48,7 +49,7 @@ pub fn threshold_of(plane: Plane) -> u32
 }
 
 // 0 past the end.
-fn coefficient_at(pyramid: &[i32], q: usize) -> i32
+pub fn coefficient_at(pyramid: &[i32], q: usize) -> i32
     ensures { λ r. ⌜ r ≡ getD (now (pyramid .entry)) q (pos 0) ⌝ }
 {
     if q < pyramid.len() { pyramid[q] } else { 0 }
@@ -67,11 +68,11 @@ pub fn negative_at(pyramid: &[i32], q: usize) -> bool
 }
 
 // Nothing past the end.
-fn write_at(pyramid: &mut [i32], q: usize, v: i32)
-    ensures { λ r. ⌜ now (pyramid .exit) ≡ set (now (pyramid .entry)) q v ⌝ }
+fn write_at(pyramid: &mut [i32], q: usize, value: i32)
+    ensures { λ r. ⌜ now (pyramid .exit) ≡ set (now (pyramid .entry)) q value ⌝ }
 {
     if q < pyramid.len() {
-        pyramid[q] = v;
+        pyramid[q] = value;
     }
 }
 
@@ -94,11 +95,14 @@ fn added_by(bit: bool, plane: Plane) -> u32
     0
 }
 
-fn grown_by(v: i32, bit: bool, plane: Plane) -> i32
-    requires { ⌜ (natAbs v < 2 ^ 30) × (plane .0 < 30) ⌝ }
-    ensures { λ r. ⌜ r ≡ grown bit (2 ^ plane .0) v ⌝ }
+fn grown_by(value: i32, bit: bool, plane: Plane) -> i32
+    requires { ⌜ (natAbs value < 2 ^ 30) × (plane .0 < 30) ⌝ }
+    ensures { λ r. ⌜ r ≡ grown bit (2 ^ plane .0) value ⌝ }
 {
-    signed_of(is_negative(v), magnitude_of(v) + added_by(bit, plane))
+    signed_of(
+        is_negative(value),
+        magnitude_of(value) + added_by(bit, plane),
+    )
 }
 
 // Written whatever the bit is: bits can't be foretold, and a branch on each would cost more.
@@ -108,6 +112,42 @@ pub fn write_refined(pyramid: &mut [i32], q: usize, bit: bool, plane: Plane)
 {
     let v = coefficient_at(pyramid, q);
     write_at(pyramid, q, grown_by(v, bit, plane));
+}
+
+// A coefficient as a word: magnitude x 2, and 1 more where it is negative. Sign and bit come in as numbers: neither can be foretold.
+fn word_with(negative: bool, magnitude: u32) -> u32
+    requires { ⌜ magnitude < 2 ^ 31 ⌝ }
+    ensures { λ r. ⌜ r ≡ wordOf negative magnitude ⌝ }
+{
+    2 * magnitude + (negative as u32)
+}
+
+pub fn word_of(v: i32) -> u32
+    requires { ⌜ natAbs v < 2 ^ 31 ⌝ }
+    ensures { λ r. ⌜ r ≡ worded v ⌝ }
+{
+    word_with(is_negative(v), magnitude_of(v))
+}
+
+pub fn value_of(w: u32) -> i32
+    ensures { λ r. ⌜ r ≡ valueOf w ⌝ }
+{
+    signed_of(w % 2 == 1, w / 2)
+}
+
+pub fn found_word(negative: bool, plane: Plane) -> u32
+    requires { ⌜ plane .0 < 30 ⌝ }
+    ensures { λ r. ⌜ r ≡ wordOf negative (2 ^ plane .0) ⌝ }
+{
+    word_with(negative, threshold_of(plane))
+}
+
+pub fn refined_word(w: u32, bit: bool, plane: Plane) -> u32
+    requires { ⌜ (w < 2 ^ 31) × (plane .0 < 30) ⌝ }
+    ensures { λ r. ⌜ r ≡ w + cond bit (2 * 2 ^ plane .0) 0 ⌝ }
+{
+    let n = plane.0 + 1;
+    w + ((bit as u32) << n)
 }
 
 // The first index whose magnitude is over a limit; the pyramid's length if there is none.

@@ -17,5 +17,4 @@ returns-2 : tie.Need-returns-2
 returns-2 c = past-end (c .before .args .pyramid .now) _ (c .if1 .left)
 
 pub coefficient-at-spec : {M : Type 1} → statement M
-coefficient-at-spec =
-    tie.close (tie.spec mul-result shared-slice-copy-out-result returns returns-2)
+coefficient-at-spec = tie.close (tie.spec mul-result shared-slice-copy-out-result returns returns-2)

@@ -37,15 +37,4 @@ returns-2 : tie.Need-returns-2 Inv-loop μ-loop
 returns-2 c = over-nowhere _ _ _ (c .before .loop .inv .0) (c .loop-test .left) (c .before .loop .inv .1)
 
 pub first-over-spec : {M : Type 1} → statement M
-first-over-spec =
-    tie.close
-    (tie.spec
-    Inv-loop
-    μ-loop
-    loop-holds
-    magnitude-at-requires
-    returns
-    add-q
-    loop-less
-    loop-again
-    returns-2)
+first-over-spec = tie.close (tie.spec Inv-loop μ-loop loop-holds magnitude-at-requires returns add-q loop-less loop-again returns-2)

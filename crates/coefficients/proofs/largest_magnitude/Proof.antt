@@ -39,15 +39,4 @@ returns : tie.Need-returns Inv-loop μ-loop
 returns c = seen-all _ _ _ (c .loop-test .left) (c .before .loop .inv .1)
 
 pub largest-magnitude-spec : {M : Type 1} → statement M
-largest-magnitude-spec =
-    tie.close
-    (tie.spec
-    Inv-loop
-    μ-loop
-    loop-holds
-    magnitude-at-requires
-    larger-requires
-    add-q
-    loop-less
-    loop-again
-    returns)
+largest-magnitude-spec = tie.close (tie.spec Inv-loop μ-loop loop-holds magnitude-at-requires larger-requires add-q loop-less loop-again returns)

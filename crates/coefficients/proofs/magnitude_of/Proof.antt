@@ -32,13 +32,4 @@ returns-2 : tie.Need-returns-2
 returns-2 c = ap natAbs (same _ (c .before .before .fits .v))
 
 pub magnitude-of-spec : {M : Type 1} → statement M
-magnitude-of-spec =
-    tie.close
-    (tie.spec
-    is-negative-requires
-    cast-result
-    sub-result
-    cast-result-2
-    cast-result-3
-    returns
-    returns-2)
+magnitude-of-spec = tie.close (tie.spec is-negative-requires cast-result sub-result cast-result-2 cast-result-3 returns returns-2)

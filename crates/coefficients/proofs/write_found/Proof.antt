@@ -28,6 +28,4 @@ returns c =
     ∙ found-written (a .pyramid .now) (a .q) _ _ _ _ (c .before .before .before .threshold-of .ensures) (signed .ensures) (signed .ok)
 
 pub write-found-spec : {M : Type 1} → statement M
-write-found-spec =
-    tie.close
-    (tie.spec threshold-of-requires signed-of-requires write-at-requires same-length returns)
+write-found-spec = tie.close (tie.spec threshold-of-requires signed-of-requires write-at-requires same-length returns)

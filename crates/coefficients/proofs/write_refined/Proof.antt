@@ -28,6 +28,4 @@ returns c =
     c .before .write-at .ensures ∙ refined-written (a .pyramid .now) (a .q) _ _ _ _ (read .ok) (read .ensures) (grown .ensures) (grown .ok)
 
 pub write-refined-spec : {M : Type 1} → statement M
-write-refined-spec =
-    tie.close
-    (tie.spec coefficient-at-requires grown-by-requires write-at-requires same-length returns)
+write-refined-spec = tie.close (tie.spec coefficient-at-requires grown-by-requires write-at-requires same-length returns)
