@@ -1,0 +1,4 @@
+pub mod Seg
+pub mod Cut
+pub mod Workspace
+pub mod Levels
