@@ -1,0 +1,188 @@
+// The lists of a level, in its stretch of the workspace: LIP, LSP and LIS; and behind the stretch, at the end of the next level's LIS, the sets
+// that move out of the level.
+ghost use mathlib.Core.Path.{_≡_};
+ghost use mathlib.Core.List.{[], _∷_, _++_};
+ghost use Prim.Native.Nat.{_+_, _*_, _^_, _≤_, _<_};
+ghost use lib.ListN.{length};
+ghost use Rattle.stretches.specs.Cut.{setRoom, lipFrom, lspFrom, lisFrom};
+ghost use Rattle.tree_lists.specs.Lists.{entry, entryOf, indexOf, waiting, known, past, emptied};
+ghost use Rattle.tree_lists.specs.Lists.{Fits, LipPushed, LspPushed, NextSet, SetAdded, SetKept, SetMoved};
+
+// A level's stretch: for how many coefficients, and the place behind it where the sets go that move out of the level.
+pub struct Stretch {
+    pub n: usize,
+    pub away: usize,
+}
+
+// How full the lists are, in the midst of a pass: of LIS so many sets were kept, so many visited, so many are left to visit.
+pub struct Fill {
+    pub lip: usize,
+    pub lsp: usize,
+    pub kept: usize,
+    pub visited: usize,
+    pub left: usize,
+    pub moved: usize,
+}
+
+// An entry of LIS: a coefficient as type A, for its D, or as type B, for its L.
+pub enum Set {
+    TypeA(usize),
+    TypeB(usize),
+}
+
+// Where the lists begin, in a stretch for n coefficients.
+fn lip_from(n: usize) -> usize
+    ensures { λ r. ⌜ r ≡ lipFrom n ⌝ }
+{
+    n
+}
+
+fn lsp_from(n: usize) -> usize
+    requires { ⌜ n < 2 ^ 32 ⌝ }
+    ensures { λ r. ⌜ r ≡ lspFrom n ⌝ }
+{
+    n + n
+}
+
+fn lis_from(n: usize) -> usize
+    requires { ⌜ n < 2 ^ 32 ⌝ }
+    ensures { λ r. ⌜ r ≡ lisFrom n ⌝ }
+{
+    n + n + n
+}
+
+// A set is kept as index x 2, and 1 more for type B.
+fn number_of(e: Set) -> u32
+    requires { ⌜ indexOf e < 2 ^ 31 ⌝ }
+    ensures { λ r. ⌜ entry r ≡ entryOf e ⌝ }
+{
+    match e {
+        Set::TypeA(p) => (p * 2) as u32,
+        Set::TypeB(p) => (p * 2 + 1) as u32,
+    }
+}
+
+fn set_of(m: u32) -> Set
+    ensures { λ r. ⌜ (entryOf r ≡ entry m) × (indexOf r < 2 ^ 31) ⌝ }
+{
+    let p = (m / 2) as usize;
+    if m % 2 == 0 {
+        return Set::TypeA(p);
+    }
+    Set::TypeB(p)
+}
+
+// Entry i of LIP.
+pub fn lip_at(s: &[u32], n: usize, i: usize) -> usize
+    requires { ⌜ (4 * n ≤ length (now s)) × (i < n) ⌝ }
+    ensures { λ r. ⌜ (waiting n i 1 (now (s .entry)) ≡ r ∷ []) × (r < 2 ^ 32) ⌝ }
+{
+    let at = lip_from(n) + i;
+    s[at] as usize
+}
+
+// Entry i of LSP.
+pub fn lsp_at(s: &[u32], n: usize, i: usize) -> usize
+    requires { ⌜ (4 * n ≤ length (now s)) × (n < 2 ^ 32) × (i < n) ⌝ }
+    ensures { λ r. ⌜ known n (i + 1) (now (s .entry)) ≡ known n i (now (s .entry)) ++ (r ∷ []) ⌝ }
+{
+    let at = lsp_from(n) + i;
+    s[at] as usize
+}
+
+// LIP counts as empty: its entries are read from its front while those that stay are put back there.
+pub fn empty_lip(f: Fill) -> Fill
+    ensures { λ r. ⌜ r ≡ emptied f ⌝ }
+{
+    let mut r = f;
+    r.lip = 0;
+    r
+}
+
+// A coefficient to the end of LIP.
+pub fn push_lip(s: &mut [u32], stretch: Stretch, f: Fill, x: usize) -> Fill
+    requires { ⌜ Fits stretch (now s) f × (stretch .n < 2 ^ 32) × (f .lip < stretch .n) × (x < 2 ^ 32) ⌝ }
+    ensures { λ r. ⌜ LipPushed stretch (now (s .entry)) f x (now (s .exit)) r ⌝ }
+{
+    let at = lip_from(stretch.n) + f.lip;
+    s[at] = x as u32;
+    let mut r = f;
+    r.lip = f.lip + 1;
+    r
+}
+
+// A coefficient to the end of LSP.
+pub fn push_lsp(s: &mut [u32], stretch: Stretch, f: Fill, x: usize) -> Fill
+    requires { ⌜ Fits stretch (now s) f × (stretch .n < 2 ^ 32) × (f .lsp < stretch .n) × (x < 2 ^ 32) ⌝ }
+    ensures { λ r. ⌜ LspPushed stretch (now (s .entry)) f x (now (s .exit)) r ⌝ }
+{
+    let at = lsp_from(stretch.n) + f.lsp;
+    s[at] = x as u32;
+    let mut r = f;
+    r.lsp = f.lsp + 1;
+    r
+}
+
+// The next set of LIS to visit.
+pub fn next_set(s: &[u32], stretch: Stretch, f: Fill) -> Set
+    requires { ⌜ Fits stretch (now s) f × (stretch .n < 2 ^ 32) × (0 < f .left) ⌝ }
+    ensures { λ r. ⌜ NextSet stretch (now (s .entry)) f (entryOf r) × (indexOf r < 2 ^ 31) ⌝ }
+{
+    let at = lis_from(stretch.n) + f.visited;
+    set_of(s[at])
+}
+
+// The next set counts as visited.
+pub fn past_set(f: Fill) -> Fill
+    requires { ⌜ (0 < f .left) × (f .visited < 2 ^ 32) ⌝ }
+    ensures { λ r. ⌜ r ≡ past f ⌝ }
+{
+    let mut r = f;
+    r.visited = f.visited + 1;
+    r.left = f.left - 1;
+    r
+}
+
+// A set to the end of LIS: it is visited in the same pass.
+pub fn add_set(s: &mut [u32], stretch: Stretch, f: Fill, e: Set) -> Fill
+    requires { ⌜ Fits stretch (now s) f × (stretch .n < 2 ^ 32) × (f .visited + f .left < setRoom (stretch .n)) × (indexOf e < 2 ^ 31) ⌝ }
+    ensures { λ r. ⌜ SetAdded stretch (now (s .entry)) f (entryOf e) (now (s .exit)) r ⌝ }
+{
+    let at = lis_from(stretch.n) + f.visited + f.left;
+    s[at] = number_of(e);
+    let mut r = f;
+    r.left = f.left + 1;
+    r
+}
+
+// A visited set keeps its place: behind those kept before it.
+pub fn keep_set(s: &mut [u32], stretch: Stretch, f: Fill, e: Set) -> Fill
+    requires { ⌜ Fits stretch (now s) f × (stretch .n < 2 ^ 32) × (f .kept < f .visited) × (indexOf e < 2 ^ 31) ⌝ }
+    ensures { λ r. ⌜ SetKept stretch (now (s .entry)) f (entryOf e) (now (s .exit)) r ⌝ }
+{
+    let at = lis_from(stretch.n) + f.kept;
+    s[at] = number_of(e);
+    let mut r = f;
+    r.kept = f.kept + 1;
+    r
+}
+
+// A visited set moves out of the level.
+pub fn move_set(s: &mut [u32], stretch: Stretch, f: Fill, e: Set) -> Fill
+    requires { ⌜ Fits stretch (now s) f × (stretch .away + f .moved < length (now s)) × (indexOf e < 2 ^ 31) ⌝ }
+    ensures { λ r. ⌜ SetMoved stretch (now (s .entry)) f (entryOf e) (now (s .exit)) r ⌝ }
+{
+    let at = stretch.away + f.moved;
+    s[at] = number_of(e);
+    let mut r = f;
+    r.moved = f.moved + 1;
+    r
+}
+
+// Where the sets go that come to the end of the LIS of a level whose stretch begins at a place, with so many sets there.
+pub fn lis_end(from: usize, n: usize, lis: usize) -> usize
+    requires { ⌜ (from < 2 ^ 33) × (n < 2 ^ 32) × (lis < 2 ^ 32) ⌝ }
+    ensures { λ r. ⌜ r ≡ from + lisFrom n + lis ⌝ }
+{
+    from + lis_from(n) + lis
+}
