@@ -1,0 +1,4 @@
+pub mod Measures
+pub mod Blocks
+pub mod Lent
+pub mod Steps
