@@ -1,0 +1,248 @@
+-- Step 1, and the offspring of an opened set: what the test of a coefficient makes of lists and side, and several tests in order.
+use mathlib.Core.Path.{_≡_, refl, sym, ap, ap₂, _∙_, subst}
+use mathlib.Core.Bool.{true, false}
+use mathlib.Core.List.{List, [], _∷_, _++_, map}
+use Prim.Native.Nat.{ℕ, zero, suc, _+_, _*_, _≤_, _<_, _^_}
+use native.Mathlib.Omega.{arith}
+use lib.ListN.{length, length-append}
+use Rattle.bits.specs.declared.BitRead.{BitRead}
+use Rattle.rules.specs.Document.Passes.{Event, significant?, negative?, toLip, toLsp, Side, listing}
+use Rattle.rules.specs.Laws.Pass.Steps.{signNoted, tried, triedAll, tried-insignificant, tried-significant, tried-toLip, tried-toLsp, triedAll-append}
+use Rattle.stretches.specs.Seg.{seg, seg-length, seg-add, seg-none, seg-same}
+use Rattle.stretches.specs.Cut.{lipFrom, lspFrom, lisFrom, valuesIn}
+use Rattle.tree_lists.specs.declared.Stretch.{Stretch}
+use Rattle.tree_lists.specs.declared.Fill.{Fill}
+use Rattle.tree_lists.specs.Lists.{entry, sets, waiting, known, Held, held, Fits, LipPushed, LspPushed, waiting-add, waiting-none, waiting-length}
+use Rattle.tree_lists.specs.Besides.{beside-values, held-same}
+use Rattle.tree_testing.specs.declared.Run.{Run}
+use Rattle.tree_testing.specs.declared.Stand.{Stand}
+use Rattle.tree_testing.specs.declared.Candidates.{Candidates}
+use Rattle.tree_testing.specs.declared.Candidates.the-variants.{Waiting, Four}
+use Rattle.tree_testing.specs.Exchange.{Chan, chan, side, notes, Replied, Noted, Around, quiet-toLip}
+use Rattle.tree_testing.specs.Exchange.{around-then, around-beside, around-noted, side-same}
+use Rattle.tree_testing.specs.Finding.{courseOf, course, fourFrom, chosen, Choosing, Testing, Tested, tested-none}
+
+one-tried : {S : Type 0} (C : Side S) (p : ℕ) (s : S) → triedAll C (p ∷ []) s ≡ tried C p s
+unfolding triedAll
+one-tried C p s = refl
+
+-- lists are as they were where a value was noted
+module _ {run : Run} {e : Event} {s s′ : List ℕ} (N : Noted run e s s′) where
+  abbrev n : ℕ
+  n = run .stretch .n
+
+  noted-seg : (b m : ℕ) → n ≤ b → seg b m s′ ≡ seg b m s
+  noted-seg b m l = seg-same b m s s′ (N .long) (λ j k _. N .others j (omega arith))
+
+  noted-sets : (b m : ℕ) → n ≤ b → sets b m s′ ≡ sets b m s
+  unfolding sets
+  noted-sets b m l = ap (map entry) (noted-seg b m l)
+
+  pub noted-waiting : (i m : ℕ) → waiting n i m s′ ≡ waiting n i m s
+  unfolding waiting lipFrom
+  noted-waiting i m = noted-seg (n + i) m (omega arith)
+
+  pub noted-known : (m : ℕ) → known n m s′ ≡ known n m s
+  unfolding known lspFrom
+  noted-known m = noted-seg (n + n) m (omega arith)
+
+  module _ {f : Fill} (g : Fits (run .stretch) s f) where
+    noted-held : held (run .stretch) s′ f ≡ held (run .stretch) s f
+    unfolding held lisFrom
+    noted-held =
+        held-same (noted-waiting 0 (f .lip)) (noted-known (f .lsp)) (noted-sets (n + n + n) (f .kept) (omega arith))
+        (noted-sets (n + n + n + f .visited) (f .left) (omega arith)) (noted-sets (run .stretch .away) (f .moved) (omega (arith, g .behind)))
+
+    pub noted-fits : Fits (run .stretch) s′ f
+    noted-fits =
+        record {
+          room = rw (N .long) (g .room);
+          lip = g .lip;
+          lsp = g .lsp;
+          kept = g .kept;
+          visits = g .visits;
+          behind = g .behind;
+          moved = rw (N .long) (g .moved);
+        }
+
+module _ (run : Run) (body : List ℕ) (x : ℕ) (s out : List ℕ) (w : Stand) (found : BitRead) (out₁ : List ℕ)
+    (R : Replied (side run s body) (significant? x) out (w .at) found out₁) where
+  abbrev C : Side Chan
+  C = side run s body
+
+  abbrev t : Stretch
+  t = run .stretch
+
+  abbrev vs : List ℕ
+  vs = valuesIn (run .stretch .n) s
+
+  abbrev y : Chan
+  y = chan out vs (w .at .at)
+
+  insignificant-side : found .bit ≡ false → tried C x y ≡ chan out₁ vs (found .next .at)
+  insignificant-side h =
+      tried-insignificant C x y (R .bit vs ∙ h) ∙ ap (C .note (toLip x)) (R .next vs) ∙ notes run s body (toLip x) out₁ vs (found .next .at)
+      ∙ ap (λ v. chan out₁ v (found .next .at)) (quiet-toLip run x vs)
+
+  pub tested-insignificant : {s′ : List ℕ} {f : Fill} → found .bit ≡ false → LipPushed (run .stretch) s (w .fill) x s′ f
+      → Tested run body (x ∷ []) s out w s′ out₁ (record { fill = f; at = found .next })
+  tested-insignificant {s′} h L =
+      record {
+        makes =
+            ap₂ courseOf (L .holds) (ap (λ v. chan out₁ v (found .next .at)) (beside-values (L .beside)) ∙ sym (insignificant-side h))
+            ∙ sym (tried-toLip C x (course t s out w) (R .bit vs ∙ h)) ∙ sym (one-tried (listing C) x (course t s out w));
+        todo = ap (λ h. h .todo) (L .holds);
+        fits = L .fits;
+        around = subst (λ (m : ℕ). Around run m s s′) (ap (λ h. h .moved) (L .fill)) (around-beside (L .beside));
+        ahead = λ i m a b. L .ahead i m (omega arith) b;
+        known = L .known;
+        visited = ap (λ h. h .visited) (L .fill);
+        left = ap (λ h. h .left) (L .fill);
+        kept = ap (λ h. h .kept) (L .fill);
+        moved = ap (λ h. h .moved) (L .fill);
+        both = omega (arith, ap (λ h. h .lip) (L .fill), ap (λ h. h .lsp) (L .fill));
+        lip = omega (arith, ap (λ h. h .lip) (L .fill));
+        lsp = omega (arith, ap (λ h. h .lsp) (L .fill));
+        place = omega (arith, R .place);
+      }
+
+  module _ (sign : BitRead) (out₂ : List ℕ) (s₁ : List ℕ) (Q : Replied (side run s body) (negative? x) out₁ (found .next) sign out₂)
+      (h : found .bit ≡ true) (N : Noted run (toLsp x (sign .bit)) s s₁) where
+    significant-side : tried C x y ≡ chan out₂ (valuesIn (run .stretch .n) s₁) (sign .next .at)
+    unfolding signNoted
+    significant-side =
+        tried-significant C x y (R .bit vs ∙ h)
+        ∙ ap (λ z. signNoted C x (C .reply (negative? x) z)) (R .next vs)
+        ∙ ap₂ (λ b z. C .note (toLsp x b) z) (Q .bit vs) (Q .next vs)
+        ∙ notes run s body (toLsp x (sign .bit)) out₂ vs (sign .next .at)
+        ∙ ap (λ v. chan out₂ v (sign .next .at)) (sym (N .values))
+
+    pub tested-significant : {s′ : List ℕ} {f : Fill} → Fits (run .stretch) s (w .fill) → LspPushed (run .stretch) s₁ (w .fill) x s′ f
+        → Tested run body (x ∷ []) s out w s′ out₂ (record { fill = f; at = sign .next })
+    tested-significant {s′} F L =
+        let e : held t s₁ (w .fill) ≡ held t s (w .fill) = noted-held N F in
+        let pushed : Held → Held =
+        λ h. record { lip = h .lip; lsp = h .lsp ++ (x ∷ []); kept = h .kept; todo = h .todo; moved = h .moved } in
+        record {
+          makes =
+              ap₂ courseOf (L .holds ∙ ap pushed e) (ap (λ v. chan out₂ v (sign .next .at)) (beside-values (L .beside)) ∙ sym significant-side)
+              ∙ sym (tried-toLsp C x (course t s out w) (R .bit vs ∙ h)) ∙ sym (one-tried (listing C) x (course t s out w));
+          todo = ap (λ h. h .todo) (L .holds) ∙ ap (λ h. h .todo) e;
+          fits = L .fits;
+          around =
+              subst (λ (m : ℕ). Around run m s s′) (ap (λ h. h .moved) (L .fill))
+              (around-then (around-noted 0 N (F .behind)) (around-beside (L .beside)) (omega arith));
+          ahead = λ i m a b. L .ahead i m (omega arith) b ∙ noted-waiting N i m;
+          known = λ m a. L .known m a ∙ noted-known N m;
+          visited = ap (λ h. h .visited) (L .fill);
+          left = ap (λ h. h .left) (L .fill);
+          kept = ap (λ h. h .kept) (L .fill);
+          moved = ap (λ h. h .moved) (L .fill);
+          both = omega (arith, ap (λ h. h .lip) (L .fill), ap (λ h. h .lsp) (L .fill));
+          lip = omega (arith, ap (λ h. h .lip) (L .fill));
+          lsp = omega (arith, ap (λ h. h .lsp) (L .fill));
+          place = omega (arith, R .place, Q .place);
+        }
+
+-- one after another
+pub tested-on : {run : Run} {body ps qs s out s₁ out₁ s₂ out₂ : List ℕ} {w w₁ w₂ : Stand}
+    → Tested run body ps s out w s₁ out₁ w₁ → Tested run body qs s₁ out₁ w₁ s₂ out₂ w₂ → Tested run body (ps ++ qs) s out w s₂ out₂ w₂
+tested-on {run} {body} {ps} {qs} {s} {out} {s₁} {out₁} {s₂} {w = w} {w₁} a b =
+    let l : length (ps ++ qs) ≡ length ps + length qs = length-append ps qs in
+    let C : Side Chan = side run s body in
+    let same : side run s₁ body ≡ C = side-same (a .around) (a .fits .behind) body in
+    record {
+      makes =
+          b .makes ∙ ap (λ D. triedAll (listing D) qs (course (run .stretch) s₁ out₁ w₁)) same ∙ ap (triedAll (listing C) qs) (a .makes)
+          ∙ sym (triedAll-append (listing C) ps qs (course (run .stretch) s out w));
+      todo = b .todo ∙ a .todo;
+      fits = b .fits;
+      around = subst (λ (m : ℕ). Around run m s s₂) (a .moved) (around-then (a .around) (b .around) (omega (arith, a .moved)));
+      ahead = λ i m g h. b .ahead i m (omega (arith, a .both, a .lsp)) h ∙ a .ahead i m (omega arith) h;
+      known = λ m g. b .known m (omega (arith, a .lsp)) ∙ a .known m g;
+      visited = b .visited ∙ a .visited;
+      left = b .left ∙ a .left;
+      kept = b .kept ∙ a .kept;
+      moved = b .moved ∙ a .moved;
+      both = omega (arith, a .both, b .both);
+      lip = omega (arith, a .lip, b .lip);
+      lsp = omega (arith, a .lsp, b .lsp);
+      place = omega (arith, a .place, b .place);
+    }
+
+-- the four from a tree number on, one by one
+four-at : (first i : ℕ) → i < 4 → seg i 1 (fourFrom first) ≡ (first + i) ∷ []
+unfolding seg
+four-at first zero h = ap (λ (x : ℕ). x ∷ []) (omega arith)
+four-at first (suc zero) h = refl
+four-at first (suc (suc zero)) h = refl
+four-at first (suc (suc (suc zero))) h = refl
+four-at first (suc (suc (suc (suc i)))) h = absurd (omega arith)
+
+module _ (run : Run) {from : Candidates} (i : ℕ) (s : List ℕ) (h : Choosing run from i s) where
+  pub choosing-waiting : from ≡ Waiting → (4 * run .stretch .n ≤ length s) × (i < run .stretch .n)
+  choosing-waiting e = subst (λ x. Choosing run x i s) e h
+
+  pub chosen-waiting : {r : ℕ} → from ≡ Waiting → waiting (run .stretch .n) i 1 s ≡ r ∷ [] → chosen (run .stretch .n) from i 1 s ≡ r ∷ []
+  chosen-waiting {r} e w = subst (λ x. chosen (run .stretch .n) x i 1 s ≡ r ∷ []) (sym e) w
+
+  module _ {first : ℕ} (e : from ≡ Four first) where
+    pub choosing-four : (i < 4) × (first + 4 < 2 ^ 32)
+    choosing-four = subst (λ x. Choosing run x i s) e h
+
+    pub chosen-four : chosen (run .stretch .n) from i 1 s ≡ (first + i) ∷ []
+    chosen-four = subst (λ x. chosen (run .stretch .n) x i 1 s ≡ (first + i) ∷ []) (sym e) (four-at first i (choosing-four .0))
+
+-- the loop: the next coefficient is the one that was listed there at the beginning
+module _ (run : Run) where
+  abbrev size : ℕ
+  size = run .stretch .n
+
+  each-counted : (from : Candidates) {m : ℕ} (i : ℕ) {s : List ℕ} {w : Stand} → Testing run from m s w → i ≤ m → length (chosen size from 0 i s) ≡ i
+  each-counted Waiting i {s} H l = waiting-length size 0 i s (H .fits .room) (omega (arith, H .room))
+  each-counted (Four first) i H l = seg-length 0 i (fourFrom first) (omega (arith, H .suited .0))
+
+  each-more : (from : Candidates) (i : ℕ) (s : List ℕ) → chosen size from 0 (i + 1) s ≡ chosen size from 0 i s ++ chosen size from i 1 s
+  each-more Waiting i s = waiting-add size i 1 s
+  each-more (Four first) i s = seg-add 0 i 1 (fourFrom first) ∙ ap (λ (x : ℕ). seg 0 i (fourFrom first) ++ seg x 1 (fourFrom first)) (omega arith)
+
+  module _ {body : List ℕ} {m i : ℕ} {s out : List ℕ} {w : Stand} {s₁ out₁ : List ℕ} {w₁ : Stand} where
+    each-still : (from : Candidates) → Testing run from m s w → i < m → Tested run body (chosen size from 0 i s) s out w s₁ out₁ w₁
+        → chosen size from i 1 s₁ ≡ chosen size from i 1 s
+    each-still Waiting H l T =
+        let c = each-counted Waiting i H (omega arith) in
+        T .ahead i 1 (omega (arith, H .suited)) (omega (arith, H .room))
+    each-still (Four first) H l T = refl
+
+    each-chosen : (from : Candidates) → Testing run from m s w → i < m → Tested run body (chosen size from 0 i s) s out w s₁ out₁ w₁
+        → Choosing run from i s₁
+    each-chosen Waiting H l T = (T .fits .room, omega (arith, H .room))
+    each-chosen (Four first) H l T = (omega (arith, H .suited .0), H .suited .1)
+
+    module _ {from : Candidates} (H : Testing run from m s w) (T : Tested run body (chosen size from 0 i s) s out w s₁ out₁ w₁) (more : i < m) where
+      pub each-length : length (chosen size from 0 i s) ≡ i
+      each-length = each-counted from i H (omega arith)
+
+      pub each-choosing : Choosing run from i s₁
+      each-choosing = each-chosen from H more T
+
+      pub each-next : {x : ℕ} {s₂ out₂ : List ℕ} {w₂ : Stand} → chosen size from i 1 s₁ ≡ x ∷ []
+          → Tested run body (x ∷ []) s₁ out₁ w₁ s₂ out₂ w₂ → Tested run body (chosen size from 0 (i + 1) s) s out w s₂ out₂ w₂
+      each-next {x} {s₂} {out₂} {w₂} e U =
+          let a : chosen size from 0 i s ++ (x ∷ []) ≡ chosen size from 0 (i + 1) s =
+          sym (each-more from i s ∙ ap (λ z. chosen size from 0 i s ++ z) (sym (each-still from H more T) ∙ e)) in
+          subst (λ ps. Tested run body ps s out w s₂ out₂ w₂) a (tested-on T U)
+
+chosen-none : (n : ℕ) (from : Candidates) (s : List ℕ) → chosen n from 0 0 s ≡ []
+chosen-none n Waiting s = waiting-none n 0 s
+chosen-none n (Four first) s = seg-none 0 (fourFrom first)
+
+pub each-none : (run : Run) (body : List ℕ) (from : Candidates) (s out : List ℕ) (w : Stand) → Fits (run .stretch) s (w .fill)
+    → Tested run body (chosen (run .stretch .n) from 0 0 s) s out w s out w
+each-none run body from s out w h =
+    subst (λ ps. Tested run body ps s out w s out w) (sym (chosen-none (run .stretch .n) from s)) (tested-none run body s out w h)
+
+pub each-done : {run : Run} {body : List ℕ} (from : Candidates) (i m : ℕ) {s out : List ℕ} {w : Stand} {s₁ out₁ : List ℕ} {w₁ : Stand} → i ≡ m
+    → Tested run body (chosen (run .stretch .n) from 0 i s) s out w s₁ out₁ w₁ → Tested run body (chosen (run .stretch .n) from 0 m s) s out w s₁ out₁ w₁
+each-done {run} {body} from i m {s} {out} {w} {s₁} {out₁} {w₁} e T =
+    subst (λ (j : ℕ). Tested run body (chosen (run .stretch .n) from 0 j s) s out w s₁ out₁ w₁) e T

@@ -1,0 +1,47 @@
+-- `tree_testing::ask_significant` meets its contract.
+use Rattle.tree_testing.specs.Exchange.{replied-read, replied-said}
+use Rattle.tree_testing.proofs.Leaves.{says-significant}
+use borrow.Author.Needs.{needs}
+use Rattle.tree_testing.proofs.ask_significant.Statement.{statement}
+use Rattle.tree_testing.proofs.ask_significant.Tie as tie
+
+enum-told : tie.Need-enum-told
+enum-told c = search needs
+
+read-requires : tie.Need-read-requires
+read-requires c κs = search needs
+
+enum-told-2 : tie.Need-enum-told-2
+enum-told-2 c = search needs
+
+threshold-of-requires : tie.Need-threshold-of-requires
+threshold-of-requires c κs = search needs
+
+word-at-requires : tie.Need-word-at-requires
+word-at-requires c κs = search needs
+
+say-requires : tie.Need-say-requires
+say-requires c κs = search needs
+
+returns : tie.Need-returns
+returns c = search (needs, replied-read)
+
+same-length : tie.Need-same-length
+same-length c = search needs
+
+returns-2 : tie.Need-returns-2
+returns-2 c = search (needs, replied-said, says-significant)
+
+pub ask-significant-spec : {M : Type 1} → statement M
+ask-significant-spec =
+    tie.close
+    (tie.spec
+    enum-told
+    read-requires
+    enum-told-2
+    threshold-of-requires
+    word-at-requires
+    say-requires
+    returns
+    same-length
+    returns-2)

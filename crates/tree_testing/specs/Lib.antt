@@ -1,0 +1,3 @@
+pub mod Exchange
+pub mod Growing
+pub mod Finding

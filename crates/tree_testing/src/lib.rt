@@ -1,0 +1,297 @@
+// Single coefficients, for coder and decoder alike, in the level's stretch that is lent to a pass: those of LIP and the offspring of an opened set
+// tested, those of LSP refined, and the leaves that ask of them and take note for either side.
+ghost use mathlib.Core.Bool.{true};
+ghost use mathlib.Core.Path.{_≡_};
+ghost use mathlib.Core.List.{[], _∷_};
+ghost use Prim.Native.Nat.{_+_, _*_, _^_, _≤_, _<_};
+ghost use lib.ListN.{length};
+ghost use Rattle.rules.specs.Document.Pyramid.{mostPlanes};
+ghost use Rattle.rules.specs.Document.Passes.{significant?, negative?, bit?, set?, toLsp, refined};
+ghost use Rattle.bits.specs.Bits.{setBit};
+ghost use Rattle.tree_lists.specs.Lists.{entryOf, indexOf, known, Fits};
+ghost use Rattle.tree_testing.specs.Exchange.{wordAt, largestAt, side, Replied, Noted, reads};
+ghost use Rattle.tree_testing.specs.Finding.{chosen, Choosing, Testing, Tested, Refining, Refined};
+use bits::BitPosition;
+use bits::BitRead;
+use rules::Level;
+use rules::Plane;
+use rules::Size;
+use tree_lists::Fill;
+use tree_lists::Set;
+use tree_lists::Stretch;
+
+// Which side of the conversation a pass is run for: the coder answers from the stretch and writes bits, the decoder reads them and draws coefficients.
+pub enum Role {
+    Codes,
+    Reads,
+}
+
+// Which part is run, and for which side. The level's tree numbers begin at `first`, those of the nodes whose offspring are here at `parents`, those of
+// the nodes whose offspring's offspring are here at `elders`. At the beginning its LIS had so many sets, and the bits go on from a place.
+pub struct Run {
+    pub role: Role,
+    pub z: Size,
+    pub plane: Plane,
+    pub level: Level,
+    pub stretch: Stretch,
+    pub first: usize,
+    pub parents: usize,
+    pub elders: usize,
+    pub olds: usize,
+    pub from: BitPosition,
+}
+
+// Where a pass stands: how full the lists are, and the place of the next bit.
+pub struct Stand {
+    pub fill: Fill,
+    pub at: BitPosition,
+}
+
+// Coefficients to test: those at the front of LIP, or the four from a tree number on.
+pub enum Candidates {
+    Waiting,
+    Four(usize),
+}
+
+// The coder's reply, written as the next bit.
+fn say(out: &mut [u8], at: BitPosition, bit: bool) -> BitRead
+    requires { ⌜ at .at < 2 ^ 62 ⌝ }
+    ensures { λ r. ⌜ (r .bit ≡ bit) × (r .next .at ≡ at .at + 1) × (now (out .exit) ≡ setBit (now (out .entry)) (at .at) bit) ⌝ }
+{
+    let next = at.write(out, bit);
+    BitRead { bit, next }
+}
+
+// The word of a coefficient of the level; 0 of any other.
+fn word_at(run: Run, s: &[u32], x: usize) -> u32
+    requires { ⌜ 4 * run .stretch .n ≤ length (now s) ⌝ }
+    ensures { λ r. ⌜ r ≡ wordAt run (now (s .entry)) x ⌝ }
+{
+    if x < run.first {
+        return 0;
+    }
+    stretches::value_at(s, run.stretch.n, x - run.first)
+}
+
+fn ask_significant(
+    run: Run,
+    body: &[u8],
+    s: &[u32],
+    out: &mut [u8],
+    at: BitPosition,
+    x: usize,
+) -> BitRead
+    requires { ⌜ (at .at < 2 ^ 62) × (run .plane .0 < mostPlanes) × (4 * run .stretch .n ≤ length (now s)) ⌝ }
+    ensures { λ r. ⌜ Replied (side run (now (s .entry)) (now (body .entry))) (significant? x) (now (out .entry)) at r (now (out .exit)) ⌝ }
+{
+    let role = run.role;
+    match role {
+        Role::Reads => at.read(body),
+        Role::Codes => say(
+            out,
+            at,
+            coefficients::threshold_of(run.plane) <= word_at(run, s, x) / 2,
+        ),
+    }
+}
+
+fn ask_negative(
+    run: Run,
+    body: &[u8],
+    s: &[u32],
+    out: &mut [u8],
+    at: BitPosition,
+    x: usize,
+) -> BitRead
+    requires { ⌜ (at .at < 2 ^ 62) × (4 * run .stretch .n ≤ length (now s)) ⌝ }
+    ensures { λ r. ⌜ Replied (side run (now (s .entry)) (now (body .entry))) (negative? x) (now (out .entry)) at r (now (out .exit)) ⌝ }
+{
+    let role = run.role;
+    match role {
+        Role::Reads => at.read(body),
+        Role::Codes => say(out, at, word_at(run, s, x) % 2 == 1),
+    }
+}
+
+fn ask_bit(run: Run, body: &[u8], s: &[u32], out: &mut [u8], at: BitPosition, x: usize) -> BitRead
+    requires { ⌜ (at .at < 2 ^ 62) × (run .plane .0 < mostPlanes) × (4 * run .stretch .n ≤ length (now s)) ⌝ }
+    ensures { λ r. ⌜ Replied (side run (now (s .entry)) (now (body .entry))) (bit? x) (now (out .entry)) at r (now (out .exit)) ⌝ }
+{
+    let role = run.role;
+    match role {
+        Role::Reads => at.read(body),
+        Role::Codes => {
+            let n = run.plane.0;
+            say(out, at, (word_at(run, s, x) / 2 >> n) % 2 == 1)
+        }
+    }
+}
+
+// The number of planes, and one more, of the largest magnitude in a set that has members in the level; 0 of any other.
+fn largest_in(run: Run, s: &[u32], e: Set) -> u32
+    requires { ⌜ (4 * run .stretch .n ≤ length (now s)) × (run .stretch .n < 2 ^ 32) × (indexOf e < 2 ^ 32) ⌝ }
+    ensures { λ r. ⌜ r ≡ largestAt run (now (s .entry)) (entryOf e) ⌝ }
+{
+    let n = run.stretch.n;
+    match e {
+        Set::TypeA(x) => {
+            if x < run.parents {
+                return 0;
+            }
+            stretches::maximum_at(s, n, x - run.parents) % 32
+        }
+        Set::TypeB(x) => {
+            if x < run.elders {
+                return 0;
+            }
+            stretches::maximum_at(s, n, 4 * (x - run.elders)) / 32
+        }
+    }
+}
+
+// Whether a set is significant.
+pub fn ask_set(run: Run, body: &[u8], s: &[u32], out: &mut [u8], at: BitPosition, e: Set) -> BitRead
+    requires { ⌜ (at .at < 2 ^ 62) × (run .plane .0 < mostPlanes) × (4 * run .stretch .n ≤ length (now s)) × (run .stretch .n < 2 ^ 32)
+        × (indexOf e < 2 ^ 32) ⌝ }
+    ensures { λ r. ⌜ Replied (side run (now (s .entry)) (now (body .entry))) (set? (entryOf e)) (now (out .entry)) at r (now (out .exit)) ⌝ }
+{
+    let role = run.role;
+    match role {
+        Role::Reads => at.read(body),
+        Role::Codes => {
+            let n = run.plane.0 as u32;
+            say(out, at, n + 1 < largest_in(run, s, e))
+        }
+    }
+}
+
+// The decoder draws a coefficient that was found; the coder draws none.
+fn note_found(run: Run, s: &mut [u32], x: usize, negative: bool)
+    requires { ⌜ (run .plane .0 < mostPlanes) × (4 * run .stretch .n ≤ length (now s)) ⌝ }
+    ensures { λ _. ⌜ Noted run (toLsp x negative) (now (s .entry)) (now (s .exit)) ⌝ }
+{
+    let role = run.role;
+    match role {
+        Role::Codes => {}
+        Role::Reads => {
+            if run.first <= x {
+                let word = coefficients::found_word(negative, run.plane);
+                stretches::set_value(s, run.stretch.n, x - run.first, word);
+            }
+        }
+    }
+}
+
+// The decoder draws a coefficient that a bit makes larger; the coder draws none.
+fn note_refined(run: Run, s: &mut [u32], x: usize, bit: bool)
+    requires { ⌜ (run .plane .0 < mostPlanes) × (4 * run .stretch .n ≤ length (now s)) × (reads run ≡ true → wordAt run (now s) x < 2 ^ 30) ⌝ }
+    ensures { λ _. ⌜ Noted run (refined x bit) (now (s .entry)) (now (s .exit)) ⌝ }
+{
+    let role = run.role;
+    match role {
+        Role::Codes => {}
+        Role::Reads => {
+            if run.first <= x {
+                let i = x - run.first;
+                let old = stretches::value_at(s, run.stretch.n, i);
+                let word = coefficients::refined_word(old, bit, run.plane);
+                stretches::set_value(s, run.stretch.n, i, word);
+            }
+        }
+    }
+}
+
+// A coefficient is tested: its bits, and its place at the end of LSP or of LIP.
+fn test(run: Run, body: &[u8], s: &mut [u32], w: Stand, out: &mut [u8], x: usize) -> Stand
+    requires { ⌜ (run .plane .0 < mostPlanes) × Fits (run .stretch) (now s) (w .fill) × (run .stretch .n < 2 ^ 32)
+        × (w .fill .lip + w .fill .lsp < run .stretch .n) × (w .at .at + 2 < 2 ^ 62) × (x < 2 ^ 32) ⌝ }
+    ensures { λ r. ⌜ Tested run (now (body .entry)) (x ∷ []) (now (s .entry)) (now (out .entry)) w (now (s .exit)) (now (out .exit)) r ⌝ }
+{
+    let found = ask_significant(run, body, s, out, w.at, x);
+    if found.bit {
+        let sign = ask_negative(run, body, s, out, found.next, x);
+        note_found(run, s, x, sign.bit);
+        let fill = tree_lists::push_lsp(s, run.stretch, w.fill, x);
+        let at = sign.next;
+        return Stand { fill, at };
+    }
+    let fill = tree_lists::push_lip(s, run.stretch, w.fill, x);
+    let at = found.next;
+    Stand { fill, at }
+}
+
+// The i-th of the coefficients to test.
+fn candidate(run: Run, s: &[u32], from: Candidates, i: usize) -> usize
+    requires { ⌜ Choosing run from i (now s) ⌝ }
+    ensures { λ r. ⌜ (chosen (run .stretch .n) from i 1 (now (s .entry)) ≡ r ∷ []) × (r < 2 ^ 32) ⌝ }
+{
+    match from {
+        Candidates::Waiting => tree_lists::lip_at(s, run.stretch.n, i),
+        Candidates::Four(first) => first + i,
+    }
+}
+
+// Step 1, and the offspring of an opened set: m coefficients are tested, in order. LIP's entries that stay are put back to its front.
+pub fn test_each(
+    run: Run,
+    body: &[u8],
+    s: &mut [u32],
+    w: Stand,
+    out: &mut [u8],
+    from: Candidates,
+    m: usize,
+) -> Stand
+    requires { ⌜ Testing run from m (now s) w ⌝ }
+    ensures { λ r. ⌜ Tested run (now (body .entry)) (chosen (run .stretch .n) from 0 m (now (s .entry))) (now (s .entry)) (now (out .entry)) w
+        (now (s .exit)) (now (out .exit)) r ⌝ }
+{
+    let mut r = w;
+    let mut i = 0;
+    while i < m {
+        let x = candidate(run, s, from, i);
+        i += 1;
+        r = test(run, body, s, r, out, x);
+    }
+    r
+}
+
+// The refinement of a coefficient.
+fn refine(
+    run: Run,
+    body: &[u8],
+    s: &mut [u32],
+    out: &mut [u8],
+    at: BitPosition,
+    x: usize,
+) -> BitPosition
+    requires { ⌜ (at .at < 2 ^ 62) × (run .plane .0 < mostPlanes) × (4 * run .stretch .n ≤ length (now s))
+        × (reads run ≡ true → wordAt run (now s) x < 2 ^ 30) ⌝ }
+    ensures { λ r. ⌜ Refined run (now (body .entry)) (x ∷ []) (now (s .entry)) (now (out .entry)) at (now (s .exit)) (now (out .exit)) r ⌝ }
+{
+    let bit = ask_bit(run, body, s, out, at, x);
+    note_refined(run, s, x, bit.bit);
+    bit.next
+}
+
+// Step 3: each of the m entries of LSP that came in at an earlier plane.
+pub fn refine_lsp(
+    run: Run,
+    body: &[u8],
+    s: &mut [u32],
+    m: usize,
+    out: &mut [u8],
+    at: BitPosition,
+) -> BitPosition
+    requires { ⌜ Refining run m (now s) at ⌝ }
+    ensures { λ r. ⌜ Refined run (now (body .entry)) (known (run .stretch .n) m (now (s .entry))) (now (s .entry)) (now (out .entry)) at
+        (now (s .exit)) (now (out .exit)) r ⌝ }
+{
+    let mut next = at;
+    let mut i = 0;
+    while i < m {
+        let x = tree_lists::lsp_at(s, run.stretch.n, i);
+        i += 1;
+        next = refine(run, body, s, out, next, x);
+    }
+    next
+}
