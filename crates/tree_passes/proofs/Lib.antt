@@ -1,0 +1,4 @@
+pub mod Trees
+pub mod Sets
+pub mod Visits
+pub mod Pass

@@ -1,0 +1,49 @@
+-- `tree_passes::run_pass` meets its contract.
+use Rattle.tree_passes.proofs.Pass.{lip-testing, tested-ready, visited-refining, ran}
+use borrow.Author.Needs.{needs}
+use Rattle.tree_passes.proofs.run_pass.Statement.{statement}
+use Rattle.tree_passes.proofs.run_pass.Tie as tie
+
+empty-lip-requires : tie.Need-empty-lip-requires
+empty-lip-requires c κs = search needs
+
+test-each-requires : tie.Need-test-each-requires
+test-each-requires c κs = search (needs, lip-testing)
+
+visit-lis-requires : tie.Need-visit-lis-requires
+visit-lis-requires c κs = search (needs, tested-ready)
+
+refine-lsp-requires : tie.Need-refine-lsp-requires
+refine-lsp-requires c κs =
+    let visited = c .before .before .before .before .before .before in
+    let tested = visited .before .before .before .before .before .before .before in
+    let emptied = tested .before .before .before in
+    let start = emptied .before .before .before .before .before in
+    visited-refining _ (start .pre) (emptied .empty-lip .ensures) (tested .test-each .ensures) (visited .visit-lis .ensures)
+
+same-length : tie.Need-same-length
+same-length c = search needs
+
+same-length-2 : tie.Need-same-length-2
+same-length-2 c = search needs
+
+returns : tie.Need-returns
+returns c =
+    let refined = c .before .before .before .before .before in
+    let visited = refined .before .before .before .before .before .before .before in
+    let tested = visited .before .before .before .before .before .before .before in
+    let emptied = tested .before .before .before in
+    let start = emptied .before .before .before .before .before in
+    ran _ (start .pre) (emptied .empty-lip .ensures) (tested .test-each .ensures) (visited .visit-lis .ensures) (refined .refine-lsp .ensures)
+
+pub run-pass-spec : {M : Type 1} → statement M
+run-pass-spec =
+    tie.close
+    (tie.spec
+    empty-lip-requires
+    test-each-requires
+    visit-lis-requires
+    refine-lsp-requires
+    same-length
+    same-length-2
+    returns)
