@@ -1,0 +1,46 @@
+-- `tree_decoder::walk_on`: one turn, by what `next` gives.
+use Rattle.tree_decoder.proofs.LawsPart.{read-taking, turned-part, turned-tail, turned-refused}
+use borrow.Author.Needs.{needs}
+use Rattle.tree_decoder.proofs.walk_on.Statement.{statement}
+use Rattle.tree_decoder.proofs.walk_on.Tie as tie
+
+next-requires : tie.Need-next-requires
+next-requires c κs = search needs
+
+enum-known-p : tie.Need-enum-known-p
+enum-known-p c = search needs
+
+take-part-requires : tie.Need-take-part-requires
+take-part-requires c κs = search (needs, read-taking)
+
+enum-told : tie.Need-enum-told
+enum-told c = search needs
+
+enum-known-r : tie.Need-enum-known-r
+enum-known-r c = search needs
+
+same-length : tie.Need-same-length
+same-length c = search needs
+
+returns : tie.Need-returns
+returns c = search (needs, turned-part)
+
+returns-2 : tie.Need-returns-2
+returns-2 c = search (needs, turned-tail)
+
+returns-3 : tie.Need-returns-3
+returns-3 c = search (needs, turned-refused)
+
+pub walk-on-spec : {M : Type 1} → statement M
+walk-on-spec =
+    tie.close
+    (tie.spec
+    next-requires
+    enum-known-p
+    take-part-requires
+    enum-told
+    enum-known-r
+    same-length
+    returns
+    returns-2
+    returns-3)
