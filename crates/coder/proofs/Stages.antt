@@ -2,30 +2,30 @@
 use mathlib.Core.Path.{_≡_, refl, sym, ap, _∙_}
 use mathlib.Core.List.{List, [], _∷_, _++_}
 use mathlib.Core.Bool.{Bool, true}
-use Prim.Native.Nat.{ℕ, zero, suc, _+_, _^_, _≤_, _<_}
+use Prim.Native.Nat.{ℕ, zero, suc, _+_, _≤_, _<_}
 use native.Mathlib.Omega.{arith}
 use native.Mathlib.Nat.{zero-add, suc-add}
 use lib.ListN.{length, length-append}
 use lib.IntN.{ℤ}
-use lib.Seq.{sets}
+use lib.Seq.{sets, length-sets}
 use Rattle.rules.specs.declared.Size.{Size}
 use Rattle.rules.specs.Document.Notation.{flat}
 use Rattle.rules.specs.Document.Pyramid.{legalSize, area, levels, magnitude, negative, mostPlanes}
 use Rattle.rules.specs.Document.Passes.{State, PartName, partsOfPlane}
 use Rattle.rules.specs.Document.Layout.{packed, partBytes, codedParts}
 use Rattle.rules.specs.Document.Numbers.{mostBits, partMost}
-use Rattle.rules.specs.Laws.Counting.Sums.{All, from-length}
+use Rattle.rules.specs.Laws.Counting.Sums.{from-length}
 use Rattle.rules.specs.Laws.Family.Sizes.{legal, area-bound}
-use Rattle.rules.specs.Laws.Offspring.Lawful.{lawful}
 use Rattle.rules.specs.Laws.State.Parts.{OfLevel, coded-sound, coded-bits}
-use Rattle.rules.specs.Laws.State.Record.{SoundLists}
 use Rattle.rules.specs.Laws.Bytes.Numbers.{numberBytes-length}
 use Rattle.rules.specs.Laws.Bytes.BodyBack.{packed-length}
+use Rattle.trees.specs.Family.{coefficientOf}
+use Rattle.trees.specs.Lawful.{trees-lawful}
+use Rattle.trees.specs.Sound.{TreeSound}
 use Rattle.memory.specs.Stores.{sets-append, getD-sets-behind}
 use Rattle.record.specs.Write.{headOf, headOf-length}
 use Rattle.coder.specs.Writing.{Stage, courseOf, bytesOf, bytesOfParts, onward, through, bytesMost, Going}
 
--- Lists that agree at every level are the same.
 module _ (pyramid : List ℤ) (z : Size) where
   -- A part's bytes: head, then body.
   pub bytesOf-head : (p : PartName) (s : State)
@@ -55,19 +55,22 @@ module _ (pyramid : List ℤ) (z : Size) where
   through-append [] qs x = refl
   through-append (p ∷ ps) qs x = through-append ps qs (onward pyramid z p x)
 
+  pub through-length : (ps : List PartName) (x : Stage) → length (through pyramid z ps x .out) ≡ length (x .out)
+  through-length ps x = ap length (through-out ps x) ∙ length-sets (x .out) (x .place) (bytesOfParts pyramid z ps (x .lists))
+
   module _ (l : legalSize z ≡ true) where
     -- A part has at most partMost bits, and at most bytesMost bytes.
-    pub bits-few : (p : PartName) (s : State) → OfLevel (levels z) p → SoundLists z s
+    pub bits-few : (p : PartName) (s : State) → OfLevel (levels z) p → TreeSound z s
         → (length (courseOf pyramid z p s .side) ≤ mostBits z) × (mostBits z ≤ partMost)
     bits-few p s o h =
         omega (
           arith,
-          coded-bits (lawful z (legal z l)) h o (magnitude pyramid) (negative pyramid),
+          coded-bits (trees-lawful z (legal z l)) h o (λ x. magnitude pyramid (coefficientOf z x)) (λ x. negative pyramid (coefficientOf z x)),
           from-length 0 (area z),
           area-bound z l,
         )
 
-    bytes-few : (p : PartName) (s : State) → OfLevel (levels z) p → p .plane < 128 → p .level < 128 → SoundLists z s
+    bytes-few : (p : PartName) (s : State) → OfLevel (levels z) p → p .plane < 128 → p .level < 128 → TreeSound z s
         → length (bytesOf pyramid z p s) ≤ bytesMost
     bytes-few p s o a b h =
         let bits : List Bool = courseOf pyramid z p s .side in
@@ -88,7 +91,7 @@ module _ (pyramid : List ℤ) (z : Size) where
     going-onward {m} {x} g p o a =
         let few = legal z l .few in
         record {
-          sound = coded-sound (lawful z (legal z l)) (g .sound) o (magnitude pyramid) (negative pyramid);
+          sound = coded-sound (trees-lawful z (legal z l)) (g .sound) o _ _;
           clear = λ j h. getD-sets-behind (x .out) (x .place) (bytesOf pyramid z p (x .lists)) j 0 h ∙ g .clear j (omega arith);
           near = omega (arith, g .near, bytes-few p (x .lists) o (omega arith) (omega (arith, o .upTo)) (g .sound));
         }

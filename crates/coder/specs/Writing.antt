@@ -15,11 +15,13 @@ use Rattle.rules.specs.declared.Refusal.the-variants as refusal
 use Rattle.rules.specs.declared.Verdict.{Verdict}
 use Rattle.rules.specs.declared.Verdict.the-variants.{Accepted, Refused}
 use Rattle.rules.specs.Document.Notation.{flat}
-use Rattle.rules.specs.Document.Pyramid.{legalSize, area, levels, family, mostMagnitude, magnitude, negative, mostPlanes}
+use Rattle.rules.specs.Document.Pyramid.{legalSize, area, levels, mostMagnitude, magnitude, negative, mostPlanes}
 use Rattle.rules.specs.Document.Passes.{Course, State, after, PartName, coded}
 use Rattle.rules.specs.Document.Layout.{partBytes, codedParts}
 use Rattle.rules.specs.Document.Calls.{Result, workFor, firstOver, codeOut, codeAnswer}
-use Rattle.rules.specs.Laws.State.Record.{SoundLists}
+use Rattle.trees.specs.Family.{coefficientOf, trees}
+use Rattle.trees.specs.Sound.{TreeSound}
+use Rattle.stretches.specs.Workspace.{Holds}
 use Rattle.parts.specs.Standing.{stateOf}
 use Rattle.record.specs.Write.{placeMost}
 use Rattle.coder.specs.declared.Progress.{Progress}
@@ -47,6 +49,13 @@ pub record Given (pyramid : List ℤ) (z : Size) (work : List ℕ) : Type 0 wher
   pub room : workFor z ≤ length work
   pub range : firstOver mostMagnitude pyramid ≡ length pyramid
 
+-- A workspace that holds a pyramid.
+pub record Holding (z : Size) (work : List ℕ) : Type 0 where
+  pub legal : legalSize z ≡ true
+  pub room : workFor z ≤ length work
+  pub pyramid : List ℤ
+  pub holds : Holds z pyramid work
+
 -- No header and no part has more bytes; no part begins behind this place.
 abbrev pub headerMost : ℕ
 headerMost = 20
@@ -65,13 +74,14 @@ stageOf z work p out = record { lists = stateOf z work (p .counts); out = out; p
 
 module _ (pyramid : List ℤ) (z : Size) where
   abbrev pub courseOf : PartName → State → Course (List Bool)
-  courseOf p s = coded (family z) (magnitude pyramid) (negative pyramid) p s
+  courseOf p s = coded (trees z) (λ x. magnitude pyramid (coefficientOf z x)) (λ x. negative pyramid (coefficientOf z x)) p s
 
   unfoldable pub bytesOf : PartName → State → List ℕ
   bytesOf p s = partBytes (record { name = p; bits = courseOf p s .side })
 
   abbrev pub bytesOfParts : List PartName → State → List ℕ
-  bytesOfParts ps s = flat partBytes (codedParts (family z) (magnitude pyramid) (negative pyramid) ps s)
+  bytesOfParts ps s =
+      flat partBytes (codedParts (trees z) (λ x. magnitude pyramid (coefficientOf z x)) (λ x. negative pyramid (coefficientOf z x)) ps s)
 
   -- one part written, and several
   unfoldable pub onward : PartName → Stage → Stage
@@ -92,22 +102,23 @@ Clear out place = (j : ℕ) → place ≤ j → getD out j 0 ≡ 0
 
 -- What holds between parts, with m parts still to write: the lists are sound, the output is 0 from the place on, and the place stays small.
 pub record Going (z : Size) (m : ℕ) (x : Stage) : Type 0 where
-  pub sound : SoundLists z (x .lists)
+  pub sound : TreeSound z (x .lists)
   pub clear : Clear (x .out) (x .place)
   pub near : x .place + bytesMost * m ≤ placeMost
 
 -- A part is due at the stage x.
-pub record Due (pyramid : List ℤ) (z : Size) (n : Plane) (k : Level) (work : List ℕ) (x : Stage) : Type 0 where
-  pub given : Given pyramid z work
+pub record Due (z : Size) (n : Plane) (k : Level) (work : List ℕ) (x : Stage) : Type 0 where
+  pub holding : Holding z work
   pub plane : n .0 < mostPlanes
   pub coarser : 1 ≤ k .0
   pub level : k .0 ≤ levels z
   pub going : Going z 1 x
 
--- The stage x is reached.
-pub record Reached (z : Size) (work : List ℕ) (p : Progress) (work′ out′ : List ℕ) (x : Stage) : Type 0 where
-  pub stage : stageOf z work′ p out′ ≡ x
+-- The parts `ps` are written: of every pyramid that the workspace holds, and holds as before.
+pub record Reached (z : Size) (ps : List PartName) (work : List ℕ) (x : Stage) (p : Progress) (work′ out′ : List ℕ) : Type 0 where
   pub same : length work′ ≡ length work
+  pub stage : (v : List ℤ) → Holds z v work → stageOf z work′ p out′ ≡ through v z ps x
+  pub holds : (v : List ℤ) → Holds z v work → Holds z v work′
 
 -- Bytes stored from a place on, as many as there is room for, and the place after them.
 pub record Stored (out : List ℕ) (at : ℕ) (bytes : List ℕ) (end : ℕ) (out′ : List ℕ) : Type 0 where

@@ -2,18 +2,18 @@
 // out while the length goes on counting; at the end the length decides.
 ghost use mathlib.Core.Path.{_≡_};
 ghost use mathlib.Core.List.{[], _∷_};
-ghost use mathlib.Core.Bool.{true};
 ghost use Prim.Native.Nat.{_*_, _≤_, _<_};
 ghost use lib.ListN.{length};
 ghost use lib.IntN.{natAbs};
 ghost use Rattle.rules.specs.Document.Notation.{greatest, zeros};
-ghost use Rattle.rules.specs.Document.Pyramid.{legalSize, levels, mostPlanes, planesOf};
-ghost use Rattle.rules.specs.Document.Passes.{start, partsOfPlane, partNames};
-ghost use Rattle.rules.specs.Document.Layout.{version, recordOf};
+ghost use Rattle.rules.specs.Document.Pyramid.{levels, mostPlanes, planesOf};
+ghost use Rattle.rules.specs.Document.Passes.{partsOfPlane, partNames};
+ghost use Rattle.rules.specs.Document.Layout.{recordOf};
 ghost use Rattle.rules.specs.Document.Calls.{levelPlaces, refused, fitted, coding, Coding};
+ghost use Rattle.trees.specs.Run.{treeStart};
 ghost use Rattle.parts.specs.Standing.{named};
-ghost use Rattle.coder.specs.Writing.{Answered, judgedInput, Given, headerMost};
-ghost use Rattle.coder.specs.Writing.{stageOf, onward, through, Clear, Going, Due, Reached, bytesOfParts, Stored};
+ghost use Rattle.coder.specs.Writing.{Answered, judgedInput, Given, Holding, headerMost};
+ghost use Rattle.coder.specs.Writing.{stageOf, Clear, Going, Due, Reached, bytesOfParts, Stored};
 use bits::BitPosition;
 use parts::Counts;
 use record::write;
@@ -72,7 +72,6 @@ fn planes_in(pyramid: &[i32]) -> usize
 
 // One part, at its place: body first, since its bit count is known only then.
 fn write_part(
-    pyramid: &[i32],
     z: Size,
     plane: Plane,
     level: Level,
@@ -80,16 +79,15 @@ fn write_part(
     work: &mut [u32],
     progress: Progress,
 ) -> Progress
-    requires { ⌜ Due (now pyramid) z plane level (now work) (stageOf z (now work) progress (now out)) ⌝ }
+    requires { ⌜ Due z plane level (now work) (stageOf z (now work) progress (now out)) ⌝ }
     ensures { λ r.
-        ⌜ Reached z (now (work .entry)) r (now (work .exit)) (now (out .exit))
-        (onward (now (pyramid .entry)) z (named plane level) (stageOf z (now (work .entry)) progress (now (out .entry)))) ⌝ }
+        ⌜ Reached z (named plane level ∷ []) (now (work .entry)) (stageOf z (now (work .entry)) progress (now (out .entry)))
+        r (now (work .exit)) (now (out .exit)) ⌝ }
 {
     let place = progress.place;
     let counts = progress.counts;
     let start = 8 * (place + write::SHORT_HEAD);
     let passed = parts::code_part(
-        pyramid,
         z,
         plane,
         level,
@@ -109,22 +107,21 @@ fn write_part(
 
 // The parts of a plane, levels downward.
 fn write_plane(
-    pyramid: &[i32],
     z: Size,
     plane: Plane,
     out: &mut [u8],
     work: &mut [u32],
     progress: Progress,
 ) -> Progress
-    requires { ⌜ Given (now pyramid) z (now work) × (plane .0 < mostPlanes) × Going z levelPlaces (stageOf z (now work) progress (now out)) ⌝ }
+    requires { ⌜ Holding z (now work) × (plane .0 < mostPlanes) × Going z levelPlaces (stageOf z (now work) progress (now out)) ⌝ }
     ensures { λ r.
-        ⌜ Reached z (now (work .entry)) r (now (work .exit)) (now (out .exit))
-        (through (now (pyramid .entry)) z (partsOfPlane (plane .0) (levels z)) (stageOf z (now (work .entry)) progress (now (out .entry)))) ⌝ }
+        ⌜ Reached z (partsOfPlane (plane .0) (levels z)) (now (work .entry)) (stageOf z (now (work .entry)) progress (now (out .entry)))
+        r (now (work .exit)) (now (out .exit)) ⌝ }
 {
     let mut reached = progress;
     let mut left = z.n + 1;
     while 0 < left {
-        reached = write_part(pyramid, z, plane, Level(left), out, work, reached);
+        reached = write_part(z, plane, Level(left), out, work, reached);
         left -= 1;
     }
     reached
@@ -132,24 +129,23 @@ fn write_plane(
 
 // All parts, planes downward.
 fn write_planes(
-    pyramid: &[i32],
     z: Size,
     planes: usize,
     out: &mut [u8],
     work: &mut [u32],
     progress: Progress,
 ) -> Progress
-    requires { ⌜ Given (now pyramid) z (now work) × (planes ≤ mostPlanes) × Going z (levelPlaces * planes) (stageOf z (now work) progress (now out)) ⌝ }
+    requires { ⌜ Holding z (now work) × (planes ≤ mostPlanes) × Going z (levelPlaces * planes) (stageOf z (now work) progress (now out)) ⌝ }
     ensures { λ r.
-        ⌜ Reached z (now (work .entry)) r (now (work .exit)) (now (out .exit))
-        (through (now (pyramid .entry)) z (partNames (levels z) planes) (stageOf z (now (work .entry)) progress (now (out .entry)))) ⌝ }
+        ⌜ Reached z (partNames (levels z) planes) (now (work .entry)) (stageOf z (now (work .entry)) progress (now (out .entry)))
+        r (now (work .exit)) (now (out .exit)) ⌝ }
 {
     let mut reached = progress;
     let mut done = 0;
     while done < planes {
         done += 1;
         let n = planes - done;
-        reached = write_plane(pyramid, z, Plane(n), out, work, reached);
+        reached = write_plane(z, Plane(n), out, work, reached);
     }
     reached
 }
@@ -164,10 +160,12 @@ fn write_parts(
     place: usize,
 ) -> usize
     requires { ⌜ Given (now pyramid) z (now work) × (planes ≤ mostPlanes) × Clear (now out) place × (place ≤ headerMost) ⌝ }
-    ensures { λ r. ⌜ Stored (now (out .entry)) place (bytesOfParts (now (pyramid .entry)) z (partNames (levels z) planes) (start z)) r (now (out .exit)) ⌝ }
+    ensures { λ r. ⌜ Stored (now (out .entry)) place (bytesOfParts (now (pyramid .entry)) z (partNames (levels z) planes) (treeStart z)) r (now (out .exit)) ⌝ }
 {
+    placing::copy_in(pyramid, z, work);
+    largest::fill(z, work);
     let counts = parts::start(z, work);
-    let end = write_planes(pyramid, z, planes, out, work, Progress { counts, place });
+    let end = write_planes(z, planes, out, work, Progress { counts, place });
     end.place
 }
 

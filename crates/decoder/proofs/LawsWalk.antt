@@ -1,12 +1,12 @@
--- The walk over all parts of a record: the lists and the pyramid are what the parts that came by make of those at the start.
+-- The walk over all parts of a record: the lists and the values drawn are what the parts that came by make of those at the start.
 use mathlib.Core.Path.{_≡_, refl, ap, ap₂, sym, _∙_, subst}
 use mathlib.Core.List.{List, [], _∷_, _++_, map, append-assoc, map-append}
 use mathlib.Core.Bool.{Bool, true, false, cond}
 use Prim.Native.Nat.{ℕ, _+_, _-_, _≤_, _<_, _^_}
 use native.Mathlib.Omega.{arith}
-use native.Mathlib.Decide.{decLe, decLt}
-use lib.ListN.{length, getD, set, replicate, getD-replicate, List·getD-eq-default, length-replicate, length-append, length-map}
-use lib.IntN.{ℤ, pos, natAbs}
+use native.Mathlib.Decide.{decLe}
+use lib.ListN.{length, getD, set, replicate, length-replicate, length-append, length-map}
+use lib.IntN.{ℤ, pos}
 use Rattle.rules.specs.declared.Plane.{Plane}
 use Rattle.rules.specs.declared.Refusal.{Refusal}
 use Rattle.rules.specs.declared.Refusal.the-variants as refusal
@@ -18,92 +18,100 @@ use Rattle.rules.specs.declared.Decoded.{Decoded}
 use Rattle.decoder.specs.declared.Walk.{Walk}
 use Rattle.decoder.specs.declared.Found.the-variants as found
 use Rattle.decoder.specs.declared.Turn.{Turn}
-use Rattle.rules.specs.Document.Pyramid.{area, magnitude}
-use Rattle.rules.specs.Document.Passes.{start}
+use Rattle.rules.specs.Document.Pyramid.{area}
 use Rattle.rules.specs.Document.Layout.{nameOf, usable, reached}
 use Rattle.rules.specs.Document.Numbers.{tail, fault, Reading, readParts, topLevel}
 use Rattle.rules.specs.Document.Notation.{zeros}
-use Rattle.rules.specs.Document.Calls.{levelPlaces, Result, refused, accepted, going, unfit, onward, decodeParts, onEnding, Picture}
-use Rattle.rules.specs.Document.Calls.{reachedPlanes, skippedCounts, countIn, pictured, decodedParts, decodeOut}
+use Rattle.rules.specs.Document.Calls.{levelPlaces, Result, refused, accepted, Progress, going, unfit, onEnding, Picture}
+use Rattle.rules.specs.Document.Calls.{reachedPlanes, skippedCounts, countIn, pictured, decodedParts}
 use Rattle.rules.specs.Laws.Counting.Booleans.{clash}
 use Rattle.rules.specs.Laws.Family.Sizes.{legal}
 use Rattle.rules.specs.Laws.Reading.Parts.{After, follows-after}
 use Rattle.rules.specs.Laws.Reading.OneWalk.{usableNow, reachedNow}
 use Rattle.rules.specs.Laws.Reading.Stands.{HeaderStands, readHeader-stands, header-legal, header-planes, PartStands}
-use Rattle.rules.specs.Laws.Calls.Cases.{decodeParts-append, decodeParts-unfit}
 use Rattle.rules.specs.Laws.Reading.WholeParts.{WholeParts, parts-whole, usable-read, reached-read}
-use Rattle.rules.specs.Laws.State.Record.{SoundLists, SoundProgress, start-sound, onward-sound}
+use Rattle.rules.specs.Promises.Vocabulary.{Legal}
 use Rattle.record.specs.declared.walk.Cursor.{Cursor}
 use Rattle.record.specs.Named.{named}
 use Rattle.record.specs.Walk.{nextOf, pastOf, left, Stands, stands-first, next-stands, next-falls, stands-past, stands-tail, stands-fault}
-use Rattle.parts.specs.Standing.{stateOf, agree-same, Small}
-use Rattle.decoder.specs.Walking.{Outcome, gone, oneMore, usedOn, metOn, metPart, Taken, Standing, Turned, Opening, Begun, Lent, Walking}
+use Rattle.trees.specs.Family.{trees}
+use Rattle.trees.specs.Run.{treeStart}
+use Rattle.trees.specs.Decoding.{onwardOf, decodePartsOf}
+use Rattle.trees.specs.Sound.{TreeSound, TreeProgress, tree-start-sound, tree-onward-sound}
+use Rattle.stretches.specs.Workspace.{wordIn, drawnIn}
+use Rattle.placing.specs.Placing.{Roomy, LaidOut, Cleared}
+use Rattle.parts.specs.Standing.{stateOf, agree-same}
+use Rattle.decoder.specs.Walking.{Outcome, gone, oneMore, usedOn, metOn, metPart, Taken, Standing, Still, Turned, Begun, Lent, Walking}
 use Rattle.decoder.specs.Walking.{Answered, Refusing, Accepting}
-use Rattle.decoder.specs.Walking.{order, bound, names, begin}
+use Rattle.decoder.specs.Walking.{order, names, begin, walked}
 use Rattle.reached.specs.Skips.{skippedBy, skippedBy-none, skippedBy-all, skippedBy-most, skippedBy-used, skippedBy-over}
 use Rattle.reached.specs.Planes.{reachedAt, usableNow-same, size-levels, six-planes, reachedAt-planes, reachedPlanes-used, reachedPlanes-over}
-use Rattle.decoder.proofs.LawsPart.{small-more}
+use Rattle.decoder.proofs.LawsPart.{words-more}
 use Rattle.decoder.proofs.LawsAnswer.{answered-refused, answered-accepted}
+use Rattle.decoder.proofs.LawsLaid.{LaysOut, drawn-blank, walked-append, walked-unfit, Defined, defined-unfit, defined-going, defined-out}
 use Rattle.decoder.proofs.LawsOutcome.{taken-alike, met-part, met-refused, met-no-tail}
 
 -- what is accepted where no part is left
 abbrev atEnd : List ℕ → List ℤ → Walk → Result Picture
 atEnd s out w = accepted (record { pyramid = out; tail = length s - w .cursor .place; reached = w .reached; skipped = w .skipped })
 
--- the start
-zeros-small : (n b : ℕ) → 0 < b → Small b (replicate n (pos 0))
-unfolding magnitude
-zeros-small n b l = record { under = λ q. omega (arith, ap natAbs (at q (decLt q n))) }
-  where
-    at : (q : ℕ) → Dec (q < n) → getD (replicate n (pos 0)) q (pos 0) ≡ pos 0
-    at q (yes a) = getD-replicate n q (pos 0) (pos 0) a
-    at q (no a) = List·getD-eq-default (replicate n (pos 0)) (pos 0) {n = q} (omega (arith, length-replicate n (pos 0)))
-
 -- What a header that was read says of the memory lent.
 module _ (h : Header) (s : List ℕ) (out : List ℤ) (work : List ℕ) (l : Lent h s out work) where
   lent-header : HeaderStands s h
   lent-header = readHeader-stands s h (l .read)
 
-  pub lent-opening : Opening h work
-  lent-opening = record { legal = header-legal lent-header; room = l .room }
+  pub lent-roomy : (work′ : List ℕ) → length work′ ≡ length work → Roomy (h .size) work′
+  lent-roomy work′ e = record { legal = header-legal lent-header; room = omega (arith, l .room) }
 
-  pub walking-first : (w : Walk) (zeroed : List ℤ) (work′ : List ℕ) → Begun h out work w zeroed work′ → Walking h s w zeroed work′
-  unfolding decodeParts
-  walking-first w zeroed work′ b =
-      let v : zeroed ≡ replicate (area (h .size)) (pos 0) = b .blank ∙ ap (λ (m : ℕ). replicate m (pos 0)) (l .whole) in
-      let o : order (named (w .cursor .before)) ≡ order (record { plane = h .planes; level = 0 })
-      = ap (λ (x : Cursor). order (named (x .before))) (b .opens) in
-      record {
-        lent = record {
-          read = l .read;
-          whole = ap length v ∙ length-replicate (area (h .size)) (pos 0);
-          room = omega (arith, l .room, b .same);
-        };
-        seen = [];
-        stands = stands-first h s (w .cursor) (l .read) (b .opens);
-        lists = start (h .size);
-        decodes = ap (going (start (h .size))) (sym v);
-        reaches = b .reaches;
-        skips = b .skips ∙ sym (skippedBy-none h (names h s));
-        agrees = b .lists;
-        sound = start-sound (h .size) (legal (h .size) (header-legal lent-header));
-        few = omega (arith, o, header-planes lent-header);
-        small =
-            subst (Small (bound (named (w .cursor .before)))) (sym v)
-            (zeros-small (area (h .size)) _ (omega (arith, o, header-planes lent-header)));
-      }
+  module _ (blank : List ℕ) (c : Cleared (h .size) work blank) where
+    module _ (w : Walk) (opened : List ℕ) (b : Begun h blank w opened) where
+      pub walking-first : Walking h s w opened
+      unfolding decodePartsOf
+      walking-first =
+          let o : order (named (w .cursor .before)) ≡ order (record { plane = h .planes; level = 0 })
+          = ap (λ (x : Cursor). order (named (x .before))) (b .opens) in
+          let none : (x : ℕ) → x < area (h .size) → wordIn (h .size) opened x ≡ 0 = λ x i. b .words x i ∙ c .words x i in
+          record {
+            room = omega (arith, l .room, b .same, c .same);
+            seen = [];
+            stands = stands-first h s (w .cursor) (l .read) (b .opens);
+            lists = treeStart (h .size);
+            decodes = ap (going (treeStart (h .size))) (sym (drawn-blank (h .size) opened none));
+            reaches = b .reaches;
+            skips = b .skips ∙ sym (skippedBy-none h (names h s));
+            agrees = b .lists;
+            sound = tree-start-sound (h .size) (legal (h .size) (header-legal lent-header));
+            few = omega (arith, o, header-planes lent-header);
+            words =
+                record {
+                  under = λ x i. omega (arith, none x i, o, header-planes lent-header);
+                  proper = λ x i e. omega (arith, none x i);
+                };
+          }
 
-module _ (h : Header) (s : List ℕ) (w : Walk) (out : List ℤ) (work : List ℕ) (W : Walking h s w out work) where
+      -- What is answered for the workspace as the walk begins is answered for it as it was lent.
+      pub begun-answered : (x : Result Picture) (answer : Decoded) (out′ : List ℤ) (work′ : List ℕ)
+          → Answered x out opened answer out′ work′ → Answered x out work answer out′ work′
+      begun-answered x answer out′ work′ t =
+          record { answers = t .answers; writes = t .writes; clears = t .clears ∙ ap zeros (b .same ∙ c .same) }
+
+module _ (h : Header) (s : List ℕ) (w : Walk) (work : List ℕ) (W : Walking h s w work) where
   whole-header : HeaderStands s h
-  whole-header = lent-header h s out work (W .lent)
+  whole-header = readHeader-stands s h (W .stands .read)
+
+  sized : Legal (h .size)
+  sized = legal (h .size) (header-legal whole-header)
+
+  pub walking-roomy : (work′ : List ℕ) → length work′ ≡ length work → Roomy (h .size) work′
+  walking-roomy work′ e = record { legal = header-legal whole-header; room = omega (arith, W .room) }
 
   -- A turn can be made.
-  pub walking-standing : Standing h s w out work
+  pub walking-standing : Standing h s w work
   walking-standing =
       record {
         legal = header-legal whole-header;
         planes = header-planes whole-header;
-        room = W .lent .room;
+        room = W .room;
         six = ap length (W .reaches) ∙ six-planes h (map nameOf (W .seen));
         few = λ i.
             omega (
@@ -113,33 +121,34 @@ module _ (h : Header) (s : List ℕ) (w : Walk) (out : List ℤ) (work : List �
               length-map (W .seen) nameOf,
               W .few,
             );
-        sound = subst (SoundLists (h .size)) (sym (agree-same (W .agrees))) (W .sound);
-        small = small-more _ (2 ^ 29) out (omega arith) (W .small);
+        sound = subst (TreeSound (h .size)) (sym (agree-same (W .agrees))) (W .sound);
+        words = words-more (h .size) _ (2 ^ 29) work (omega arith) (W .words);
       }
 
+  walking-defined : Defined h s sized (W .seen) work
+  walking-defined = defined-going h s sized (W .seen) (W .lists) work (W .decodes)
+
   -- No part is left: all parts came by.
-  walking-tail : nextOf h s (w .cursor) ≡ part.Tail
-      → decodedParts h s (readParts h s) ≡ atEnd s out w
+  walking-tail : nextOf h s (w .cursor) ≡ part.Tail → (out : List ℤ) → length out ≡ area (h .size)
+      → LaysOut (h .size) work out → decodedParts h s (readParts h s) ≡ atEnd s out w
   unfolding decodedParts pictured onEnding
-  walking-tail e =
+  walking-tail e out n lays =
       let all : readParts h s ≡ record { parts = W .seen; ending = tail (length s - w .cursor .place) }
       = stands-tail h s (w .cursor) part.Tail (sym e) (W .seen) (W .stands) refl in
-      let g : decodeParts h s (map nameOf (W .seen)) (W .seen) (begin h) ≡ going (W .lists) out
-      = ap (λ (x : Reading). decodeParts h s (map nameOf (x .parts)) (W .seen) (begin h)) (sym all) ∙ W .decodes in
-      let n : skippedCounts h (map nameOf (W .seen)) ≡ w .skipped
+      let g = defined-out h s sized (W .seen) work walking-defined out n lays in
+      let k : skippedCounts h (map nameOf (W .seen)) ≡ w .skipped
       = sym (W .skips ∙ ap (λ (x : Reading). skippedBy h (map nameOf (x .parts)) (map nameOf (W .seen))) all ∙ skippedBy-all h (map nameOf (W .seen))) in
-      rw (all, g)
+      rw (all, rw all at g)
       (ap₂ (λ (x : List Plane) (y : List ℕ). accepted (record { pyramid = out; tail = length s - w .cursor .place; reached = x; skipped = y }))
-      (sym (W .reaches)) n)
+      (sym (W .reaches)) k)
 
   walking-fault : (v : Refusal) → nextOf h s (w .cursor) ≡ part.Refused v → decodedParts h s (readParts h s) ≡ refused v
   unfolding decodedParts pictured onEnding
   walking-fault v e =
       let all : readParts h s ≡ record { parts = W .seen; ending = fault v }
       = stands-fault h s (w .cursor) (part.Refused v) (sym e) (W .seen) (W .stands) v refl in
-      let g : decodeParts h s (map nameOf (W .seen)) (W .seen) (begin h) ≡ going (W .lists) out
-      = ap (λ (x : Reading). decodeParts h s (map nameOf (x .parts)) (W .seen) (begin h)) (sym all) ∙ W .decodes in
-      rw (all, g)
+      let g = walking-defined .goes in
+      rw (all, rw all at g)
 
   -- The next part, p.
   module _ (p : Part) (e : nextOf h s (w .cursor) ≡ part.Part p) where
@@ -184,7 +193,7 @@ module _ (h : Header) (s : List ℕ) (w : Walk) (out : List ℤ) (work : List �
         ∙ test-held
 
     abbrev met : Outcome
-    met = metOn s (h .size) p (w .reached) (w .skipped) (W .lists) out
+    met = metOn s (h .size) p (w .reached) (w .skipped) (W .lists) (drawnIn (h .size) work)
 
     met-reached : met .reached ≡ reachedPlanes h (map nameOf came)
     unfolding metOn usedOn gone R nameOf
@@ -194,8 +203,8 @@ module _ (h : Header) (s : List ℕ) (w : Walk) (out : List ℤ) (work : List �
         is k f = reached-read h s (record { plane = h .planes; level = 0 }) (h .end) (W .seen) p (later) wholes k f
 
         cases : (b : Bool) → usableNow (reachedAt (w .reached)) (nameOf p) ≡ b
-            → cond b (usedOn s (h .size) p (w .reached) (w .skipped) (W .lists) out)
-            (record { found = found.Part; lists = W .lists; pyramid = out; reached = w .reached; skipped = oneMore p (w .skipped) }) .reached
+            → cond b (usedOn s (h .size) p (w .reached) (w .skipped) (W .lists) (drawnIn (h .size) work))
+            (record { found = found.Part; lists = W .lists; drawn = drawnIn (h .size) work; reached = w .reached; skipped = oneMore p (w .skipped) }) .reached
             ≡ reachedPlanes h (map nameOf came)
         cases true u =
             ap (λ (x : List Plane). set x (p .level .0 - 1) (p .plane)) (W .reaches)
@@ -214,8 +223,8 @@ module _ (h : Header) (s : List ℕ) (w : Walk) (out : List ℤ) (work : List �
         last = map-append nameOf (W .seen) (p ∷ [])
 
         cases : (b : Bool) → usableNow (reachedAt (w .reached)) (nameOf p) ≡ b
-            → cond b (usedOn s (h .size) p (w .reached) (w .skipped) (W .lists) out)
-            (record { found = found.Part; lists = W .lists; pyramid = out; reached = w .reached; skipped = oneMore p (w .skipped) }) .skipped
+            → cond b (usedOn s (h .size) p (w .reached) (w .skipped) (W .lists) (drawnIn (h .size) work))
+            (record { found = found.Part; lists = W .lists; drawn = drawnIn (h .size) work; reached = w .reached; skipped = oneMore p (w .skipped) }) .skipped
             ≡ skippedBy h (names h s) (map nameOf came)
         cases true u =
             W .skips ∙ skippedBy-used h (names h s) (map nameOf (W .seen)) (nameOf p) (test ∙ u) ∙ ap (skippedBy h (names h s)) (sym last)
@@ -226,16 +235,17 @@ module _ (h : Header) (s : List ℕ) (w : Walk) (out : List ℤ) (work : List �
             ∙ ap (skippedBy h (names h s)) (sym last)
 
     -- what all parts up to this one, and all parts, make of the start
-    decodes-came : decodeParts h s (names h s) came (begin h) ≡ onward h s (names h s) p (going (W .lists) out)
-    unfolding decodeParts
-    decodes-came =
-        decodeParts-append h s (names h s) (W .seen) (p ∷ []) (begin h) ∙ ap (onward h s (names h s) p) (W .decodes)
+    abbrev onto : Progress
+    onto = onwardOf (trees (h .size)) h s (names h s) p (going (W .lists) (drawnIn (h .size) work))
 
-    decodes-all : decodeParts h s (names h s) (readParts h s .parts) (begin h)
-        ≡ decodeParts h s (names h s) later (onward h s (names h s) p (going (W .lists) out))
-    decodes-all =
-        ap (λ (ps : List Part). decodeParts h s (names h s) ps (begin h)) (over .parts)
-        ∙ decodeParts-append h s (names h s) came later (begin h) ∙ ap (decodeParts h s (names h s) later) decodes-came
+    walked-came : walked h s came (begin h) ≡ onto
+    unfolding decodePartsOf
+    walked-came =
+        walked-append h s (W .seen) (p ∷ []) (begin h) ∙ ap (onwardOf (trees (h .size)) h s (names h s) p) (W .decodes)
+
+    walked-all : walked h s (readParts h s .parts) (begin h) ≡ walked h s later onto
+    walked-all =
+        ap (λ (ps : List Part). walked h s ps (begin h)) (over .parts) ∙ walked-append h s came later (begin h) ∙ ap (walked h s later) walked-came
 
     name-falls : order (nameOf p) < order (named (w .cursor .before))
     unfolding nameOf
@@ -250,134 +260,106 @@ module _ (h : Header) (s : List ℕ) (w : Walk) (out : List ℤ) (work : List �
         cases a six (no l) = omega arith
 
     -- The part was taken.
-    module _ (r : Turn) (out′ : List ℤ) (work′ : List ℕ)
-        (T : Taken (h .size) p (metPart s (h .size) p w out work) out work r out′ work′) where
-      taken : Taken (h .size) p met out work r out′ work′
+    module _ (r : Turn) (work′ : List ℕ) (T : Taken (h .size) p (metPart s (h .size) p w work) work r work′) where
+      taken : Taken (h .size) p met work r work′
       unfolding nameOf
       taken =
-          taken-alike s (h .size) p (w .reached) (w .skipped)
-          (stateOf (h .size) work (w .counts)) (W .lists) out (W .agrees) out work r out′ work′ T
+          taken-alike s (h .size) p (w .reached) (w .skipped) (stateOf (h .size) work (w .counts)) (W .lists) (drawnIn (h .size) work) (W .agrees)
+          work r work′ T
 
       walking-unfit : (v : Refusal) → r .found ≡ found.Refused v → decodedParts h s (readParts h s) ≡ refused v
       unfolding decodedParts pictured
       walking-unfit v f =
-          let m : (onward h s (names h s) p (going (W .lists) out) ≡ unfit (p .place)) × (v ≡ refusal.Fit (p .place))
-          = met-refused h s (names h s) p (w .reached) (w .skipped) (W .lists) out test v (sym (taken .finds) ∙ f) in
-          let g : decodeParts h s (names h s) (readParts h s .parts) (begin h) ≡ unfit (p .place)
-          = decodes-all ∙ ap (decodeParts h s (names h s) later) (m .0) ∙ decodeParts-unfit h s (names h s) later (p .place) in
+          let m : (onto ≡ unfit (p .place)) × (v ≡ refusal.Fit (p .place))
+          = met-refused h s (names h s) p (w .reached) (w .skipped) (W .lists) _ test v (sym (taken .finds) ∙ f) in
+          let g = defined-unfit h s sized (readParts h s .parts) (p .place)
+          (walked-all ∙ ap (walked h s later) (m .0) ∙ walked-unfit h s later (p .place)) in
           ap (pictured h (names h s) (readParts h s .ending)) g ∙ ap refused (sym (m .1))
 
       walking-no-tail : r .found ≡ found.Tail → ⊥
-      walking-no-tail f = met-no-tail h s (names h s) p (w .reached) (w .skipped) (W .lists) out test (sym (taken .finds) ∙ f)
+      walking-no-tail f = met-no-tail h s (names h s) p (w .reached) (w .skipped) (W .lists) _ test (sym (taken .finds) ∙ f)
 
-      walking-on : r .found ≡ found.Part → length out′ ≡ length out → Walking h s (r .walk) out′ work′
-      unfolding SoundProgress nameOf
-      walking-on f n =
-          let m : onward h s (names h s) p (going (W .lists) out) ≡ going (met .lists) (met .pyramid)
-          = met-part h s (names h s) p (w .reached) (w .skipped) (W .lists) out test (sym (taken .finds) ∙ f) in
+      walking-on : r .found ≡ found.Part → Walking h s (r .walk) work′
+      unfolding TreeProgress nameOf
+      walking-on f =
+          let m : onto ≡ going (met .lists) (met .drawn)
+          = met-part h s (names h s) p (w .reached) (w .skipped) (W .lists) _ test (sym (taken .finds) ∙ f) in
           let o : order (named (r .walk .cursor .before)) ≡ order (nameOf p) = ap (λ (x : Cursor). order (named (x .before))) (taken .past .over) in
           record {
-            lent = record { read = W .lent .read; whole = n ∙ W .lent .whole; room = omega (arith, W .lent .room, taken .same) };
+            room = omega (arith, W .room, taken .same);
             seen = came;
             stands = subst (λ (x : Cursor). Stands h s x came) (sym (taken .past .over)) over;
             lists = met .lists;
-            decodes = decodes-came ∙ m ∙ ap (going (met .lists)) (sym (taken .writes));
+            decodes = walked-came ∙ m ∙ ap (going (met .lists)) (sym (taken .draws));
             reaches = taken .past .reaches ∙ met-reached;
             skips = taken .past .skips ∙ met-skipped;
             agrees = taken .lists;
             sound =
-                subst (SoundProgress (h .size)) m
-                (onward-sound h (legal (h .size) (header-legal whole-header)) s (names h s) p
-                (record { from1 = whole .legal .named .from1; upTo = whole .legal .named .upTo }) (going (W .lists) out) (W .sound));
+                subst (TreeProgress (h .size)) m
+                (tree-onward-sound h sized s (names h s) p
+                (record { from1 = whole .legal .named .from1; upTo = whole .legal .named .upTo }) (going (W .lists) _) (W .sound));
             few = omega (arith, o, name-falls, W .few, length-append (W .seen) (p ∷ []));
-            small = small-more _ _ out′ (omega (arith, o, name-falls, W .few)) (taken .grows _ (W .small));
+            words = words-more (h .size) _ _ work′ (omega (arith, o, name-falls, W .few)) (taken .grows _ (W .words));
           }
 
   -- One turn, whatever it found.
-  module _ (r : Turn) (out′ : List ℤ) (work′ : List ℕ)
-      (T : Turned h s w out work (nextOf h s (w .cursor)) r out′ work′) where
-    pub turn-on : r .found ≡ found.Part → length out′ ≡ length out → Walking h s (r .walk) out′ work′
+  module _ (r : Turn) (work′ : List ℕ) (T : Turned h s w work (nextOf h s (w .cursor)) r work′) where
+    turned : {X : Type 0} → ((p : Part) → nextOf h s (w .cursor) ≡ part.Part p → Taken (h .size) p (metPart s (h .size) p w work) work r work′ → X)
+        → (nextOf h s (w .cursor) ≡ part.Tail → Still found.Tail w work r work′ → X)
+        → ((v : Refusal) → nextOf h s (w .cursor) ≡ part.Refused v → Still (found.Refused v) w work r work′ → X) → X
     unfolding Turned
-    turn-on f n = cases (nextOf h s (w .cursor)) refl T
+    turned {X} met none refuses = cases (nextOf h s (w .cursor)) refl T
       where
-        cases : (x : PartRead) → nextOf h s (w .cursor) ≡ x → Turned h s w out work x r out′ work′ → Walking h s (r .walk) out′ work′
-        cases (part.Part p) e t = walking-on p e r out′ work′ t f n
-        cases part.Tail e t = let i = t .finds in clash (cc)
-        cases (part.Refused v) e t = let i = t .finds in clash (cc)
+        cases : (x : PartRead) → nextOf h s (w .cursor) ≡ x → Turned h s w work x r work′ → X
+        cases (part.Part p) e t = met p e t
+        cases part.Tail e t = none e t
+        cases (part.Refused v) e t = refuses v e t
+
+    pub turn-on : r .found ≡ found.Part → Walking h s (r .walk) work′
+    turn-on f =
+        turned (λ p e t. walking-on p e r work′ t f) (λ e t. let i = t .finds in clash (cc)) (λ v e t. let i = t .finds in clash (cc))
 
     pub turn-falls : r .found ≡ found.Part → length s - r .walk .cursor .place < length s - w .cursor .place
-    unfolding Turned
-    turn-falls f = cases (nextOf h s (w .cursor)) refl T
-      where
-        cases : (x : PartRead) → nextOf h s (w .cursor) ≡ x → Turned h s w out work x r out′ work′
-            → length s - r .walk .cursor .place < length s - w .cursor .place
-        cases (part.Part p) e t = next-falls h s (w .cursor) (part.Part p) (sym e) p (r .walk .cursor) refl (t .past .over)
-        cases part.Tail e t = let i = t .finds in clash (cc)
-        cases (part.Refused v) e t = let i = t .finds in clash (cc)
+    turn-falls f =
+        turned (λ p e t. next-falls h s (w .cursor) (part.Part p) (sym e) p (r .walk .cursor) refl (t .past .over))
+        (λ e t. let i = t .finds in clash (cc)) (λ v e t. let i = t .finds in clash (cc))
 
-    turn-tail : r .found ≡ found.Tail
-        → decodedParts h s (readParts h s) ≡ atEnd s out′ (r .walk)
-    unfolding Turned
-    turn-tail f = cases (nextOf h s (w .cursor)) refl T
-      where
-        cases : (x : PartRead) → nextOf h s (w .cursor) ≡ x → Turned h s w out work x r out′ work′
-            → decodedParts h s (readParts h s) ≡ atEnd s out′ (r .walk)
-        cases (part.Part p) e t = absurd (walking-no-tail p e r out′ work′ t f)
-        cases part.Tail e t =
-            walking-tail e
-            ∙ ap₂ (atEnd s) (sym (t .writes)) (sym (t .stays))
-        cases (part.Refused v) e t = let i = t .finds in clash (cc)
+    turn-still : r .found ≡ found.Tail → (nextOf h s (w .cursor) ≡ part.Tail) × (r .walk ≡ w) × (work′ ≡ work)
+    turn-still f =
+        turned (λ p e t. absurd (walking-no-tail p e r work′ t f)) (λ e t. (e, t .stays, t .lists)) (λ v e t. let i = t .finds in clash (cc))
+
+    turn-tail : r .found ≡ found.Tail → (out : List ℤ) → length out ≡ area (h .size) → LaysOut (h .size) work′ out
+        → decodedParts h s (readParts h s) ≡ atEnd s out (r .walk)
+    turn-tail f out n lays =
+        walking-tail (turn-still f .0) out n (subst (λ (x : List ℕ). LaysOut (h .size) x out) (turn-still f .2) lays)
+        ∙ ap (atEnd s out) (sym (turn-still f .1))
 
     pub turn-within : r .found ≡ found.Tail → r .walk .cursor .place ≤ length s
-    unfolding Turned
-    turn-within f = cases (nextOf h s (w .cursor)) refl T
-      where
-        cases : (x : PartRead) → nextOf h s (w .cursor) ≡ x → Turned h s w out work x r out′ work′ → r .walk .cursor .place ≤ length s
-        cases (part.Part p) e t = absurd (walking-no-tail p e r out′ work′ t f)
-        cases part.Tail e t = subst (λ (x : Walk). x .cursor .place ≤ length s) (sym (t .stays)) (W .stands .within)
-        cases (part.Refused v) e t = let i = t .finds in clash (cc)
+    turn-within f = subst (λ (x : Walk). x .cursor .place ≤ length s) (sym (turn-still f .1)) (W .stands .within)
 
     turn-refused : (v : Refusal) → r .found ≡ found.Refused v → decodedParts h s (readParts h s) ≡ refused v
-    unfolding Turned
-    turn-refused v f = cases (nextOf h s (w .cursor)) refl T
-      where
-        cases : (x : PartRead) → nextOf h s (w .cursor) ≡ x → Turned h s w out work x r out′ work′
-            → decodedParts h s (readParts h s) ≡ refused v
-        cases (part.Part p) e t = walking-unfit p e r out′ work′ t v f
-        cases part.Tail e t = let i = t .finds in clash (cc)
-        cases (part.Refused u) e t =
-            let i : r .found ≡ found.Refused u = t .finds in
-            let same : u ≡ v = cc in
-            walking-fault u e ∙ ap refused same
+    turn-refused v f =
+        turned (λ p e t. walking-unfit p e r work′ t v f) (λ e t. let i = t .finds in clash (cc))
+        (λ u e t. let i : r .found ≡ found.Refused u = t .finds in let same : u ≡ v = cc in walking-fault u e ∙ ap refused same)
 
 -- The walk's last turn, for whoever lent `out` and `work`.
 module _ (h : Header) (s : List ℕ) (out : List ℤ) (work : List ℕ)
-    (w : Walk) (out₁ : List ℤ) (work₁ : List ℕ) (W : Walking h s w out₁ work₁) (j : length out₁ ≡ length out) (k : length work₁ ≡ length work)
-    (r : Turn) (out₂ : List ℤ) (work₂ : List ℕ) (T : Turned h s w out₁ work₁ (nextOf h s (w .cursor)) r out₂ work₂)
-    (m : length out₂ ≡ length out₁) (n : length work₂ ≡ length work₁) where
-  pub turn-accepts : (answer : Decoded) (work′ : List ℕ) → r .found ≡ found.Tail
-      → Accepting (length s - r .walk .cursor .place) (r .walk .reached) (r .walk .skipped) work₂ answer work′
-      → Answered (decodedParts h s (readParts h s)) out work answer out₂ work′
-  turn-accepts answer work′ f t =
-      answered-accepted (decodedParts h s (readParts h s)) out out₂ work work₂ (m ∙ j) (n ∙ k) _ _ _ answer work′
-      (turn-tail h s w out₁ work₁ W r out₂ work₂ T f) t
+    (w : Walk) (out₁ : List ℤ) (work₁ : List ℕ) (W : Walking h s w work₁) (j : length out₁ ≡ length out) (k : length work₁ ≡ length work)
+    (r : Turn) (work₂ : List ℕ) (T : Turned h s w work₁ (nextOf h s (w .cursor)) r work₂) (n : length work₂ ≡ length work₁)
+    (answer : Decoded) (out′ : List ℤ) (work′ : List ℕ) where
+  pub turn-accepts : (work₃ : List ℕ) → r .found ≡ found.Tail → length out₁ ≡ area (h .size) → LaidOut (h .size) work₂ out₁ work₃ out′
+      → Accepting (length s - r .walk .cursor .place) (r .walk .reached) (r .walk .skipped) work₃ answer work′
+      → Answered (decodedParts h s (readParts h s)) out work answer out′ work′
+  turn-accepts work₃ f a l t =
+      answered-accepted (decodedParts h s (readParts h s)) out out′ work work₃ (l .whole ∙ j) (l .same ∙ n ∙ k) _ _ _ answer work′
+      (turn-tail h s w work₁ W r work₂ T f out′ (l .whole ∙ a) (l .values)) t
 
-  pub turn-refuses : (v : Refusal) (answer : Decoded) (out′ : List ℤ) (work′ : List ℕ) → r .found ≡ found.Refused v
-      → Refusing v out₂ work₂ answer out′ work′ → Answered (decodedParts h s (readParts h s)) out work answer out′ work′
-  turn-refuses v answer out′ work′ f t =
-      answered-refused (decodedParts h s (readParts h s)) out out₂ work work₂ (m ∙ j) (n ∙ k) v answer out′ work′
-      (turn-refused h s w out₁ work₁ W r out₂ work₂ T v f) t
+  pub turn-refuses : (v : Refusal) → r .found ≡ found.Refused v → Refusing v out₁ work₂ answer out′ work′
+      → Answered (decodedParts h s (readParts h s)) out work answer out′ work′
+  turn-refuses v f t =
+      answered-refused (decodedParts h s (readParts h s)) out out₁ work work₂ j (n ∙ k) v answer out′ work′
+      (turn-refused h s w work₁ W r work₂ T v f) t
 
 -- Zeroing keeps a length.
 pub cleared : {X : Type 0} (x : X) (then after : List X) (n : ℕ) → after ≡ replicate (length then) x → length then ≡ n → length after ≡ n
 cleared x then after n e l = ap length e ∙ length-replicate (length then) x ∙ l
-
--- What is answered for the memory as the walk begins is answered for it as it was lent.
-pub begun-answered : (h : Header) (out zeroed : List ℤ) (work opened : List ℕ) (w : Walk) (x : Result Picture) (answer : Decoded) (out′ : List ℤ)
-    (work′ : List ℕ) → Begun h out work w zeroed opened → Answered x zeroed opened answer out′ work′ → Answered x out work answer out′ work′
-begun-answered h out zeroed work opened w x answer out′ work′ b t =
-    record {
-      answers = t .answers;
-      writes = t .writes ∙ ap (λ (n : ℕ). decodeOut n x) (cleared (pos 0) out zeroed (length out) (b .blank) refl);
-      clears = t .clears ∙ ap (λ (n : ℕ). zeros n) (b .same);
-    }

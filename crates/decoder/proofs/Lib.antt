@@ -1,4 +1,5 @@
 pub mod LawsAnswer
 pub mod LawsPart
 pub mod LawsOutcome
+pub mod LawsLaid
 pub mod LawsWalk

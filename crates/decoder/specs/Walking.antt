@@ -1,5 +1,5 @@
--- The walk over a record's parts: what a part makes of the lists, the pyramid, the planes reached and the counts of skipped parts, and the contracts
--- of the walk's turns.
+-- The walk over a record's parts: what a part makes of the lists, the values drawn, the planes reached and the counts of skipped parts, and the
+-- contracts of the walk's turns. Lists and values go by tree numbers, until the pyramid is laid out at the end.
 use mathlib.Core.Path.{_≡_}
 use mathlib.Core.List.{List, [], map}
 use mathlib.Core.Bool.{true, cond}
@@ -24,25 +24,29 @@ use Rattle.decoder.specs.declared.Found.{Found}
 use Rattle.decoder.specs.declared.Found.the-variants as found
 use Rattle.decoder.specs.declared.Turn.{Turn}
 use Rattle.rules.specs.Document.Notation.{zeros}
-use Rattle.rules.specs.Document.Pyramid.{legalSize, area, mostPlanes, family}
-use Rattle.rules.specs.Document.Passes.{PartName, State, Course, Reader, start, after, decoded}
+use Rattle.rules.specs.Document.Pyramid.{legalSize, area, mostPlanes}
+use Rattle.rules.specs.Document.Passes.{PartName, State, Course, Reader, after, decoded}
 use Rattle.rules.specs.Document.Layout.{bytesFor, bitAt, bodyOf, nameOf}
 use Rattle.rules.specs.Document.Numbers.{readHeader, readParts}
-use Rattle.rules.specs.Document.Calls.{workFor, levelPlaces, Result, Progress, going, decodeParts, Picture, reachedPlanes, decodeOut, decodeAnswer}
+use Rattle.rules.specs.Document.Calls.{workFor, levelPlaces, Result, Progress, going, Picture, reachedPlanes, decodeOut, decodeAnswer}
 use Rattle.rules.specs.Document.Calls.{countIn}
 use Rattle.rules.specs.Laws.Reading.OneWalk.{usableNow}
-use Rattle.rules.specs.Laws.State.Record.{SoundLists}
+use Rattle.trees.specs.Family.{trees}
+use Rattle.trees.specs.Run.{treeStart}
+use Rattle.trees.specs.Decoding.{decodePartsOf}
+use Rattle.trees.specs.Sound.{TreeSound}
+use Rattle.stretches.specs.Workspace.{wordIn, drawnIn, Words}
 use Rattle.record.specs.Named.{named}
 use Rattle.record.specs.Walk.{firstOf, pastOf, Stands}
 use Rattle.reached.specs.Planes.{reachedAt}
 use Rattle.reached.specs.Skips.{skippedBy}
-use Rattle.parts.specs.Standing.{stateOf, Agree, Small, ReadyToDecode}
+use Rattle.parts.specs.Standing.{stateOf, Agree, ReadyToDecode}
 
--- What becomes of a whole part: what is found, and the lists, the pyramid, the planes reached and the counts of skipped parts after it.
+-- What becomes of a whole part: what is found, and the lists, the values drawn, the planes reached and the counts of skipped parts after it.
 pub record Outcome : Type 0 where
   pub found : Found
   pub lists : State
-  pub pyramid : List ℤ
+  pub drawn : List ℤ
   pub reached : List Plane
   pub skipped : List ℕ
 
@@ -55,7 +59,7 @@ gone p reached skipped st c =
     record {
       found = fitting p c;
       lists = after (p .level .0) c st;
-      pyramid = c .side .pyramid;
+      drawn = c .side .pyramid;
       reached = set reached (p .level .0 - 1) (p .plane);
       skipped = skipped;
     }
@@ -65,22 +69,22 @@ abbrev pub oneMore : Part → List ℕ → List ℕ
 oneMore p skipped = set skipped (p .level .0 - 1) (countIn skipped (p .level .0 - 1) + 1)
 
 module _ (s : List ℕ) (z : Size) (p : Part) where
-  -- by the lists st and the pyramid v before it
+  -- by the lists st and the values v before it
   unfoldable pub usedOn : List Plane → List ℕ → State → List ℤ → Outcome
-  usedOn reached skipped st v = gone p reached skipped st (decoded (family z) (nameOf p) (bitAt (bodyOf s p)) st v)
+  usedOn reached skipped st v = gone p reached skipped st (decoded (trees z) (nameOf p) (bitAt (bodyOf s p)) st v)
 
   -- "Parts that are not usable are walked over, not decoded."
   unfoldable pub metOn : List Plane → List ℕ → State → List ℤ → Outcome
   metOn reached skipped st v =
       cond (usableNow (reachedAt reached) (nameOf p)) (usedOn reached skipped st v)
-      (record { found = found.Part; lists = st; pyramid = v; reached = reached; skipped = oneMore p skipped })
+      (record { found = found.Part; lists = st; drawn = v; reached = reached; skipped = oneMore p skipped })
 
   -- by the walk and the workspace
-  abbrev pub decodedPart : Walk → List ℤ → List ℕ → Outcome
-  decodedPart w out work = usedOn (w .reached) (w .skipped) (stateOf z work (w .counts)) out
+  abbrev pub decodedPart : Walk → List ℕ → Outcome
+  decodedPart w work = usedOn (w .reached) (w .skipped) (stateOf z work (w .counts)) (drawnIn z work)
 
-  abbrev pub metPart : Walk → List ℤ → List ℕ → Outcome
-  metPart w out work = metOn (w .reached) (w .skipped) (stateOf z work (w .counts)) out
+  abbrev pub metPart : Walk → List ℕ → Outcome
+  metPart w work = metOn (w .reached) (w .skipped) (stateOf z work (w .counts)) (drawnIn z work)
 
 -- the walk after a part
 pub record Past (p : Part) (reached : List Plane) (skipped : List ℕ) (counts : Counts) (r : Walk) : Type 0 where
@@ -90,54 +94,53 @@ pub record Past (p : Part) (reached : List Plane) (skipped : List ℕ) (counts :
   pub fills : r .counts ≡ counts
 
 -- what a part asks for
-pub record Taking (s : List ℕ) (z : Size) (p : Part) (w : Walk) (out : List ℤ) (work : List ℕ) : Type 0 where
-  pub decoding : ReadyToDecode z (p .plane) (p .level) work (w .counts) out
+pub record Taking (s : List ℕ) (z : Size) (p : Part) (w : Walk) (work : List ℕ) : Type 0 where
+  pub decoding : ReadyToDecode z (p .plane) (p .level) work (w .counts)
   pub ends : p .end ≡ p .body + bytesFor (p .bits)
   pub within : p .end ≤ length s
   pub six : length (w .reached) ≡ levelPlaces
   pub few : countIn (w .skipped) (p .level .0 - 1) < 2 ^ 32
 
-pub record Taken (z : Size) (p : Part) (o : Outcome) (out : List ℤ) (work : List ℕ) (r : Turn) (out′ : List ℤ) (work′ : List ℕ) : Type 0 where
+-- A part adds less to a word.
+abbrev pub growth : ℕ
+growth = 2 * 2 ^ mostPlanes
+
+pub record Taken (z : Size) (p : Part) (o : Outcome) (work : List ℕ) (r : Turn) (work′ : List ℕ) : Type 0 where
   pub finds : r .found ≡ o .found
   pub past : Past p (o .reached) (o .skipped) (r .walk .counts) (r .walk)
   pub lists : Agree (stateOf z work′ (r .walk .counts)) (o .lists)
-  pub writes : out′ ≡ o .pyramid
+  pub draws : drawnIn z work′ ≡ o .drawn
   pub same : length work′ ≡ length work
-  pub grows : (b : ℕ) → Small b out → Small (b + 2 ^ mostPlanes) out′
+  pub grows : (b : ℕ) → Words z b work → Words z (b + growth) work′
 
 -- what a turn of the walk asks for
-pub record Standing (h : Header) (s : List ℕ) (w : Walk) (out : List ℤ) (work : List ℕ) : Type 0 where
+pub record Standing (h : Header) (s : List ℕ) (w : Walk) (work : List ℕ) : Type 0 where
   pub legal : legalSize (h .size) ≡ true
   pub planes : h .planes ≤ mostPlanes
   pub room : workFor (h .size) ≤ length work
   pub six : length (w .reached) ≡ levelPlaces
   pub few : (i : ℕ) → countIn (w .skipped) i < 2 ^ 32
-  pub sound : SoundLists (h .size) (stateOf (h .size) work (w .counts))
-  pub small : Small (2 ^ 29) out
+  pub sound : TreeSound (h .size) (stateOf (h .size) work (w .counts))
+  pub words : Words (h .size) (2 ^ 29) work
 
 -- a turn that met no whole part: nothing has changed
-pub record Still (f : Found) (w : Walk) (out : List ℤ) (work : List ℕ) (r : Turn) (out′ : List ℤ) (work′ : List ℕ) : Type 0 where
+pub record Still (f : Found) (w : Walk) (work : List ℕ) (r : Turn) (work′ : List ℕ) : Type 0 where
   pub finds : r .found ≡ f
   pub stays : r .walk ≡ w
-  pub writes : out′ ≡ out
   pub lists : work′ ≡ work
 
-unfoldable pub Turned : Header → List ℕ → Walk → List ℤ → List ℕ → PartRead → Turn → List ℤ → List ℕ → Type 0
-Turned h s w out work (part.Part p) r out′ work′ = Taken (h .size) p (metPart s (h .size) p w out work) out work r out′ work′
-Turned h s w out work part.Tail r out′ work′ = Still found.Tail w out work r out′ work′
-Turned h s w out work (part.Refused f) r out′ work′ = Still (found.Refused f) w out work r out′ work′
+unfoldable pub Turned : Header → List ℕ → Walk → List ℕ → PartRead → Turn → List ℕ → Type 0
+Turned h s w work (part.Part p) r work′ = Taken (h .size) p (metPart s (h .size) p w work) work r work′
+Turned h s w work part.Tail r work′ = Still found.Tail w work r work′
+Turned h s w work (part.Refused f) r work′ = Still (found.Refused f) w work r work′
 
 -- before the first part
-pub record Opening (h : Header) (work : List ℕ) : Type 0 where
-  pub legal : legalSize (h .size) ≡ true
-  pub room : workFor (h .size) ≤ length work
-
-pub record Begun (h : Header) (out : List ℤ) (work : List ℕ) (r : Walk) (out′ : List ℤ) (work′ : List ℕ) : Type 0 where
-  pub blank : out′ ≡ replicate (length out) (pos 0)
+pub record Begun (h : Header) (work : List ℕ) (r : Walk) (work′ : List ℕ) : Type 0 where
   pub opens : r .cursor ≡ firstOf h
   pub reaches : r .reached ≡ reachedPlanes h []
   pub skips : r .skipped ≡ zeros levelPlaces
-  pub lists : Agree (stateOf (h .size) work′ (r .counts)) (start (h .size))
+  pub lists : Agree (stateOf (h .size) work′ (r .counts)) (treeStart (h .size))
+  pub words : (x : ℕ) → x < area (h .size) → wordIn (h .size) work′ x ≡ wordIn (h .size) work x
   pub same : length work′ ≡ length work
 
 -- what decoding the parts asks for: a header that was read, a pyramid of its size and workspace enough
@@ -146,7 +149,7 @@ pub record Lent (h : Header) (s : List ℕ) (out : List ℤ) (work : List ℕ) :
   pub whole : length out ≡ area (h .size)
   pub room : workFor (h .size) ≤ length work
 
--- Names fall from part to part, and so does this number of a name: the parts are few, and a part adds less than 2^17 to a magnitude.
+-- Names fall from part to part, and so does this number of a name: the parts are few, and each makes words grow little.
 abbrev pub order : PartName → ℕ
 order p = suc levelPlaces * p .plane + p .level
 
@@ -154,27 +157,30 @@ abbrev pub orders : ℕ
 orders = suc levelPlaces * mostPlanes
 
 abbrev pub bound : PartName → ℕ
-bound before = 2 ^ mostPlanes * (suc orders - order before)
+bound before = growth * (suc orders - order before)
 
 abbrev pub names : Header → List ℕ → List PartName
 names h s = map nameOf (readParts h s .parts)
 
 abbrev pub begin : Header → Progress
-begin h = going (start (h .size)) (replicate (area (h .size)) (pos 0))
+begin h = going (treeStart (h .size)) (replicate (area (h .size)) (pos 0))
 
--- Where the walk stands: the parts that came by, and the lists that they make.
-pub record Walking (h : Header) (s : List ℕ) (w : Walk) (out : List ℤ) (work : List ℕ) : Type 0 where
-  pub lent : Lent h s out work
+abbrev pub walked : Header → List ℕ → List Part → Progress → Progress
+walked h s ps g = decodePartsOf (trees (h .size)) h s (names h s) ps g
+
+-- Where the walk stands: the parts that came by, the lists that they make, and what they draw.
+pub record Walking (h : Header) (s : List ℕ) (w : Walk) (work : List ℕ) : Type 0 where
+  pub room : workFor (h .size) ≤ length work
   pub seen : List Part
   pub stands : Stands h s (w .cursor) seen
   pub lists : State
-  pub decodes : decodeParts h s (names h s) seen (begin h) ≡ going lists out
+  pub decodes : walked h s seen (begin h) ≡ going lists (drawnIn (h .size) work)
   pub reaches : w .reached ≡ reachedPlanes h (map nameOf seen)
   pub skips : w .skipped ≡ skippedBy h (names h s) (map nameOf seen)
   pub agrees : Agree (stateOf (h .size) work (w .counts)) lists
-  pub sound : SoundLists (h .size) lists
+  pub sound : TreeSound (h .size) lists
   pub few : length seen + order (named (w .cursor .before)) ≤ orders
-  pub small : Small (bound (named (w .cursor .before))) out
+  pub words : Words (h .size) (bound (named (w .cursor .before))) work
 
 -- what is answered, and left in the memory lent, for a result
 pub record Answered (x : Result Picture) (out : List ℤ) (work : List ℕ) (answer : Decoded) (out′ : List ℤ) (work′ : List ℕ) : Type 0 where

@@ -1,8 +1,13 @@
-// Decoding: from any bytes to a pyramid or a refusal, in one walk over the parts of the record, with exactly those that are usable.
+// Decoding: from any bytes to a pyramid or a refusal, in one walk over the parts of the record, with exactly those that are usable. The walk draws in
+// the workspace; the pyramid is laid out at its end.
+ghost use mathlib.Core.Path.{_≡_};
+ghost use lib.ListN.{length};
+ghost use Rattle.rules.specs.Document.Pyramid.{area};
 ghost use Rattle.rules.specs.Document.Numbers.{readParts};
 ghost use Rattle.rules.specs.Document.Calls.{Decoding, decodedParts};
 ghost use Rattle.record.specs.Walk.{nextOf};
-ghost use Rattle.decoder.specs.Walking.{Opening, Begun, Past, Taking, Taken, decodedPart, metPart, Standing, Turned, Walking};
+ghost use Rattle.placing.specs.Placing.{Roomy};
+ghost use Rattle.decoder.specs.Walking.{Begun, Past, Taking, Taken, decodedPart, metPart, Standing, Turned, Walking};
 ghost use Rattle.decoder.specs.Walking.{Lent, Answered, Refusing, Accepting};
 use parts::Counts;
 use record::read;
@@ -39,12 +44,11 @@ pub struct Turn {
     pub walk: Walk,
 }
 
-// Before the first part: every coefficient is 0.
-fn first_walk(h: Header, pyramid: &mut [i32], work: &mut [u32]) -> Walk
-    requires { ⌜ Opening h (now work) ⌝ }
-    ensures { λ r. ⌜ Begun h (now (pyramid .entry)) (now (work .entry)) r (now (pyramid .exit)) (now (work .exit)) ⌝ }
+// Before the first part.
+fn first_walk(h: Header, work: &mut [u32]) -> Walk
+    requires { ⌜ Roomy (h .size) (now work) ⌝ }
+    ensures { λ r. ⌜ Begun h (now (work .entry)) r (now (work .exit)) ⌝ }
 {
-    memory::zero_i32(pyramid);
     let counts = parts::start(h.size, work);
     Walk {
         cursor: Cursor::first(h),
@@ -72,25 +76,17 @@ fn walk_past(
 }
 
 // A usable part is decoded; its bits have to be just those that its pass asks for.
-fn decode_usable(
-    bytes: &[u8],
-    z: Size,
-    p: Part,
-    walk: Walk,
-    out: &mut [i32],
-    work: &mut [u32],
-) -> Turn
-    requires { ⌜ Taking (now bytes) z p walk (now out) (now work) ⌝ }
+fn decode_usable(bytes: &[u8], z: Size, p: Part, walk: Walk, work: &mut [u32]) -> Turn
+    requires { ⌜ Taking (now bytes) z p walk (now work) ⌝ }
     ensures { λ r.
-        ⌜ Taken z p (decodedPart (now (bytes .entry)) z p walk (now (out .entry)) (now (work .entry)))
-        (now (out .entry)) (now (work .entry)) r (now (out .exit)) (now (work .exit)) ⌝ }
+        ⌜ Taken z p (decodedPart (now (bytes .entry)) z p walk (now (work .entry))) (now (work .entry)) r (now (work .exit)) ⌝ }
 {
     let plane = p.plane;
     let level = p.level;
     let reached = walk.reached;
     let counts = walk.counts;
     let body = read::body(bytes, p);
-    let passed = parts::decode_part(body, z, plane, level, work, counts, out);
+    let passed = parts::decode_part(body, z, plane, level, work, counts);
     let asked = passed.at;
     let filled = passed.counts;
     let skipped = walk.skipped;
@@ -113,18 +109,17 @@ fn decode_usable(
 }
 
 // A whole part: decoded if it is usable, else walked over and counted.
-fn take_part(bytes: &[u8], z: Size, p: Part, walk: Walk, out: &mut [i32], work: &mut [u32]) -> Turn
-    requires { ⌜ Taking (now bytes) z p walk (now out) (now work) ⌝ }
+fn take_part(bytes: &[u8], z: Size, p: Part, walk: Walk, work: &mut [u32]) -> Turn
+    requires { ⌜ Taking (now bytes) z p walk (now work) ⌝ }
     ensures { λ r.
-        ⌜ Taken z p (metPart (now (bytes .entry)) z p walk (now (out .entry)) (now (work .entry)))
-        (now (out .entry)) (now (work .entry)) r (now (out .exit)) (now (work .exit)) ⌝ }
+        ⌜ Taken z p (metPart (now (bytes .entry)) z p walk (now (work .entry))) (now (work .entry)) r (now (work .exit)) ⌝ }
 {
     let reached = walk.reached;
     let counts = walk.counts;
     let skipped = walk.skipped;
     let over = walk_past(p, reached, reached::with_skipped(skipped, p.level), counts);
     if reached::is_usable(reached, p.plane, p.level) {
-        return decode_usable(bytes, z, p, walk, out, work);
+        return decode_usable(bytes, z, p, walk, work);
     }
     Turn {
         found: Found::Part,
@@ -133,15 +128,14 @@ fn take_part(bytes: &[u8], z: Size, p: Part, walk: Walk, out: &mut [i32], work: 
 }
 
 // One turn: the next part, or what is there instead of it.
-fn walk_on(bytes: &[u8], h: Header, walk: Walk, out: &mut [i32], work: &mut [u32]) -> Turn
-    requires { ⌜ Standing h (now bytes) walk (now out) (now work) ⌝ }
+fn walk_on(bytes: &[u8], h: Header, walk: Walk, work: &mut [u32]) -> Turn
+    requires { ⌜ Standing h (now bytes) walk (now work) ⌝ }
     ensures { λ r.
-        ⌜ Turned h (now (bytes .entry)) walk (now (out .entry)) (now (work .entry))
-        (nextOf h (now (bytes .entry)) (walk .cursor)) r (now (out .exit)) (now (work .exit)) ⌝ }
+        ⌜ Turned h (now (bytes .entry)) walk (now (work .entry)) (nextOf h (now (bytes .entry)) (walk .cursor)) r (now (work .exit)) ⌝ }
 {
     let cursor = walk.cursor;
     match cursor.next(bytes, h) {
-        PartRead::Part(p) => take_part(bytes, h.size, p, walk, out, work),
+        PartRead::Part(p) => take_part(bytes, h.size, p, walk, work),
         PartRead::Tail => Turn {
             found: Found::Tail,
             walk,
@@ -184,20 +178,22 @@ fn accept(tail: usize, walk: Walk, work: &mut [u32]) -> Decoded
 
 // All parts from where a walk stands. The first fault decides.
 fn walk_all(bytes: &[u8], h: Header, first: Walk, out: &mut [i32], work: &mut [u32]) -> Decoded
-    requires { ⌜ Walking h (now bytes) first (now out) (now work) ⌝ }
+    requires { ⌜ Walking h (now bytes) first (now work) × (length (now out) ≡ area (h .size)) ⌝ }
     ensures { λ a.
         ⌜ Answered (decodedParts h (now (bytes .entry)) (readParts h (now (bytes .entry))))
         (now (out .entry)) (now (work .entry)) a (now (out .exit)) (now (work .exit)) ⌝ }
 {
     let mut walk = first;
     loop {
-        let turn = walk_on(bytes, h, walk, out, work);
+        let turn = walk_on(bytes, h, walk, work);
         walk = turn.walk;
         let found = turn.found;
         match found {
             Found::Part => {}
             Found::Tail => {
-                return accept(bytes.len() - walk.cursor.place, walk, work);
+                let tail = bytes.len() - walk.cursor.place;
+                placing::lay_out(h.size, work, out);
+                return accept(tail, walk, work);
             }
             Found::Refused(r) => {
                 return refuse(r, out, work);
@@ -206,14 +202,15 @@ fn walk_all(bytes: &[u8], h: Header, first: Walk, out: &mut [i32], work: &mut [u
     }
 }
 
-// All parts, from the header's end on.
+// All parts, from the header's end on: at first every coefficient is 0.
 fn decode_parts(bytes: &[u8], h: Header, out: &mut [i32], work: &mut [u32]) -> Decoded
     requires { ⌜ Lent h (now bytes) (now out) (now work) ⌝ }
     ensures { λ a.
         ⌜ Answered (decodedParts h (now (bytes .entry)) (readParts h (now (bytes .entry))))
         (now (out .entry)) (now (work .entry)) a (now (out .exit)) (now (work .exit)) ⌝ }
 {
-    let first = first_walk(h, out, work);
+    placing::clear(h.size, work);
+    let first = first_walk(h, work);
     walk_all(bytes, h, first, out, work)
 }
 

@@ -1,2 +1,2 @@
-pub mod Seg
-pub mod Stretch
+pub mod Lists
+pub mod Besides

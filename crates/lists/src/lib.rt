@@ -1,10 +1,18 @@
-// The lists of a level, in its stretch of the workspace: LIP, LSP, LIS and the sets that move out of the level.
+// The lists of a level, in its stretch of the workspace: LIP, LSP and LIS; and behind the stretch, at the end of the next level's LIS, the sets
+// that move out of the level.
 ghost use mathlib.Core.Path.{_≡_};
 ghost use mathlib.Core.List.{[], _∷_, _++_};
 ghost use Prim.Native.Nat.{_+_, _*_, _^_, _≤_, _<_};
 ghost use lib.ListN.{length};
-ghost use Rattle.lists.specs.Stretch.{setRoom, lspFrom, lisFrom, movedFrom, entry, entryOf, indexOf, waiting, known, held, past, emptied};
-ghost use Rattle.lists.specs.Stretch.{Fits, LipPushed, LspPushed, NextSet, SetAdded, SetKept, SetMoved, CopiedOn, HandedOn};
+ghost use Rattle.stretches.specs.Cut.{setRoom, lipFrom, lspFrom, lisFrom};
+ghost use Rattle.lists.specs.Lists.{entry, entryOf, indexOf, waiting, known, past, emptied};
+ghost use Rattle.lists.specs.Lists.{Fits, LipPushed, LspPushed, NextSet, SetAdded, SetKept, SetMoved};
+
+// A level's stretch: for how many coefficients, and the place behind it where the sets go that move out of the level.
+pub struct Stretch {
+    pub n: usize,
+    pub away: usize,
+}
 
 // How full the lists are, in the midst of a pass: of LIS so many sets were kept, so many visited, so many are left to visit.
 pub struct Fill {
@@ -22,25 +30,25 @@ pub enum Set {
     TypeB(usize),
 }
 
-// Where the lists behind LIP begin, in a stretch for n coefficients.
-fn lsp_from(n: usize) -> usize
-    ensures { λ r. ⌜ r ≡ lspFrom n ⌝ }
+// Where the lists begin, in a stretch for n coefficients.
+fn lip_from(n: usize) -> usize
+    ensures { λ r. ⌜ r ≡ lipFrom n ⌝ }
 {
     n
+}
+
+fn lsp_from(n: usize) -> usize
+    requires { ⌜ n < 2 ^ 32 ⌝ }
+    ensures { λ r. ⌜ r ≡ lspFrom n ⌝ }
+{
+    n + n
 }
 
 fn lis_from(n: usize) -> usize
     requires { ⌜ n < 2 ^ 32 ⌝ }
     ensures { λ r. ⌜ r ≡ lisFrom n ⌝ }
 {
-    n + n
-}
-
-fn moved_from(n: usize) -> usize
-    requires { ⌜ n < 2 ^ 32 ⌝ }
-    ensures { λ r. ⌜ r ≡ movedFrom n ⌝ }
-{
-    n + n + 3 * n / 4
+    n + n + n
 }
 
 // A set is kept as index x 2, and 1 more for type B.
@@ -65,16 +73,17 @@ fn set_of(m: u32) -> Set
 }
 
 // Entry i of LIP.
-pub fn lip_at(s: &[u32], i: usize) -> usize
-    requires { ⌜ i < length (now s) ⌝ }
-    ensures { λ r. ⌜ (waiting i 1 (now (s .entry)) ≡ r ∷ []) × (r < 2 ^ 32) ⌝ }
+pub fn lip_at(s: &[u32], n: usize, i: usize) -> usize
+    requires { ⌜ (4 * n ≤ length (now s)) × (i < n) ⌝ }
+    ensures { λ r. ⌜ (waiting n i 1 (now (s .entry)) ≡ r ∷ []) × (r < 2 ^ 32) ⌝ }
 {
-    s[i] as usize
+    let at = lip_from(n) + i;
+    s[at] as usize
 }
 
 // Entry i of LSP.
 pub fn lsp_at(s: &[u32], n: usize, i: usize) -> usize
-    requires { ⌜ (4 * n ≤ length (now s)) × (i < n) ⌝ }
+    requires { ⌜ (4 * n ≤ length (now s)) × (n < 2 ^ 32) × (i < n) ⌝ }
     ensures { λ r. ⌜ known n (i + 1) (now (s .entry)) ≡ known n i (now (s .entry)) ++ (r ∷ []) ⌝ }
 {
     let at = lsp_from(n) + i;
@@ -91,35 +100,35 @@ pub fn empty_lip(f: Fill) -> Fill
 }
 
 // A coefficient to the end of LIP.
-pub fn push_lip(s: &mut [u32], n: usize, f: Fill, p: usize) -> Fill
-    requires { ⌜ Fits n (now s) f × (f .lip < n) × (p < 2 ^ 32) ⌝ }
-    ensures { λ r. ⌜ LipPushed n (now (s .entry)) f p (now (s .exit)) r ⌝ }
+pub fn push_lip(s: &mut [u32], stretch: Stretch, f: Fill, x: usize) -> Fill
+    requires { ⌜ Fits stretch (now s) f × (stretch .n < 2 ^ 32) × (f .lip < stretch .n) × (x < 2 ^ 32) ⌝ }
+    ensures { λ r. ⌜ LipPushed stretch (now (s .entry)) f x (now (s .exit)) r ⌝ }
 {
-    let i = f.lip;
-    s[i] = p as u32;
+    let at = lip_from(stretch.n) + f.lip;
+    s[at] = x as u32;
     let mut r = f;
-    r.lip = i + 1;
+    r.lip = f.lip + 1;
     r
 }
 
 // A coefficient to the end of LSP.
-pub fn push_lsp(s: &mut [u32], n: usize, f: Fill, p: usize) -> Fill
-    requires { ⌜ Fits n (now s) f × (f .lsp < n) × (p < 2 ^ 32) ⌝ }
-    ensures { λ r. ⌜ LspPushed n (now (s .entry)) f p (now (s .exit)) r ⌝ }
+pub fn push_lsp(s: &mut [u32], stretch: Stretch, f: Fill, x: usize) -> Fill
+    requires { ⌜ Fits stretch (now s) f × (stretch .n < 2 ^ 32) × (f .lsp < stretch .n) × (x < 2 ^ 32) ⌝ }
+    ensures { λ r. ⌜ LspPushed stretch (now (s .entry)) f x (now (s .exit)) r ⌝ }
 {
-    let at = lsp_from(n) + f.lsp;
-    s[at] = p as u32;
+    let at = lsp_from(stretch.n) + f.lsp;
+    s[at] = x as u32;
     let mut r = f;
     r.lsp = f.lsp + 1;
     r
 }
 
 // The next set of LIS to visit.
-pub fn next_set(s: &[u32], n: usize, f: Fill) -> Set
-    requires { ⌜ Fits n (now s) f × (n < 2 ^ 32) × (0 < f .left) ⌝ }
-    ensures { λ r. ⌜ NextSet n (now (s .entry)) f (entryOf r) × (indexOf r < 2 ^ 31) ⌝ }
+pub fn next_set(s: &[u32], stretch: Stretch, f: Fill) -> Set
+    requires { ⌜ Fits stretch (now s) f × (stretch .n < 2 ^ 32) × (0 < f .left) ⌝ }
+    ensures { λ r. ⌜ NextSet stretch (now (s .entry)) f (entryOf r) × (indexOf r < 2 ^ 31) ⌝ }
 {
-    let at = lis_from(n) + f.visited;
+    let at = lis_from(stretch.n) + f.visited;
     set_of(s[at])
 }
 
@@ -135,11 +144,11 @@ pub fn past_set(f: Fill) -> Fill
 }
 
 // A set to the end of LIS: it is visited in the same pass.
-pub fn add_set(s: &mut [u32], n: usize, f: Fill, e: Set) -> Fill
-    requires { ⌜ Fits n (now s) f × (n < 2 ^ 32) × (f .visited + f .left < setRoom n) × (indexOf e < 2 ^ 31) ⌝ }
-    ensures { λ r. ⌜ SetAdded n (now (s .entry)) f (entryOf e) (now (s .exit)) r ⌝ }
+pub fn add_set(s: &mut [u32], stretch: Stretch, f: Fill, e: Set) -> Fill
+    requires { ⌜ Fits stretch (now s) f × (stretch .n < 2 ^ 32) × (f .visited + f .left < setRoom (stretch .n)) × (indexOf e < 2 ^ 31) ⌝ }
+    ensures { λ r. ⌜ SetAdded stretch (now (s .entry)) f (entryOf e) (now (s .exit)) r ⌝ }
 {
-    let at = lis_from(n) + f.visited + f.left;
+    let at = lis_from(stretch.n) + f.visited + f.left;
     s[at] = number_of(e);
     let mut r = f;
     r.left = f.left + 1;
@@ -147,11 +156,11 @@ pub fn add_set(s: &mut [u32], n: usize, f: Fill, e: Set) -> Fill
 }
 
 // A visited set keeps its place: behind those kept before it.
-pub fn keep_set(s: &mut [u32], n: usize, f: Fill, e: Set) -> Fill
-    requires { ⌜ Fits n (now s) f × (n < 2 ^ 32) × (f .kept < f .visited) × (indexOf e < 2 ^ 31) ⌝ }
-    ensures { λ r. ⌜ SetKept n (now (s .entry)) f (entryOf e) (now (s .exit)) r ⌝ }
+pub fn keep_set(s: &mut [u32], stretch: Stretch, f: Fill, e: Set) -> Fill
+    requires { ⌜ Fits stretch (now s) f × (stretch .n < 2 ^ 32) × (f .kept < f .visited) × (indexOf e < 2 ^ 31) ⌝ }
+    ensures { λ r. ⌜ SetKept stretch (now (s .entry)) f (entryOf e) (now (s .exit)) r ⌝ }
 {
-    let at = lis_from(n) + f.kept;
+    let at = lis_from(stretch.n) + f.kept;
     s[at] = number_of(e);
     let mut r = f;
     r.kept = f.kept + 1;
@@ -159,35 +168,21 @@ pub fn keep_set(s: &mut [u32], n: usize, f: Fill, e: Set) -> Fill
 }
 
 // A visited set moves out of the level.
-pub fn move_set(s: &mut [u32], n: usize, f: Fill, e: Set) -> Fill
-    requires { ⌜ Fits n (now s) f × (n < 2 ^ 32) × (f .moved < setRoom n) × (indexOf e < 2 ^ 31) ⌝ }
-    ensures { λ r. ⌜ SetMoved n (now (s .entry)) f (entryOf e) (now (s .exit)) r ⌝ }
+pub fn move_set(s: &mut [u32], stretch: Stretch, f: Fill, e: Set) -> Fill
+    requires { ⌜ Fits stretch (now s) f × (stretch .away + f .moved < length (now s)) × (indexOf e < 2 ^ 31) ⌝ }
+    ensures { λ r. ⌜ SetMoved stretch (now (s .entry)) f (entryOf e) (now (s .exit)) r ⌝ }
 {
-    let at = moved_from(n) + f.moved;
+    let at = stretch.away + f.moved;
     s[at] = number_of(e);
     let mut r = f;
     r.moved = f.moved + 1;
     r
 }
 
-// Numbers of the stretch, written once more behind them.
-fn copy_on(s: &mut [u32], from: usize, to: usize, count: usize)
-    requires { ⌜ (from + count ≤ to) × (to + count ≤ length (now s)) ⌝ }
-    ensures { λ _. ⌜ CopiedOn from to count (now (s .entry)) (now (s .exit)) ⌝ }
+// Where the sets go that come to the end of the LIS of a level whose stretch begins at a place, with so many sets there.
+pub fn lis_end(from: usize, n: usize, lis: usize) -> usize
+    requires { ⌜ (from < 2 ^ 33) × (n < 2 ^ 32) × (lis < 2 ^ 32) ⌝ }
+    ensures { λ r. ⌜ r ≡ from + lisFrom n + lis ⌝ }
 {
-    let mut i = 0;
-    while i < count {
-        s[to + i] = s[from + i];
-        i += 1;
-    }
-}
-
-// The sets that moved out of a level, to the end of the next level's LIS, which has `lis` sets. The level's stretch, for n coefficients, comes
-// first, that of the next, for m, right behind it.
-pub fn hand_on(s: &mut [u32], n: usize, moved: usize, m: usize, lis: usize)
-    requires { ⌜ (4 * n + 4 * m ≤ length (now s)) × (n < 2 ^ 32) × (m < 2 ^ 32) × (moved ≤ setRoom n) × (lis + moved ≤ setRoom m) ⌝ }
-    ensures { λ _. ⌜ HandedOn n moved m lis (now (s .entry)) (now (s .exit)) ⌝ }
-{
-    let next = 4 * n;
-    copy_on(s, moved_from(n), next + lis_from(m) + lis, moved);
+    from + lis_from(n) + lis
 }

@@ -1,5 +1,11 @@
+pub mod Levels
 pub mod Workspace
 pub mod States
-pub mod Sides
-pub mod Parts
+pub mod Nodes
+pub mod Coding
 pub mod Begin
+pub mod Parts
+pub mod Left
+pub mod Running
+pub mod Growing
+pub mod Decoding

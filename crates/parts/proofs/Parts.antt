@@ -1,70 +1,49 @@
--- A part: the level's lists are such that its pass can begin, and what the pass and the handing on leave is what the part leaves.
+-- A part: the level's lists are such that its pass can begin, and what the pass leaves is what the part leaves.
 use mathlib.Core.Path.{_≡_, refl, sym, ap, ap₂, _∙_, subst}
-use mathlib.Core.List.{List, [], _∷_, _++_}
+use mathlib.Core.List.{List, [], _∷_}
 use mathlib.Core.Bool.{Bool, true, false, cond}
-use mathlib.Core.Logic.{_≢_}
-use Prim.Native.Nat.{ℕ, zero, suc, _+_, _-_, _*_, _≤_, _<_, _^_}
-use native.Mathlib.Omega.{arith}
-use native.Mathlib.Decide.{decLe, ℕ-discrete}
+use Prim.Native.Nat.{ℕ, suc, _+_, _-_, _*_, _/_, _≤_, _<_, _^_}
 use native.Mathlib.Nat.{mul-le-mul-left}
+use native.Mathlib.Omega.{arith}
+use native.Mathlib.Decide.{decLe}
 use lib.Dec.{leb}
-use lib.ListN.{length, set, replicate}
+use lib.ListN.{length}
 use lib.Pow.{pow-mono}
-use lib.Seq.{getD-set-same, getD-set-other}
-use lib.IntN.{ℤ, pos}
 use borrow.Author.Tests.{le-leb, lt-leb, lt-ltb}
 use Rattle.rules.specs.declared.Size.{Size}
 use Rattle.rules.specs.declared.Plane.{Plane}
 use Rattle.rules.specs.declared.Level.{Level}
-use Rattle.rules.specs.Document.Pyramid.{family, levels, levelOf, magnitude}
-use Rattle.rules.specs.Document.Passes.{Entry, typeA, typeB, members, inLevel, Lists, State, Side, Course, passed, own, handed, after, from}
-use Rattle.rules.specs.Document.Numbers.{mostBits}
-use Rattle.rules.specs.Document.Calls.{levelPlaces, workFor}
-use Rattle.rules.specs.Laws.Counting.Sums.{_∈_, sum, is, All, all-of, all-then}
-use Rattle.rules.specs.Laws.Family.Lawful.{level-some, grandchild}
+use Rattle.bits.specs.declared.BitPosition.{BitPosition}
+use Rattle.rules.specs.Document.Pyramid.{levels}
+use Rattle.rules.specs.Document.Passes.{Entry, typeA, typeB, inLevel, State, Side, passed}
+use Rattle.rules.specs.Laws.Counting.Sums.{sum, is, All, all-then}
 use Rattle.rules.specs.Laws.Family.Sizes.{legal, area-bound, levelStart, levelSize}
-use Rattle.rules.specs.Promises.Vocabulary.{Legal}
-use Rattle.rules.specs.Laws.Offspring.Level.{level-most}
-use Rattle.rules.specs.Laws.Offspring.Lawful.{lawful, descendants-level}
-use Rattle.rules.specs.Laws.Pass.Levels.{Placed, passed-level1}
+use Rattle.rules.specs.Laws.Pass.Levels.{Settled, Placed, passed-level1}
 use Rattle.rules.specs.Laws.Pass.Slots.{Room, room-slots}
-use Rattle.rules.specs.Laws.State.Weight.{after-own, after-next, after-other}
-use Rattle.rules.specs.Laws.State.Record.{part-room, moved-room}
+use Rattle.rules.specs.Promises.Vocabulary.{Legal}
+use Rattle.trees.specs.Family.{trees}
+use Rattle.trees.specs.Lawful.{trees-lawful}
+use Rattle.trees.specs.Sound.{tree-part-room, tree-moved-room}
+use Rattle.stretches.specs.Cut.{setRoom, lisFrom, maximaFrom, valuesIn, maximaIn, stretchOf}
+use Rattle.stretches.specs.Workspace.{Words}
+use Rattle.lists.specs.declared.Stretch.{Stretch}
 use Rattle.lists.specs.declared.Fill.{Fill}
-use Rattle.lists.specs.Seg.{seg-length}
-use Rattle.lists.specs.Stretch.{setRoom, listsIn, held, Fits, lists-fit, sets-fit, known-length, todo-length, moved-length}
-use Rattle.lists.specs.Stretch.{held-begins, held-ends, held-moved, held-known}
+use Rattle.lists.specs.Lists.{sets, listsIn, Held, held, Fits, lists-fit, sets-fit, sets-few, known-length, todo-length}
+use Rattle.lists.specs.Lists.{held-begins, held-known}
+use Rattle.testing.specs.declared.Role.{Role}
 use Rattle.testing.specs.declared.Run.{Run}
 use Rattle.testing.specs.declared.Stand.{Stand}
-use Rattle.parts.specs.declared.Counts.{Counts}
-use Rattle.parts.specs.declared.Passed.{Passed}
-use Rattle.bits.specs.declared.BitPosition.{BitPosition}
-use Rattle.testing.specs.Exchange.{Chan, chan, familyOf, side}
-use Rattle.testing.specs.Finding.{course}
+use Rattle.testing.specs.Exchange.{Chan, chan, familyOf, reads, side, side-kept}
 use Rattle.testing.specs.Growing.{Growth}
-use Rattle.passes.specs.Steps.{hasMember, Queued, Proper, Fresh, listsOf}
-use Rattle.parts.specs.Standing.{stretchOf, countAt, Places, fillOf, withLists, listsAt, stateOf, Ready, ReadyToCode, PartCoded, ReadyToDecode}
-use Rattle.parts.specs.Standing.{PartDecoded}
-use Rattle.parts.specs.Workspace.{Lending, Lent, movedOut, handedOn, Handing, Handed, runOf, Running, courseIn, PartRun}
-use Rattle.parts.proofs.Workspace.{size-some, size-place}
-use Rattle.parts.proofs.States.{state-in, state-same, handedOn-next, handedOn-other}
-use Rattle.parts.proofs.Sides.{sound-lsp, coded-part, decoded-part}
-
--- No set has a member in level N+1.
-module _ (z : Size) (Z : Legal z) where
-  members-under : (e : Entry) (q : ℕ) → q ∈ members (family z) e → levelOf z q < levels z
-  unfolding members
-  members-under (typeA p) q i = omega (arith, descendants-level z Z p q i, level-most z p)
-  members-under (typeB p) q i =
-      let g = grandchild (family z) (lawful z Z) p q i in
-      omega (arith, descendants-level z Z (g .0) q (g .2), level-most z (g .0))
-
-  pub top-none : (e : Entry) → inLevel (family z) (levels z) e ≡ false
-  top-none e = by (inLevel (family z) (levels z) e) refl
-    where
-      by : (b : Bool) → inLevel (family z) (levels z) e ≡ b → inLevel (family z) (levels z) e ≡ false
-      by false i = i
-      by true i = let g = level-some (family z) (levels z) e i in absurd (omega (arith, members-under e (g .0) (g .1), g .2))
+use Rattle.passes.specs.Steps.{hasMember, Queued, Fresh, listsOf, passOf}
+use Rattle.parts.specs.declared.Counts.{Counts}
+use Rattle.parts.specs.Standing.{countAt, fillOf, listsAt, stateOf, Ready}
+use Rattle.parts.specs.Workspace.{lentTo, lentOf, stretchFor, Lending, runOf, courseIn}
+use Rattle.parts.proofs.Levels.{size-some, size-place, next-start, stretch-length}
+use Rattle.parts.proofs.Nodes.{top-none}
+use Rattle.parts.proofs.Workspace.{lent-next, lent-fits, lent-inside, lent-length}
+use Rattle.parts.proofs.States.{state-in, lists-agree}
+use Rattle.parts.proofs.Growing.{sound-once, words-small}
 
 -- Which sets have a member in the level is known where LIS holds what it began with.
 queue-all : (run : Run) (b : Bool) → leb (run .level .0) (run .z .n) ≡ b → (es : List Entry)
@@ -94,288 +73,235 @@ module _ {z : Size} {p : Plane} {l : Level} {work : List ℕ} {counts : Counts} 
     abbrev t : List ℕ
     t = stretchOf z k work
 
-    stretch-length : length t ≡ 4 * n
-    unfolding stretchOf
-    stretch-length = seg-length _ _ work (omega (arith, place, R .room))
-      where
-        place : 4 * levelStart z k + 4 * levelSize z k ≤ workFor z
-        place = size-place z Z k a b
+    abbrev alone : Stretch
+    alone = record { n = levelSize z k; away = 4 * levelSize z k }
 
-    lists-are : listsIn n t (countAt (counts .lip) k) (countAt (counts .lis) k) (countAt (counts .lsp) k) ≡ s k
+    pub lists-are : listsIn n t (countAt (counts .lip) k) (countAt (counts .lis) k) (countAt (counts .lsp) k) ≡ s k
     unfolding listsAt
     lists-are = sym (state-in z work counts k a b)
 
-    pub level-room : Room (family z) k n (length (s k .lsp)) 0 (s k .lip) (s k .lis)
-    level-room = part-room z Z (R .sound) k a b
+    pub level-room : Room (trees z) k n (length (s k .lsp)) 0 (s k .lip) (s k .lis)
+    level-room = tree-part-room z Z (R .sound) k a b
 
-    pub level-fits : Fits n t (fillOf counts k)
+    pub level-fits : Fits alone t (fillOf counts k)
     level-fits =
         let r = level-room in
-        let m = room-slots (lawful z Z) r in
+        let m = room-slots (trees-lawful z Z) r in
         let g = lists-are in
-        lists-fit n t (countAt (counts .lip) k) (countAt (counts .lis) k) (countAt (counts .lsp) k) (size-some z Z k a b) (omega (arith, stretch-length))
+        let long = stretch-length z Z work k a b (R .room) in
+        lists-fit alone t (countAt (counts .lip) k) (countAt (counts .lis) k) (countAt (counts .lsp) k) (size-some z Z k a b)
+        (omega (arith, long)) (omega arith) (omega (arith, long))
         (omega (arith, r .coefficients, ap (λ x. length (x .lip)) g))
         (omega (arith, m, ap (λ x. length (x .lis)) g))
         (omega (arith, r .coefficients, ap (λ x. length (x .lsp)) g))
 
-    -- as a pass finds them
-    pub level-begins : record { lip = held n t (fillOf counts k) .lip; lis = held n t (fillOf counts k) .todo; lsp = held n t (fillOf counts k) .lsp } ≡ s k
-    level-begins = sym (held-begins n t (fillOf counts k) refl) ∙ lists-are
+    abbrev whole : Held
+    whole = held alone t (fillOf counts k)
+
+    level-begins : record { lip = whole .lip; lis = whole .todo; lsp = whole .lsp } ≡ s k
+    level-begins = sym (held-begins alone t (fillOf counts k) refl) ∙ lists-are
 
     pub level-counts : (length (s k .lis) ≡ countAt (counts .lis) k) × (length (s k .lsp) ≡ countAt (counts .lsp) k)
     level-counts = (
-      ap (λ x. length (x .lis)) (sym level-begins) ∙ todo-length n t (fillOf counts k) level-fits,
-      ap (λ x. length (x .lsp)) (sym level-begins) ∙ ap length (held-known n t (fillOf counts k))
-          ∙ known-length n (countAt (counts .lsp) k) t (omega (arith, stretch-length, level-fits .lsp)),
+      ap (λ x. length (x .lis)) (sym level-begins) ∙ todo-length alone t (fillOf counts k) level-fits,
+      ap (λ x. length (x .lsp)) (sym level-begins) ∙ ap length (held-known alone t (fillOf counts k))
+          ∙ known-length n (countAt (counts .lsp) k) t (level-fits .room) (level-fits .lsp),
     )
 
     -- each set has a member in the level, or none has
-    pub level-queue : All (λ e. inLevel (family z) k e ≡ leb k (z .n)) (s k .lis)
+    pub level-queue : All (λ e. inLevel (trees z) k e ≡ leb k (z .n)) (s k .lis)
     level-queue = by (decLe k (z .n))
       where
-        by : Dec (k ≤ z .n) → All (λ e. inLevel (family z) k e ≡ leb k (z .n)) (s k .lis)
+        by : Dec (k ≤ z .n) → All (λ e. inLevel (trees z) k e ≡ leb k (z .n)) (s k .lis)
         by (yes l) = all-then _ _ (s k .lis) (λ e m. m .there ∙ sym (le-leb k (z .n) l)) (R .sound .met k (omega arith))
         by (no l) =
-            let e : k ≡ levels z = omega arith in
-            all-of _ (s k .lis) (λ d. subst (λ (i : ℕ). inLevel (family z) i d ≡ false) (sym e) (top-none z Z d) ∙ sym (lt-leb k (z .n) (omega arith)))
+            let e : levels z ≡ k = omega arith in
+            let none = subst (λ (i : ℕ). (d : Entry) → Settled (trees z) i d → inLevel (trees z) i d ≡ false) e (top-none z Z) in
+            all-then _ _ (s k .lis) (λ d m. none d m ∙ sym (lt-leb k (z .n) (omega arith))) (R .sound .placed k .sets)
 
 -- the pass of a part
-module _ (run : Run) {work : List ℕ} {counts : Counts} {d : List ℤ} (H : Running run work counts d) where
-  abbrev R : Ready (run .z) (run .plane) (run .level) work counts
-  R = H .ready
-
-  abbrev z : Size
-  z = run .z
+module _ (role : Role) {z : Size} {plane : Plane} {level : Level} {work : List ℕ} {counts : Counts} (D : Ready z plane level work counts)
+    (from : BitPosition) where
+  abbrev run : Run
+  run = runOf role z plane level counts from
 
   abbrev k : ℕ
-  k = run .level .0
+  k = level .0
+
+  abbrev a : 1 ≤ k
+  a = D .coarser
+
+  abbrev b : k ≤ levels z
+  b = D .level
+
+  L : Legal z
+  L = legal z (D .legal)
+
+  abbrev lent : List ℕ → List ℕ
+  lent = lentOf z k
 
   abbrev begun : Stand
-  begun = record { fill = fillOf counts k; at = run .from }
+  begun = record { fill = fillOf counts k; at = from }
+
+  -- where the sets go that move out
+  pub away-first : k < 2 → run .stretch .away ≡ 4 * levelSize z k
+  unfolding stretchFor
+  away-first h = rw (lt-leb 2 k h)
+
+  pub away-next : 2 ≤ k → run .stretch .away ≡ 4 * levelSize z k + lisFrom (levelSize z (k - 1)) + countAt (counts .lis) (k - 1)
+  unfolding stretchFor
+  away-next h = rw (le-leb 2 k h)
+
+  next-few : 2 ≤ k → countAt (counts .lis) (k - 1) ≤ setRoom (levelSize z (k - 1))
+  next-few h = omega (arith, level-fits D (k - 1) (omega arith) (omega (arith, b)) .visits)
+
+  -- how long it is with the next level's
+  pub lent-next-length : 2 ≤ k → lentTo z k ≡ 4 * levelStart z k + 4 * levelSize z k + 4 * levelSize z (k - 1)
+  lent-next-length h = omega (arith, lent-next z k h, next-start z L k h b)
+
+  pass-fits : Fits (run .stretch) (lent work) (fillOf counts k)
+  unfolding stretchFor
+  pass-fits =
+      let f = level-fits D k a b in
+      record {
+        room = omega (arith, lent-length z L k a b work (D .room), lent-fits z L k a b .0);
+        lip = f .lip;
+        lsp = f .lsp;
+        kept = f .kept;
+        visits = f .visits;
+        behind = by (decLe 2 k) .0;
+        moved = by (decLe 2 k) .1;
+      }
+    where
+      by : Dec (2 ≤ k) → (4 * levelSize z k ≤ run .stretch .away) × (run .stretch .away + 0 ≤ length (lent work))
+      by (yes h) =
+          let few = sets-few (levelSize z (k - 1)) (countAt (counts .lis) (k - 1)) (next-few h) in
+          let third : lisFrom (levelSize z (k - 1)) ≡ levelSize z (k - 1) + levelSize z (k - 1) + levelSize z (k - 1) = unfold lisFrom in refl in
+          (omega (arith, away-next h), omega (arith, away-next h, lent-length z L k a b work (D .room), lent-next-length h))
+      by (no h) =
+          (omega (arith, away-first (omega arith)), omega (arith, away-first (omega arith), lent-length z L k a b work (D .room), lent-fits z L k a b .0))
+
+  -- what lies in the level's own stretch
+  module _ (w : List ℕ) where
+    pub values-lent : valuesIn (levelSize z k) (lent w) ≡ valuesIn (levelSize z k) (stretchOf z k w)
+    unfolding valuesIn
+    values-lent = lent-inside z L k a b w 0 (levelSize z k) (omega arith)
+
+    maxima-lent : maximaIn (levelSize z k) (lent w) ≡ maximaIn (levelSize z k) (stretchOf z k w)
+    unfolding maximaIn maximaFrom
+    maxima-lent = lent-inside z L k a b w _ (levelSize z k / 4) (omega arith)
+
+    pub lists-lent : (lip lis lsp : ℕ) → lip ≤ levelSize z k → lis ≤ setRoom (levelSize z k) → lsp ≤ levelSize z k
+        → listsIn (levelSize z k) (lent w) lip lis lsp ≡ listsIn (levelSize z k) (stretchOf z k w) lip lis lsp
+    unfolding lisFrom setRoom
+    lists-lent lip lis lsp g h i =
+        lists-agree (levelSize z k) (stretchOf z k w) (lent w) lip lis lsp g i (λ c m l e. lent-inside z L k a b w c m (omega arith))
 
   -- what the pass finds
-  found : listsOf run (stretchOf z k work) begun ≡ stateOf z work counts k
-  found = rw (H .size) (level-begins R k (R .coarser) (R .level))
+  found : listsOf run (lent work) begun ≡ stateOf z work counts k
+  unfolding stretchFor
+  found =
+      let f = level-fits D k a b in
+      sym (held-begins (run .stretch) (lent work) (fillOf counts k) refl)
+      ∙ lists-lent work (countAt (counts .lip) k) (countAt (counts .lis) k) (countAt (counts .lsp) k) (f .lip) (omega (arith, f .visits)) (f .lsp)
+      ∙ lists-are D k a b
 
-  abbrev l : Lists
-  l = listsOf run (stretchOf z k work) begun
+  pub pass-is : (body out : List ℕ) → passOf run body (lent work) out begun ≡ courseIn run body work counts out
+  unfolding stretchFor
+  pass-is body out =
+      let t = stretchOf z k work in
+      ap (λ C. passed (trees z) k C (listsOf run (lent work) begun) (chan out (valuesIn (levelSize z k) (lent work)) (from .at)))
+      (side-kept run t (lent work) (λ r. values-lent work) (maxima-lent work) body)
+      ∙ ap₂ (λ l vs. passed (trees z) k (side run t body) l (chan out vs (from .at))) found (values-lent work)
 
-  proper : Proper run
-  proper =
-      record {
-        legal = R .legal;
-        plane = R .plane;
-        coarser = R .coarser;
-        level = R .level;
-        size = omega (arith, H .size, size-place z (legal z (R .legal)) k (R .coarser) (R .level), area-bound z (R .legal));
-        from = H .place;
-      }
+  -- What moves out has room in the next level, and nothing leaves level 1.
+  module _ (C : Side Chan) (x : Chan) where
+    pub moved-none : k < 2 → passed (trees z) k C (stateOf z work counts k) x .moved ≡ []
+    moved-none h =
+        let e : 1 ≡ k = omega (arith, a) in
+        subst (λ (i : ℕ). Placed (trees z) i (stateOf z work counts i) → passed (trees z) i C (stateOf z work counts i) x .moved ≡ []) e
+        (passed-level1 (trees-lawful z L) C (stateOf z work counts 1) x) (D .sound .placed k)
 
-  growth : Growth (run .plane .0) (2 ^ 30) d (l .lsp)
-  growth =
-      let o = subst (λ x. (q : ℕ) → sum (is q) (x .lsp) ≤ 1) (sym found) (sound-lsp z (stateOf z work counts) (R .sound) k (R .level)) in
+    pub moved-some : 2 ≤ k → countAt (counts .lis) (k - 1) + length (passed (trees z) k C (stateOf z work counts k) x .moved) ≤ setRoom (levelSize z (k - 1))
+    moved-some h =
+        let j : ℕ = k - 1 in
+        let i : suc j ≡ k = omega arith in
+        let m = tree-moved-room z L (D .sound) j (omega arith) (omega (arith, b)) C x in
+        let same = ap (λ (y : ℕ). length (passed (trees z) y C (stateOf z work counts y) x .moved)) i in
+        sets-fit (levelSize z j) _ (omega (arith, m, same, level-counts D j (omega arith) (omega (arith, b)) .0))
+
+  moved-fits : (body out : List ℕ) → run .stretch .away + length (courseIn run body work counts out .moved) ≤ length (lent work)
+  unfolding lisFrom setRoom
+  moved-fits body out = by (decLe 2 k)
+    where
+      C : Side Chan
+      C = side run (stretchOf z k work) body
+
+      x : Chan
+      x = chan out (valuesIn (levelSize z k) (stretchOf z k work)) (from .at)
+
+      by : Dec (2 ≤ k) → run .stretch .away + length (courseIn run body work counts out .moved) ≤ length (lent work)
+      by (yes h) = omega (arith, away-next h, lent-length z L k a b work (D .room), lent-next-length h, moved-some C x h)
+      by (no h) = omega (arith, ap length (moved-none C x (omega arith)), pass-fits .moved)
+
+  growth : Words z (2 ^ 29) work
+      → Growth (levelStart z k) (plane .0) (2 ^ 30) (valuesIn (levelSize z k) (lent work)) (stateOf z work counts k .lsp)
+  growth W =
+      let o : (q : ℕ) → sum (is q) (stateOf z work counts k .lsp) ≤ 1
+      = λ q. omega (arith, sound-once z (stateOf z work counts) (D .sound) k b q) in
       record {
         small = λ q.
-            omega (
+            rw (values-lent work)
+            (omega (
               arith,
-              mul-le-mul-left (2 ^ run .plane .0) (o q),
-              pow-mono {i = run .plane .0} {j = 16} (omega (arith, R .plane)),
-              H .small .under q,
-            );
+              words-small z L k (2 ^ 29) a b work (omega (arith, stretch-length z L work k a b (D .room))) W q,
+              mul-le-mul-left (2 * 2 ^ plane .0) (o q),
+              pow-mono {i = plane .0} {j = 16} (omega (arith, D .plane)),
+            ));
         once = o;
       }
 
-  part-fresh : Fresh run (stretchOf z k work) d begun
-  part-fresh =
-      let n = level-counts R k (R .coarser) (R .level) in
-      record {
-        proper = proper;
-        fits = rw (H .size) (level-fits R k (R .coarser) (R .level));
-        room =
-            subst (λ x. Room (familyOf run) k (run .n) (countAt (counts .lsp) k) 0 (x .lip) (x .lis)) (sym found)
-            (rw (H .size, ← (n .1)) (level-room R k (R .coarser) (R .level)));
-        queue =
-            subst (λ x. Queued run 0 (x .lis)) (sym found)
-            (queue-all run (leb k (z .n)) refl (stateOf z work counts k .lis) (level-queue R k (R .coarser) (R .level)) 0 (omega (arith, H .olds, n .0)));
-        olds = omega (arith, H .olds);
-        kept = refl;
-        visited = refl;
-        moved = refl;
-        place = refl;
-        growth = growth;
-      }
-
-  pub part-lending : (f : Fill) → f ≡ fillOf counts k → Lending run work d (record { fill = f; at = run .from })
-  part-lending f e =
-      record {
-        room = R .room;
-        size = H .size;
-        fresh = subst (λ x. Fresh run (stretchOf z k work) d (record { fill = x; at = run .from })) (sym e) part-fresh;
-      }
-
-  -- after the pass
-  module _ (six : Places counts) {C : Side Chan} {out work₁ out₁ : List ℕ} {d₁ : List ℤ} {r : Stand} (T : Lent C run work out d begun work₁ out₁ d₁ r) where
-    abbrev c : Course Chan
-    c = courseIn C run work counts out d
-
-    abbrev made : List ℕ
-    made = stretchOf z k work₁
-
-    abbrev ours : Counts
-    ours = withLists counts k (r .fill)
-
-    ran-course : course (run .n) made out₁ d₁ r ≡ c
-    ran-course = T .ran .makes ∙ ap (λ x. passed (familyOf run) k C x (chan out d (run .from .at))) found
-
-    gone-count : length (c .moved) ≡ r .fill .moved
-    gone-count = ap (λ x. length (x .moved)) (sym ran-course) ∙ moved-length (run .n) made (r .fill) (T .ran .fits)
-
-    few : k ≤ levelPlaces
-    few = omega (arith, R .level, legal z (R .legal) .few)
-
-    other-count : (cs : List ℕ) (x j : ℕ) → 1 ≤ j → j ≢ k → countAt (set cs (k - 1) x) j ≡ countAt cs j
-    other-count cs x j a e = getD-set-other cs (k - 1) (j - 1) x 0 (λ i. e (omega (arith, R .coarser)))
-
-    -- the lists of the level, and of the others
-    ours-own : stateOf z work₁ ours k ≡ own c
-    unfolding listsAt
-    ours-own =
-        state-in z work₁ ours k (R .coarser) (R .level)
-        ∙ rw (
-          getD-set-same (counts .lip) (k - 1) (r .fill .lip) 0 (omega (arith, six .lip, R .coarser, few)),
-          getD-set-same (counts .lis) (k - 1) (r .fill .kept) 0 (omega (arith, six .lis, R .coarser, few)),
-          getD-set-same (counts .lsp) (k - 1) (r .fill .lsp) 0 (omega (arith, six .lsp, R .coarser, few)),
-        ) (rw (← (H .size)) (held-ends (run .n) made (r .fill)))
-        ∙ ap own ran-course
-
-    ours-other : (j : ℕ) → j ≢ k → stateOf z work₁ ours j ≡ stateOf z work counts j
-    ours-other j e =
-        state-same z work work₁ counts ours j
-        (λ a b. (T .others j a b e, other-count (counts .lip) (r .fill .lip) j a e, other-count (counts .lis) (r .fill .kept) j a e, other-count (counts .lsp) (r .fill .lsp) j a e))
-
-    moved-is : movedOut z k work₁ (r .fill .moved) ≡ c .moved
-    unfolding movedOut
-    moved-is = rw (← (H .size)) (sym (held-moved (run .n) made (r .fill))) ∙ ap (λ x. x .moved) ran-course
-
-    -- Nothing leaves level 1.
-    stays-finest : k ≡ 1 → r .fill .moved ≡ 0
-    stays-finest e =
-        sym gone-count
-        ∙ ap length (subst (λ (i : ℕ). Placed (familyOf run) i (stateOf z work counts i) → passed (familyOf run) i C (stateOf z work counts i) (chan out d (run .from .at)) .moved ≡ []) (sym e)
-        (passed-level1 (lawful z (legal z (R .legal))) C (stateOf z work counts 1) (chan out d (run .from .at)))
-        (R .sound .placed k))
-
-    -- what moves out has room in the next level
-    next-room : 1 < k → countAt (ours .lis) (k - 1) + r .fill .moved ≤ setRoom (levelSize z (k - 1))
-    next-room a =
-        let j : ℕ = k - 1 in
-        let i : suc j ≡ k = omega arith in
-        let L : Legal z = legal z (R .legal) in
-        let m = moved-room z L (R .sound) j (omega arith) (omega (arith, R .level)) C (chan out d (run .from .at)) in
-        let s : length (passed (familyOf run) (suc j) C (stateOf z work counts (suc j)) (chan out d (run .from .at)) .moved) ≡ r .fill .moved
-        = subst (λ (x : ℕ). length (passed (familyOf run) x C (stateOf z work counts x) (chan out d (run .from .at)) .moved) ≡ r .fill .moved) (sym i)
-        gone-count in
-        let o = other-count (counts .lis) (r .fill .kept) j (omega arith) (λ e. omega arith) in
-        sets-fit (levelSize z j) _ (omega (arith, m, s, o, level-counts R j (omega arith) (omega (arith, R .level)) .0))
-
-    pub part-handing : Handing z (run .level) work₁ ours (r .fill .moved)
-    part-handing =
+  module _ (place : from .at + 4 * levelSize z k < 2 ^ 62) (words : reads run ≡ true → Words z (2 ^ 29) work) (body out : List ℕ) where
+    part-fresh : Fresh run body (lent work) out begun
+    unfolding stretchFor
+    part-fresh =
+        let n = level-counts D k a b in
         record {
-          legal = R .legal;
-          room = omega (arith, R .room, T .same);
-          coarser = R .coarser;
-          level = R .level;
-          finest = stays-finest;
-          gone = rw (← (H .size)) (T .ran .fits .moved);
-          lip = λ a. rw (other-count (counts .lip) (r .fill .lip) (k - 1) (omega arith) (λ e. omega arith)) (level-fits R (k - 1) (omega arith) (omega (arith, R .level)) .lip);
-          lsp = λ a. rw (other-count (counts .lsp) (r .fill .lsp) (k - 1) (omega arith) (λ e. omega arith)) (level-fits R (k - 1) (omega arith) (omega (arith, R .level)) .lsp);
-          lis = next-room;
+          proper =
+              record {
+                legal = D .legal;
+                plane = D .plane;
+                coarser = a;
+                level = b;
+                size = omega (arith, size-place z L k a b, area-bound z (D .legal));
+                first = refl;
+                parents = refl;
+                elders = refl;
+                from = place;
+              };
+          fits = pass-fits;
+          room =
+              subst (λ x. Room (trees z) k (levelSize z k) (countAt (counts .lsp) k) 0 (x .lip) (x .lis)) (sym found)
+              (rw (← (n .1)) (level-room D k a b));
+          away = rw (pass-is body out) (moved-fits body out);
+          queue =
+              subst (λ x. Queued run 0 (x .lis)) (sym found)
+              (queue-all run (leb k (z .n)) refl (stateOf z work counts k .lis) (level-queue D k a b) 0 (omega (arith, n .0)));
+          olds = omega arith;
+          kept = refl;
+          visited = refl;
+          moved = refl;
+          place = refl;
+          growth = λ r.
+              subst (λ x. Growth (levelStart z k) (plane .0) (2 ^ 30) (valuesIn (levelSize z k) (lent work)) (x .lsp)) (sym found)
+              (growth (words r));
         }
 
-    -- the whole part
-    pub part-run : {work₂ : List ℕ} {p : Passed} → Handed z (run .level) work₁ ours (r .fill .moved) (p .counts) work₂ → p .at ≡ r .at
-        → PartRun C run work counts out d p work₂ out₁ d₁
-    part-run {work₂} {p} D e =
+    pub part-lending : {f : Fill} → f ≡ fillOf counts k → Lending run body work out (record { fill = f; at = from })
+    unfolding stretchFor
+    part-lending e =
         record {
-          lists = record { lists = λ j. D .lists j ∙ by j (ℕ-discrete j k) (ℕ-discrete (suc j) k) };
-          same = D .same ∙ T .same;
-          side = ap (λ (x : BitPosition). chan out₁ d₁ (x .at)) e ∙ ap (λ x. x .side) ran-course;
+          room = D .room;
+          size = refl;
+          fresh = subst (λ x. Fresh run body (lent work) out (record { fill = x; at = from })) (sym e) part-fresh;
         }
-      where
-        gone : List Entry
-        gone = movedOut z k work₁ (r .fill .moved)
-
-        by : (j : ℕ) → Dec (j ≡ k) → Dec (suc j ≡ k) → handedOn k gone (stateOf z work₁ ours) j ≡ after k c (stateOf z work counts) j
-        by j (yes i) m =
-            subst (λ (x : ℕ). handedOn k gone (stateOf z work₁ ours) x ≡ after k c (stateOf z work counts) x) (sym i)
-            (handedOn-other k gone (stateOf z work₁ ours) k (λ f. omega arith) ∙ ours-own ∙ sym (after-own c (stateOf z work counts) k))
-        by j (no i) (yes m) =
-            handedOn-next k gone (stateOf z work₁ ours) j m
-            ∙ ap₂ (λ x es. record { lip = x .lip; lis = x .lis ++ es; lsp = x .lsp }) (ours-other j i) moved-is
-            ∙ sym (subst (λ (x : ℕ). after x c (stateOf z work counts) j ≡ handed c (stateOf z work counts j)) m (after-next c (stateOf z work counts) j))
-        by j (no i) (no m) =
-            handedOn-other k gone (stateOf z work₁ ours) j m ∙ ours-other j i ∙ sym (after-other c (stateOf z work counts) k j i m)
-
-  -- the same of lists and counts that the code has made
-  module _ (six : Places counts) {C : Side Chan} {out work₁ out₁ : List ℕ} {d₁ : List ℤ} {r : Stand} {f : Fill} (e : f ≡ fillOf counts k)
-      (T : Lent C run work out d (record { fill = f; at = run .from }) work₁ out₁ d₁ r) {left : Counts} (i : left ≡ withLists counts k (r .fill)) where
-    lent-begun : Lent C run work out d begun work₁ out₁ d₁ r
-    lent-begun = subst (λ x. Lent C run work out d (record { fill = x; at = run .from }) work₁ out₁ d₁ r) e T
-
-    pub part-hands : Handing z (run .level) work₁ left (r .fill .moved)
-    part-hands = subst (λ x. Handing z (run .level) work₁ x (r .fill .moved)) (sym i) (part-handing six lent-begun)
-
-    pub part-done : {work₂ : List ℕ} {p : Passed} → Handed z (run .level) work₁ left (r .fill .moved) (p .counts) work₂ → p .at ≡ r .at
-        → PartRun C run work counts out d p work₂ out₁ d₁
-    part-done {work₂} {p} D = part-run six lent-begun (subst (λ x. Handed z (run .level) work₁ x (r .fill .moved) (p .counts) work₂) i D)
-
-  pub part-few : (1 ≤ k) × (k ≤ levelPlaces)
-  part-few = (R .coarser, omega (arith, R .level, legal z (R .legal) .few))
-
-pub run-is : {reads : Bool} {z : Size} {plane : Plane} {level : Level} (counts : Counts) {at : BitPosition} {n : ℕ} {f : Fill}
-    → n ≡ levelSize z (level .0) → f ≡ fillOf counts (level .0)
-    → _≡_ {A = Run} (record { reads = reads; z = z; plane = plane; level = level; n = n; olds = f .left; from = at }) (runOf reads z plane level counts at)
-run-is {reads} {z} {plane} {level} counts {at} e i =
-    ap₂ (λ (x : ℕ) (y : Fill). record { reads = reads; z = z; plane = plane; level = level; n = x; olds = y .left; from = at }) e i
-
--- A part that is coded or decoded can be run.
-part-place : {z : Size} {plane : Plane} {level : Level} {work : List ℕ} {counts : Counts} → Ready z plane level work counts → (at : ℕ) → at + mostBits z < 2 ^ 61
-    → at + 4 * levelSize z (level .0) < 2 ^ 62
-part-place {z} {level = level} R at h = omega (arith, h, size-place z (legal z (R .legal)) (level .0) (R .coarser) (R .level))
-
-zeros-small : (q : ℕ) → magnitude (replicate 1 (pos 0)) q < 2 ^ 29
-unfolding magnitude
-zeros-small zero = omega arith
-zeros-small (suc q) = omega arith
-
-pub coding-runs : {z : Size} {plane : Plane} {level : Level} {work : List ℕ} {counts : Counts} {at : BitPosition} {run : Run}
-    → ReadyToCode z plane level work counts at → run ≡ runOf false z plane level counts at → Running run work counts (replicate 1 (pos 0))
-coding-runs {work = work} {counts = counts} {at = at} C e =
-    subst (λ x. Running x work counts (replicate 1 (pos 0))) (sym e)
-    (record { ready = C .ready; size = refl; olds = refl; place = part-place (C .ready) (at .at) (C .place); small = record { under = zeros-small } })
-
-pub decoding-runs : {z : Size} {plane : Plane} {level : Level} {work : List ℕ} {counts : Counts} {d : List ℤ} {run : Run}
-    → ReadyToDecode z plane level work counts d → run ≡ runOf true z plane level counts (record { at = 0 }) → Running run work counts d
-decoding-runs {z} {work = work} {counts = counts} {d = d} D e =
-    subst (λ x. Running x work counts d) (sym e)
-    (record {
-      ready = D .ready;
-      size = refl;
-      olds = refl;
-      place = part-place (D .ready) 0 (omega (arith, area-bound z (D .ready .legal)));
-      small = D .small;
-    })
-
-pub coding-done : {pyramid : List ℤ} {z : Size} {plane : Plane} {level : Level} {work : List ℕ} {counts : Counts} {at : BitPosition} {run : Run}
-    (body : List ℕ) {out work′ out′ : List ℕ} {d d′ : List ℤ} {r : Passed}
-    → run ≡ runOf false z plane level counts at → PartRun (side run pyramid body) run work counts out d r work′ out′ d′
-    → PartCoded pyramid z plane level work counts out at r work′ out′
-coding-done {pyramid} {work = work} {counts = counts} body {out} {work′} {out′} {d} {d′} {r} e P =
-    coded-part _ pyramid body (subst (λ x. PartRun (side x pyramid body) x work counts out d r work′ out′ d′) e P) refl
-
-pub decoding-done : (pyramid : List ℤ) {body : List ℕ} {z : Size} {plane : Plane} {level : Level} {work : List ℕ} {counts : Counts} {run : Run}
-    {out work′ out′ : List ℕ} {d d′ : List ℤ} {r : Passed} → ReadyToDecode z plane level work counts d
-    → run ≡ runOf true z plane level counts (record { at = 0 }) → PartRun (side run pyramid body) run work counts out d r work′ out′ d′
-    → PartDecoded body z plane level work counts d r work′ d′
-decoding-done pyramid {body} {work = work} {counts = counts} {out = out} {work′ = work′} {out′ = out′} {d = d} {d′ = d′} {r = r} D e P =
-    decoded-part _ pyramid body (subst (λ x. PartRun (side x pyramid body) x work counts out d r work′ out′ d′) e P) refl refl (D .ready)

@@ -1,26 +1,27 @@
--- The lists of all levels: what a pass and the handing on of its moved sets make of them.
-use mathlib.Core.Path.{_≡_, refl, sym, ap, _∙_, subst}
-use mathlib.Core.List.{List, [], _++_, append-nil}
+-- The lists of all levels in the workspace, by their stretches and counts: what a pass leaves of them.
+use mathlib.Core.Path.{_≡_, refl, sym, ap, _∙_}
+use mathlib.Core.List.{List, _++_, map}
 use mathlib.Core.Bool.{Bool, true, false, cond, _&&_}
-use Prim.Native.Nat.{ℕ, suc, _+_, _-_, _*_, _≤_, _<_, _^_}
+use mathlib.Core.Logic.{_≢_}
+use Prim.Native.Nat.{ℕ, suc, _+_, _-_, _≤_, _<_, _^_}
 use native.Mathlib.Omega.{arith}
-use native.Mathlib.Decide.{decLe, ℕ-discrete}
-use lib.Dec.{leb, eqb}
-use lib.ListN.{length}
+use native.Mathlib.Decide.{decLe}
+use lib.Dec.{leb}
+use lib.ListN.{length-set, getD, set}
 use lib.Seq.{getD-set-same, getD-set-other}
-use borrow.Author.Tests.{le-leb, lt-leb, eq-eqb, ne-eqb}
+use borrow.Author.Tests.{le-leb, lt-leb}
 use Rattle.rules.specs.declared.Size.{Size}
-use Rattle.rules.specs.declared.Level.{Level}
 use Rattle.rules.specs.Document.Pyramid.{levels}
-use Rattle.rules.specs.Document.Calls.{levelPlaces, workFor}
-use Rattle.rules.specs.Document.Passes.{Entry, Lists, State}
-use Rattle.rules.specs.Laws.Family.Sizes.{legal, area-bound, levelSize}
-use Rattle.rules.specs.Promises.Vocabulary.{Legal}
-use Rattle.lists.specs.Stretch.{sets-few, listsIn, sets-none}
+use Rattle.rules.specs.Document.Calls.{levelPlaces}
+use Rattle.rules.specs.Document.Passes.{Lists}
+use Rattle.trees.specs.Renamed.{map-append}
+use Rattle.stretches.specs.Seg.{seg, seg-add}
+use Rattle.stretches.specs.Cut.{lipFrom, lspFrom, lisFrom}
+use Rattle.lists.specs.declared.Fill.{Fill}
+use Rattle.lists.specs.Lists.{entry, sets, waiting, known, listsIn}
 use Rattle.parts.specs.declared.Counts.{Counts}
-use Rattle.parts.specs.Standing.{stretchOf, countAt, withSets, nothing, listsAt, stateOf}
-use Rattle.parts.proofs.Workspace.{from-fits}
-use Rattle.parts.specs.Workspace.{movedOut, handedOn, HandingOver, HandedOver, Handing, Handed}
+use Rattle.parts.specs.Standing.{countAt, Places, withLists, withSets, nothing, listsAt, stateOf}
+use Rattle.parts.specs.Workspace.{withMoved}
 
 module _ (z : Size) (work : List ℕ) (counts : Counts) (k : ℕ) where
   pub state-in : 1 ≤ k → k ≤ levels z → stateOf z work counts k ≡ listsAt z work counts k
@@ -36,110 +37,122 @@ module _ (z : Size) (work : List ℕ) (counts : Counts) (k : ℕ) where
       go (yes a) (no b) = rw (le-leb 1 k a, lt-leb k (levels z) (omega arith))
       go (no a) b = rw (lt-leb 1 k (omega arith))
 
--- a level's lists are as they were, where its stretch and its counts are
+-- two levels' lists are the same, where inside the levels they are
 pub state-same : (z : Size) (work work′ : List ℕ) (counts counts′ : Counts) (j : ℕ)
-    → (1 ≤ j → j ≤ levels z → (stretchOf z j work′ ≡ stretchOf z j work) × (countAt (counts′ .lip) j ≡ countAt (counts .lip) j)
-    × (countAt (counts′ .lis) j ≡ countAt (counts .lis) j) × (countAt (counts′ .lsp) j ≡ countAt (counts .lsp) j))
-    → stateOf z work′ counts′ j ≡ stateOf z work counts j
-unfolding listsAt
+    → (1 ≤ j → j ≤ levels z → listsAt z work′ counts′ j ≡ listsAt z work counts j) → stateOf z work′ counts′ j ≡ stateOf z work counts j
 state-same z work work′ counts counts′ j f = go (decLe 1 j) (decLe j (levels z))
   where
     go : Dec (1 ≤ j) → Dec (j ≤ levels z) → stateOf z work′ counts′ j ≡ stateOf z work counts j
-    go (yes a) (yes b) =
-        let e = f a b in
-        state-in z work′ counts′ j a b ∙ rw (e .0, e .1, e .2, e .3) (sym (state-in z work counts j a b))
+    go (yes a) (yes b) = state-in z work′ counts′ j a b ∙ f a b ∙ sym (state-in z work counts j a b)
     go (yes a) (no b) = state-out z work′ counts′ j (λ u v. b v) ∙ sym (state-out z work counts j (λ u v. b v))
     go (no a) b = state-out z work′ counts′ j (λ u v. a u) ∙ sym (state-out z work counts j (λ u v. a u))
 
--- handing on
-pub handedOn-next : (k : ℕ) (es : List Entry) (s : State) (j : ℕ) → suc j ≡ k
-    → handedOn k es s j ≡ record { lip = s j .lip; lis = s j .lis ++ es; lsp = s j .lsp }
-unfolding handedOn
-handedOn-next k es s j e = rw (eq-eqb (suc j) k e)
+sets-add : (n : ℕ) (s : List ℕ) (lis m : ℕ) → sets (lisFrom n) (lis + m) s ≡ sets (lisFrom n) lis s ++ sets (lisFrom n + lis) m s
+unfolding sets
+sets-add n s lis m = ap (map entry) (seg-add (lisFrom n) lis m s) ∙ map-append entry (seg (lisFrom n) lis s) (seg (lisFrom n + lis) m s)
 
-pub handedOn-other : (k : ℕ) (es : List Entry) (s : State) (j : ℕ) → (suc j ≡ k → ⊥) → handedOn k es s j ≡ s j
-unfolding handedOn
-handedOn-other k es s j d = rw (ne-eqb (suc j) k d)
+-- the lists in two stretches that agree from the values on up to the end of LIS
+module _ (n : ℕ) (s s′ : List ℕ) (lip lis lsp : ℕ) (a : lip ≤ n) (b : lsp ≤ n)
+    (same : (c m : ℕ) → n ≤ c → c + m ≤ lisFrom n + lis → seg c m s′ ≡ seg c m s) where
+  waiting-same : waiting n 0 lip s′ ≡ waiting n 0 lip s
+  unfolding waiting lipFrom lisFrom
+  waiting-same = same (n + 0) lip (omega arith) (omega arith)
 
-module _ (z : Size) (k : Level) {work : List ℕ} {counts : Counts} {moved : ℕ} (H : Handing z k work counts moved) where
-  pub handed-none : k .0 < 2 → Handed z k work counts moved counts work
-  unfolding handedOn movedOut
-  handed-none h =
-      record {
-        lists = λ j.
-            let e : movedOut z (k .0) work moved ≡ [] = sets-none _ _ _ (H .finest (omega (arith, H .coarser))) in
-            sym (go j (eqb (suc j) (k .0)) e);
-        same = refl;
-      }
+  known-same : known n lsp s′ ≡ known n lsp s
+  unfolding known lspFrom lisFrom
+  known-same = same (n + n) lsp (omega arith) (omega arith)
+
+  sets-same : sets (lisFrom n) lis s′ ≡ sets (lisFrom n) lis s
+  unfolding sets lisFrom
+  sets-same = ap (map entry) (same (n + n + n) lis (omega arith) (omega arith))
+
+  pub lists-agree : listsIn n s′ lip lis lsp ≡ listsIn n s lip lis lsp
+  unfolding listsIn
+  lists-agree = rw (waiting-same, sets-same, known-same)
+
+  -- with sets that came to the end of LIS
+  pub lists-more : (m : ℕ) → listsIn n s′ lip (lis + m) lsp ≡ record {
+    lip = listsIn n s lip lis lsp .lip;
+    lis = listsIn n s lip lis lsp .lis ++ sets (lisFrom n + lis) m s′;
+    lsp = listsIn n s lip lis lsp .lsp;
+  }
+  unfolding listsIn
+  lists-more m = rw (waiting-same, more, known-same)
     where
-      go : (j : ℕ) (b : Bool) {es : List Entry} → es ≡ [] → cond {A = Lists} b (record {
-        lip = stateOf z work counts j .lip;
-        lis = stateOf z work counts j .lis ++ es;
-        lsp = stateOf z work counts j .lsp;
-      }) (stateOf z work counts j) ≡ stateOf z work counts j
-      go j false e = refl
-      go j true e =
-          rw e (ap (λ x. record { lip = stateOf z work counts j .lip; lis = x; lsp = stateOf z work counts j .lsp }) (append-nil (stateOf z work counts j .lis)))
+      more : sets (lisFrom n) (lis + m) s′ ≡ sets (lisFrom n) lis s ++ sets (lisFrom n + lis) m s′
+      more = sets-add n s′ lis m ∙ ap (λ l. l ++ sets (lisFrom n + lis) m s′) sets-same
 
-  module _ (next : Level) (e : next .0 ≡ k .0 - 1) (h : 2 ≤ k .0) where
-    pub next-few : (1 ≤ next .0) × (next .0 ≤ levelPlaces)
-    next-few = (omega arith, omega (arith, H .level, legal z (H .legal) .few))
+-- sets that came to the next level's LIS, as the code counts them
+pub moved-first : (c : Counts) (k m : ℕ) → k < 2 → c ≡ withMoved c k m
+unfolding withMoved
+moved-first c k m h = rw (lt-leb 2 k h)
 
-    pub next-more : (1 ≤ next .0) × (next .0 ≤ levelPlaces) × (countAt (counts .lis) (next .0) + moved < 2 ^ 32)
-    next-more =
-        let Z : Legal z = legal z (H .legal) in
-        let b : next .0 ≤ levels z = omega (arith, H .level) in
-        let g : 4 * levelSize z (next .0) ≤ workFor z = omega (arith, from-fits z (H .legal) (next .0) (next-few .0) b _ refl .0) in
-        (next-few .0, next-few .1, omega (arith, sets-few (levelSize z (next .0)) _ (rw (← e) at (H .lis (omega arith))), g, area-bound z (H .legal)))
+pub moved-next : (c : Counts) (k m : ℕ) → 2 ≤ k
+    → _≡_ {A = Counts} (record { lip = c .lip; lsp = c .lsp; lis = set (c .lis) (k - 2) (getD (c .lis) (k - 2) 0 + m) }) (withMoved c k m)
+unfolding withMoved
+moved-next c k m h =
+    let i : k - 2 ≡ k - 1 - 1 = omega arith in
+    rw (le-leb 2 k h) (ap (λ (j : ℕ). record { lip = c .lip; lsp = c .lsp; lis = set (c .lis) j (getD (c .lis) j 0 + m) }) i)
 
-    pub handing-over : (there : ℕ) → there ≡ countAt (counts .lis) (next .0) → HandingOver z k next work moved there
-    handing-over there i =
-        record {
-          legal = H .legal;
-          room = H .room;
-          coarser = omega arith;
-          level = H .level;
-          finer = omega arith;
-          gone = H .gone;
-          lis = rw (i, e) (H .lis (omega arith));
-        }
+pub moved-under : (lis : List ℕ) (k m : ℕ) → 2 ≤ k → countAt lis (k - 1) + m < 2 ^ 32 → getD lis (k - 2) 0 + m < 2 ^ 32
+moved-under lis k m h l = let i : k - 2 ≡ k - 1 - 1 = omega arith in omega (arith, ap (λ (j : ℕ). getD lis j 0) i)
 
-    handed-with : length (counts .lis) ≡ levelPlaces → k .0 ≤ levelPlaces
-        → {work′ : List ℕ} → HandedOver z k next moved (countAt (counts .lis) (next .0)) work work′
-        → Handed z k work counts moved (withSets counts (next .0) moved) work′
-    unfolding listsAt
-    handed-with six most {work′} O = record { lists = λ j. go j (ℕ-discrete j (next .0)); same = O .same }
-      where
-        r : Counts
-        r = withSets counts (next .0) moved
+-- the counts after a part
+module _ (counts : Counts) (six : Places counts) (k : ℕ) (a : 1 ≤ k) (b : k ≤ levelPlaces) (f : Fill) where
+  abbrev left : Counts
+  left = withMoved (withLists counts k f) k (f .moved)
 
-        listed : List ℕ → ℕ → Lists
-        listed w lis =
-            listsIn (levelSize z (next .0)) (stretchOf z (next .0) w) (countAt (counts .lip) (next .0)) lis (countAt (counts .lsp) (next .0))
+  other-set : (cs : List ℕ) (x j : ℕ) → 1 ≤ j → j ≢ k → countAt (set cs (k - 1) x) j ≡ countAt cs j
+  other-set cs x j c e = getD-set-other cs (k - 1) (j - 1) x 0 (λ i. e (omega arith))
 
-        here : stateOf z work′ r (next .0) ≡ record {
-          lip = stateOf z work counts (next .0) .lip;
-          lis = stateOf z work counts (next .0) .lis ++ movedOut z (k .0) work moved;
-          lsp = stateOf z work counts (next .0) .lsp;
-        }
-        here =
-            let a : 1 ≤ next .0 = omega arith in
-            let b : next .0 ≤ levels z = omega (arith, H .level) in
-            let c : countAt (r .lis) (next .0) ≡ countAt (counts .lis) (next .0) + moved
-            = getD-set-same (counts .lis) (next .0 - 1) (countAt (counts .lis) (next .0) + moved) 0 (omega arith) in
-            state-in z work′ r (next .0) a b ∙ ap (λ (x : ℕ). listed work′ x) c
-            ∙ O .longer (countAt (counts .lip) (next .0)) (countAt (counts .lsp) (next .0)) (rw e (H .lip (omega arith))) (rw e (H .lsp (omega arith)))
-            ∙ ap (λ l. record { lip = l .lip; lis = l .lis ++ movedOut z (k .0) work moved; lsp = l .lsp }) (sym (state-in z work counts (next .0) a b))
+  pub counts-lip : (j : ℕ) → countAt (left .lip) j ≡ countAt (set (counts .lip) (k - 1) (f .lip)) j
+  unfolding withMoved
+  counts-lip j = by (leb 2 k)
+    where
+      by : (x : Bool) → countAt (cond {A = Counts} x (withSets (withLists counts k f) (k - 1) (f .moved)) (withLists counts k f) .lip) j
+          ≡ countAt (set (counts .lip) (k - 1) (f .lip)) j
+      by true = refl
+      by false = refl
 
-        go : (j : ℕ) → Dec (j ≡ next .0) → stateOf z work′ r j ≡ handedOn (k .0) (movedOut z (k .0) work moved) (stateOf z work counts) j
-        go j (yes d) = subst (λ (i : ℕ). stateOf z work′ r i ≡ handedOn (k .0) (movedOut z (k .0) work moved) (stateOf z work counts) i) (sym d) (here ∙ sym (handedOn-next _ _ _ _ (omega arith)))
-        go j (no d) =
-            state-same z work work′ counts r j
-            (λ a b. (O .others j a b d, refl, getD-set-other (counts .lis) (next .0 - 1) (j - 1) (countAt (counts .lis) (next .0) + moved) 0 (λ i. d (omega arith)), refl))
-            ∙ sym (handedOn-other _ _ _ _ (λ i. d (omega arith)))
+  pub counts-lsp : (j : ℕ) → countAt (left .lsp) j ≡ countAt (set (counts .lsp) (k - 1) (f .lsp)) j
+  unfolding withMoved
+  counts-lsp j = by (leb 2 k)
+    where
+      by : (x : Bool) → countAt (cond {A = Counts} x (withSets (withLists counts k f) (k - 1) (f .moved)) (withLists counts k f) .lsp) j
+          ≡ countAt (set (counts .lsp) (k - 1) (f .lsp)) j
+      by true = refl
+      by false = refl
 
-    pub handed-over : length (counts .lis) ≡ levelPlaces → k .0 ≤ levelPlaces
-        → {work′ : List ℕ} {there : ℕ} {r : Counts} → there ≡ countAt (counts .lis) (next .0)
-        → HandedOver z k next moved there work work′ → r ≡ withSets counts (next .0) moved → Handed z k work counts moved r work′
-    handed-over six most {work′} i O j =
-        subst (λ r. Handed z k work counts moved r work′) (sym j) (handed-with six most (subst (λ x. HandedOver z k next moved x work work′) i O))
+  -- of LIS: of the level, of the next, and of another
+  pub counts-lis : (j : ℕ) → 1 ≤ j → suc j ≢ k → countAt (left .lis) j ≡ countAt (set (counts .lis) (k - 1) (f .kept)) j
+  unfolding withMoved
+  counts-lis j c d = by (decLe 2 k)
+    where
+      by : Dec (2 ≤ k) → countAt (cond {A = Counts} (leb 2 k) (withSets (withLists counts k f) (k - 1) (f .moved)) (withLists counts k f) .lis) j
+          ≡ countAt (set (counts .lis) (k - 1) (f .kept)) j
+      by (yes h) = rw (le-leb 2 k h) (getD-set-other (set (counts .lis) (k - 1) (f .kept)) (k - 1 - 1) (j - 1) _ 0 (λ i. d (omega arith)))
+      by (no h) = rw (lt-leb 2 k (omega arith))
+
+  pub counts-own : (countAt (left .lip) k ≡ f .lip) × (countAt (left .lis) k ≡ f .kept) × (countAt (left .lsp) k ≡ f .lsp)
+  counts-own = (
+    counts-lip k ∙ getD-set-same (counts .lip) (k - 1) (f .lip) 0 (omega (arith, six .lip)),
+    counts-lis k a (λ e. omega arith) ∙ getD-set-same (counts .lis) (k - 1) (f .kept) 0 (omega (arith, six .lis)),
+    counts-lsp k ∙ getD-set-same (counts .lsp) (k - 1) (f .lsp) 0 (omega (arith, six .lsp)),
+  )
+
+  pub counts-other : (j : ℕ) → 1 ≤ j → j ≢ k
+      → (countAt (left .lip) j ≡ countAt (counts .lip) j) × (suc j ≢ k → countAt (left .lis) j ≡ countAt (counts .lis) j)
+      × (countAt (left .lsp) j ≡ countAt (counts .lsp) j)
+  counts-other j c d = (
+    counts-lip j ∙ other-set (counts .lip) (f .lip) j c d,
+    (λ e. counts-lis j c e ∙ other-set (counts .lis) (f .kept) j c d),
+    counts-lsp j ∙ other-set (counts .lsp) (f .lsp) j c d,
+  )
+
+  pub counts-next : 2 ≤ k → countAt (left .lis) (k - 1) ≡ countAt (counts .lis) (k - 1) + f .moved
+  unfolding withMoved
+  counts-next h =
+      let own : List ℕ = set (counts .lis) (k - 1) (f .kept) in
+      rw (le-leb 2 k h)
+      (getD-set-same own (k - 1 - 1) (countAt own (k - 1) + f .moved) 0 (omega (arith, six .lis, length-set (counts .lis) (k - 1) (f .kept)))
+      ∙ ap (λ (x : ℕ). x + f .moved) (other-set (counts .lis) (f .kept) (k - 1) (omega arith) (λ e. omega arith)))

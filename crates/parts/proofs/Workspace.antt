@@ -1,256 +1,170 @@
--- The stretches in the workspace: where each lies, and what is left of the others when one of them is lent.
-use mathlib.Core.Path.{_≡_, refl, sym, ap, ap₂, _∙_, subst}
+-- What is lent to the pass of a level, its own stretch and the next level's: where it lies, and what the pass leaves of the workspace.
+use mathlib.Core.Path.{_≡_, sym, ap, ap₂, _∙_, subst}
 use mathlib.Core.List.{List, _++_}
-use mathlib.Core.Bool.{true}
-use mathlib.Core.Logic.{_≢_}
-use Prim.Native.Nat.{ℕ, zero, suc, _+_, _-_, _*_, _≤_, _<_, _^_}
+use mathlib.Core.Bool.{true, false}
+use Prim.Native.Nat.{ℕ, _+_, _-_, _*_, _≤_, _<_}
 use native.Mathlib.Omega.{arith}
-use native.Mathlib.Decide.{decLe}
-use lib.ListN.{length, take, drop}
-use lib.Seq.{drop-drop, take-at, drop-at, length-take-le}
-use lib.IntN.{ℤ}
+use native.Mathlib.Decide.{decLe, decLt}
+use lib.ListN.{length, getD, take, drop}
+use lib.Seq.{take-at, drop-at, length-take-le, getD-take, getD-drop}
+use borrow.Author.Tests.{le-leb, lt-leb}
 use borrow.Rule.Slice.PartMut.{midOf, postOf, putMid, same-len-mid, mid-len, take-put, drop-put}
 use Rattle.rules.specs.declared.Size.{Size}
-use Rattle.rules.specs.declared.Level.{Level}
-use Rattle.rules.specs.Document.Pyramid.{legalSize, area, levels}
-use Rattle.rules.specs.Document.Passes.{Side}
+use Rattle.rules.specs.Document.Pyramid.{legalSize, levels}
 use Rattle.rules.specs.Document.Calls.{workFor}
-use Rattle.rules.specs.Laws.Family.Sizes.{legal, area-bound, span, levelStart, levelEnd, levelSize, levelSize-end, levelSize-fine, levelSize-top}
-use Rattle.rules.specs.Laws.Family.Sizes.{levelEnd-next, levelEnd-start, levelStart-fine, span-some, span-most, span-quarter}
+use Rattle.rules.specs.Laws.Family.Sizes.{legal, levelStart, levelSize}
 use Rattle.rules.specs.Promises.Vocabulary.{Legal}
-use Rattle.lists.specs.Seg.{seg, seg-seg, seg-inside}
-use Rattle.lists.specs.Stretch.{HandedOn, listsIn, movedFrom, sets}
+use Rattle.stretches.specs.Seg.{seg, seg-at, seg-seg, seg-length}
+use Rattle.stretches.specs.Cut.{maximaFrom, stretchOf}
 use Rattle.testing.specs.declared.Run.{Run}
 use Rattle.testing.specs.declared.Stand.{Stand}
-use Rattle.testing.specs.Exchange.{Chan}
-use Rattle.passes.specs.Steps.{Proper, Fresh, Ran}
-use Rattle.parts.specs.Standing.{stretchOf}
-use Rattle.parts.specs.Workspace.{Lending, Lent, movedOut, HandingOver, HandedOver}
+use Rattle.testing.specs.Exchange.{reads}
+use Rattle.passes.specs.Steps.{Fresh, Ran}
+use Rattle.parts.specs.Workspace.{lentTo, lentOf, Lending, Lent}
+use Rattle.parts.proofs.Levels.{size-place, next-start}
 
-module _ (z : Size) (Z : Legal z) where
-  pub size-some : (k : ℕ) → 1 ≤ k → k ≤ levels z → 1 ≤ levelSize z k
-  size-some k a b = go (decLe k (z .n))
+-- where it ends
+module _ (z : Size) (k : ℕ) where
+  pub lent-first : k < 2 → lentTo z k ≡ 4 * levelStart z k + 4 * levelSize z k
+  unfolding lentTo
+  lent-first h = rw (lt-leb 2 k h)
+
+  pub lent-next : 2 ≤ k → lentTo z k ≡ 4 * levelStart z (k - 1) + 4 * levelSize z (k - 1)
+  unfolding lentTo
+  lent-next h = rw (le-leb 2 k h)
+
+module _ (z : Size) (Z : Legal z) (k : ℕ) (a : 1 ≤ k) (b : k ≤ levels z) where
+  pub lent-fits : (4 * levelStart z k + 4 * levelSize z k ≤ lentTo z k) × (lentTo z k ≤ workFor z)
+  lent-fits = by (decLe 2 k)
     where
-      go : Dec (k ≤ z .n) → 1 ≤ levelSize z k
-      go (yes l) = omega (arith, levelSize-fine z Z k a l, span-some z Z k b)
-      go (no l) = let e : k ≡ levels z = omega arith in rw e (omega (arith, levelSize-top z Z, span-some z Z (z .n) (omega arith)))
+      by : Dec (2 ≤ k) → (4 * levelStart z k + 4 * levelSize z k ≤ lentTo z k) × (lentTo z k ≤ workFor z)
+      by (yes h) = (
+        omega (arith, lent-next z k h, next-start z Z k h b),
+        omega (arith, lent-next z k h, size-place z Z (k - 1) (omega arith) (omega arith)),
+      )
+      by (no h) = (omega (arith, lent-first z k (omega arith)), omega (arith, lent-first z k (omega arith), size-place z Z k a b))
 
-  pub level-ends : (k : ℕ) → 1 ≤ k → k ≤ levels z → levelEnd z k ≤ area z
-  level-ends zero a b = absurd (omega arith)
-  level-ends (suc k) a b = omega (arith, levelEnd-next z k, span-most z Z k (omega arith))
+  -- the level's own stretch in it, number by number and run by run
+  pub lent-inside : (work : List ℕ) (c m : ℕ) → c + m ≤ 4 * levelSize z k → seg c m (lentOf z k work) ≡ seg c m (stretchOf z k work)
+  unfolding stretchOf
+  lent-inside work c m h =
+      seg-seg (4 * levelStart z k) (lentTo z k - 4 * levelStart z k) c m work (omega (arith, lent-fits .0))
+      ∙ sym (seg-seg (4 * levelStart z k) (4 * levelSize z k) c m work h)
 
-  pub size-place : (k : ℕ) → 1 ≤ k → k ≤ levels z → 4 * levelStart z k + 4 * levelSize z k ≤ workFor z
-  size-place k a b = omega (arith, levelSize-end z Z k a b, level-ends k a b)
+  pub lent-length : (work : List ℕ) → workFor z ≤ length work → length (lentOf z k work) ≡ lentTo z k - 4 * levelStart z k
+  lent-length work h = seg-length (4 * levelStart z k) (lentTo z k - 4 * levelStart z k) work (omega (arith, lent-fits .0, lent-fits .1))
 
-  -- the next finer level begins where the level ends
-  pub level-next : (k : ℕ) → 1 ≤ k → k ≤ z .n → levelEnd z (suc k) ≡ levelStart z k
-  level-next k a b = levelEnd-start z k b
+  lent-at : (work : List ℕ) (p : ℕ) → 4 * levelStart z k ≤ p → p < lentTo z k → getD (lentOf z k work) (p - 4 * levelStart z k) 0 ≡ getD work p 0
+  lent-at work p h l =
+      seg-at (4 * levelStart z k) (lentTo z k - 4 * levelStart z k) work (p - 4 * levelStart z k) (omega arith)
+      ∙ ap (λ (i : ℕ). getD work i 0) (omega arith)
 
-  span-falls : (i j : ℕ) → i ≤ j → j ≤ levels z → span z j ≤ span z i
-  span-falls i zero h b = let e : i ≡ 0 = omega arith in rw e (omega arith)
-  span-falls i (suc j) h b = go (decLe i j) (λ l. span-falls i j l (omega arith))
-    where
-      go : Dec (i ≤ j) → (i ≤ j → span z j ≤ span z i) → span z (suc j) ≤ span z i
-      go (yes l) f = omega (arith, f l, span-quarter z Z j (omega arith))
-      go (no l) f = let e : i ≡ suc j = omega arith in rw e (omega arith)
+  pub lent-same : (work work′ : List ℕ) (p : ℕ) → 4 * levelStart z k ≤ p → p < lentTo z k
+      → getD (lentOf z k work′) (p - 4 * levelStart z k) 0 ≡ getD (lentOf z k work) (p - 4 * levelStart z k) 0 → getD work′ p 0 ≡ getD work p 0
+  lent-same work work′ p h l e = sym (lent-at work′ p h l) ∙ e ∙ lent-at work p h l
 
-  -- a coarser level ends before a finer one begins
-  pub level-before : (j k : ℕ) → 1 ≤ k → k < j → j ≤ levels z → levelEnd z j ≤ levelStart z k
-  level-before zero k a h b = absurd (omega arith)
-  level-before (suc j) k a h b = omega (arith, levelEnd-next z j, levelStart-fine z k (omega arith), span-falls k j (omega arith) (omega arith))
-
--- a stretch put back
-put-before : (a e b m : ℕ) (s ys : List ℕ) → b + m ≤ a → a ≤ length s → seg b m (putMid a (e - a) s ys) ≡ seg b m s
-unfolding seg
-put-before a e b m s ys h l = seg-inside 0 a b m s (putMid a (e - a) s ys) (omega arith) (omega arith) (take-put a (e - a) s ys l)
-
-put-behind : (a e b m : ℕ) (s ys : List ℕ) → e ≤ b → a ≤ e → e ≤ length s → length ys ≡ e - a → seg b m (putMid a (e - a) s ys) ≡ seg b m s
-unfolding seg
-put-behind a e b m s ys h l g n =
-    let i : e + (b - e) ≡ b = omega arith in
-    ap (λ (x : ℕ). take m (drop x (putMid a (e - a) s ys))) (sym i) ∙ ap (take m) (sym (drop-drop (b - e) e (putMid a (e - a) s ys)))
-    ∙ ap (λ x. take m (drop (b - e) x)) (drop-put a e s ys l g n)
-    ∙ ap (take m) (drop-drop (b - e) e s) ∙ ap (λ (x : ℕ). take m (drop x s)) i
-
+-- the middle of a slice, put back
 put-own : (a e : ℕ) (s ys : List ℕ) → a ≤ length s → length ys ≡ e - a → seg a (e - a) (putMid a (e - a) s ys) ≡ ys
 unfolding seg
 put-own a e s ys l n =
     ap (take (e - a)) (drop-at (take a s) (ys ++ postOf a (e - a) s) a (length-take-le a s l)) ∙ take-at ys (postOf a (e - a) s) (e - a) n
 
-put-inside : (a e b m : ℕ) (s ys : List ℕ) → a ≤ b → b + m ≤ e → a ≤ length s → length ys ≡ e - a → seg b m (putMid a (e - a) s ys) ≡ seg (b - a) m ys
-put-inside a e b m s ys h g l n =
-    let i : a + (b - a) ≡ b = omega arith in
-    ap (λ (x : ℕ). seg x m (putMid a (e - a) s ys)) (sym i) ∙ sym (seg-seg a (e - a) (b - a) m (putMid a (e - a) s ys) (omega arith))
-    ∙ ap (seg (b - a) m) (put-own a e s ys l n)
+put-before : (a m : ℕ) (s ys : List ℕ) (i : ℕ) → a ≤ length s → i < a → getD (putMid a m s ys) i 0 ≡ getD s i 0
+put-before a m s ys i l h =
+    sym (getD-take a (putMid a m s ys) i 0 h) ∙ ap (λ x. getD x i 0) (take-put a m s ys l) ∙ getD-take a s i 0 h
 
--- where a stretch lies
-module _ (z : Size) (legality : legalSize z ≡ true) (k : ℕ) (a : 1 ≤ k) (b : k ≤ levels z) where
-  Z : Legal z
-  Z = legal z legality
+pub put-behind : (a e : ℕ) (s ys : List ℕ) (i : ℕ) → a ≤ e → e ≤ length s → length ys ≡ e - a → e ≤ i → getD (putMid a (e - a) s ys) i 0 ≡ getD s i 0
+put-behind a e s ys i l g n h =
+    let j : i ≡ e + (i - e) = omega arith in
+    ap (λ (x : ℕ). getD (putMid a (e - a) s ys) x 0) j
+    ∙ sym (getD-drop e (putMid a (e - a) s ys) (i - e) 0) ∙ ap (λ x. getD x (i - e) 0) (drop-put a e s ys l g n) ∙ getD-drop e s (i - e) 0
+    ∙ ap (λ (x : ℕ). getD s x 0) (sym j)
 
-  pub from-fits : (r : ℕ) → r ≡ 4 * levelStart z k → (r + 4 * levelSize z k ≤ workFor z) × (r < 2 ^ 32)
-  from-fits r e = (
-    omega (arith, levelSize-end z Z k a b, level-ends z Z k a b),
-    omega (arith, levelSize-end z Z k a b, level-ends z Z k a b, area-bound z legality),
-  )
+-- a pass in what is lent
+module _ (run : Run) {body work out : List ℕ} {w : Stand} (H : Lending run body work out w) {from to : ℕ}
+    (e : from ≡ 4 * levelStart (run .z) (run .level .0)) (i : to ≡ lentTo (run .z) (run .level .0)) where
+  abbrev z : Size
+  z = run .z
 
-  pub to-fits : (r : ℕ) → r ≡ 4 * levelEnd z k → (r ≡ 4 * levelStart z k + 4 * levelSize z k) × (r ≤ workFor z) × (r < 2 ^ 32)
-  to-fits r e = (
-    omega (arith, levelSize-end z Z k a b),
-    omega (arith, level-ends z Z k a b),
-    omega (arith, level-ends z Z k a b, area-bound z legality),
-  )
+  abbrev k : ℕ
+  k = run .level .0
 
-  -- the other levels' stretches, when that of k is lent
-  pub others-same : (work ys : List ℕ) (from to : ℕ) → from ≡ 4 * levelStart z k → to ≡ 4 * levelStart z k + 4 * levelSize z k → workFor z ≤ length work
-      → length ys ≡ to - from → (j : ℕ) → 1 ≤ j → j ≤ levels z → j ≢ k → stretchOf z j (putMid from (to - from) work ys) ≡ stretchOf z j work
-  unfolding stretchOf
-  others-same work ys from to e i h n j c d f = go (decLe j k)
-    where
-      end : levelStart z k + levelSize z k ≤ area z
-      end = omega (arith, levelSize-end z Z k a b, level-ends z Z k a b)
+  fits : (4 * levelStart z k + 4 * levelSize z k ≤ lentTo z k) × (lentTo z k ≤ workFor z)
+  fits = lent-fits z (legal z (H .fresh .proper .legal)) k (H .fresh .proper .coarser) (H .fresh .proper .level)
 
-      go : Dec (j ≤ k) → seg (4 * levelStart z j) (4 * levelSize z j) (putMid from (to - from) work ys) ≡ seg (4 * levelStart z j) (4 * levelSize z j) work
-      go (yes l) =
-          put-behind from to (4 * levelStart z j) (4 * levelSize z j) work ys
-          (omega (arith, level-before z Z k j c (omega arith) b, levelSize-end z Z k a b)) (omega arith) (omega (arith, end)) n
-      go (no l) =
-          put-before from to (4 * levelStart z j) (4 * levelSize z j) work ys
-          (omega (arith, level-before z Z j k a (omega arith) d, levelSize-end z Z j c d)) (omega (arith, end))
+  pub lent-order : (from ≤ to) × (to ≤ length work)
+  lent-order = (omega (arith, fits .0), omega (arith, fits .1, H .room))
 
-  pub own-lent : (work : List ℕ) (from to : ℕ) → from ≡ 4 * levelStart z k → to ≡ 4 * levelStart z k + 4 * levelSize z k
-      → midOf from (to - from) work ≡ stretchOf z k work
-  unfolding stretchOf seg
-  own-lent work from to e i = let n : to - from ≡ 4 * levelSize z k = omega arith in ap₂ (λ (x y : ℕ). take y (drop x work)) e n
+  lent-is : midOf from (to - from) work ≡ lentOf z k work
+  unfolding seg
+  lent-is = ap₂ (λ (x y : ℕ). take (y - x) (drop x work)) e i
 
-  pub own-back : (work ys : List ℕ) (from to : ℕ) → from ≡ 4 * levelStart z k → to ≡ 4 * levelStart z k + 4 * levelSize z k → workFor z ≤ length work
-      → length ys ≡ to - from → ys ≡ stretchOf z k (putMid from (to - from) work ys)
-  unfolding stretchOf
-  own-back work ys from to e i h n =
-      let c : to - from ≡ 4 * levelSize z k = omega arith in
-      sym (put-own from to work ys (omega (arith, levelSize-end z Z k a b, level-ends z Z k a b)) n)
-      ∙ ap₂ (λ (x y : ℕ). seg x y (putMid from (to - from) work ys)) e c
+  pub lent-fresh : Fresh run body (midOf from (to - from) work) out w
+  lent-fresh = subst (λ s. Fresh run body s out w) (sym lent-is) (H .fresh)
 
--- a pass in the lent stretch
-module _ (run : Run) {work : List ℕ} {d : List ℤ} {w : Stand} (H : Lending run work d w) (from to : ℕ)
-    (e : from ≡ 4 * levelStart (run .z) (run .level .0)) (i : to ≡ 4 * levelStart (run .z) (run .level .0) + 4 * levelSize (run .z) (run .level .0)) where
-  abbrev P : Proper run
-  P = H .fresh .proper
-
-  lent-is : midOf from (to - from) work ≡ stretchOf (run .z) (run .level .0) work
-  lent-is = own-lent (run .z) (P .legal) (run .level .0) (P .coarser) (P .level) work from to e i
-
-  pub lent-fresh : Fresh run (midOf from (to - from) work) d w
-  lent-fresh = subst (λ s. Fresh run s d w) (sym lent-is) (H .fresh)
-
-  pub lent-back : {C : Side Chan} {out s′ out′ : List ℕ} {d′ : List ℤ} {r : Stand} → Ran C run (midOf from (to - from) work) out d w s′ out′ d′ r
-      → length s′ ≡ length (midOf from (to - from) work) → Lent C run work out d w (putMid from (to - from) work s′) out′ d′ r
-  lent-back {C} {out} {s′} {out′} {d′} {r} R n =
-      let z = run .z in
-      let k = run .level .0 in
-      let l = to-fits z (P .legal) k (P .coarser) (P .level) (4 * levelEnd z k) refl in
-      let m : length s′ ≡ to - from = n ∙ mid-len from to work (omega (arith, l .0, l .1, H .room)) in
+  pub lent-back : {s′ out′ : List ℕ} {r : Stand} → Ran run body (midOf from (to - from) work) out w s′ out′ r
+      → Lent run body work out w (putMid from (to - from) work s′) out′ r
+  lent-back {s′} {out′} {r} R =
+      let n = R .around .long in
+      let m : length s′ ≡ to - from = n ∙ mid-len from to work (lent-order .1) in
+      let l : from ≤ length work = omega (arith, lent-order) in
+      let back : s′ ≡ lentOf z k (putMid from (to - from) work s′) =
+      sym (put-own from to work s′ l m) ∙ ap₂ (λ (x y : ℕ). seg x (y - x) (putMid from (to - from) work s′)) e i in
       record {
         ran =
-            subst (λ s. Ran C run (stretchOf z k work) out d w s out′ d′ r)
-            (own-back z (P .legal) k (P .coarser) (P .level) work s′ from to e i (H .room) m)
-            (subst (λ s. Ran C run s out d w s′ out′ d′ r) lent-is R);
-        others = others-same z (P .legal) k (P .coarser) (P .level) work s′ from to e i (H .room) m;
+            subst (λ s. Ran run body (lentOf z k work) out w s out′ r) back
+            (subst (λ s. Ran run body s out w s′ out′ r) lent-is R);
+        before = λ p h. put-before from (to - from) work s′ p l (omega arith);
+        behind = λ p h. put-behind from to work s′ p (lent-order .0) (lent-order .1) m (omega arith);
         same = same-len-mid from (to - from) work s′ n;
       }
 
--- the stretches of a level and of the next, lent together
-module _ (z : Size) (k next : Level) {work : List ℕ} {moved there : ℕ} (H : HandingOver z k next work moved there) where
-  Y : Legal z
-  Y = legal z (H .legal)
+-- What a pass leaves of the workspace: all but the lists of its level, the sets that moved out, and, by the decoder, the values of its level.
+pub record Untouched (run : Run) (moved : ℕ) (work work′ : List ℕ) : Type 0 where
+  pub long : length work′ ≡ length work
+  pub before : (p : ℕ) → p < 4 * levelStart (run .z) (run .level .0) → getD work′ p 0 ≡ getD work p 0
+  pub values : reads run ≡ false → (p : ℕ) → 4 * levelStart (run .z) (run .level .0) ≤ p
+      → p < 4 * levelStart (run .z) (run .level .0) + run .stretch .n → getD work′ p 0 ≡ getD work p 0
+  pub others : (p : ℕ) → 4 * levelStart (run .z) (run .level .0) + maximaFrom (run .stretch .n) ≤ p
+      → p < 4 * levelStart (run .z) (run .level .0) + run .stretch .away → getD work′ p 0 ≡ getD work p 0
+  pub rest : (p : ℕ) → 4 * levelStart (run .z) (run .level .0) + run .stretch .away + moved ≤ p → getD work′ p 0 ≡ getD work p 0
+  pub ends : 4 * levelStart (run .z) (run .level .0) + run .stretch .away + moved ≤ lentTo (run .z) (run .level .0)
 
-  abbrev n : ℕ
-  n = levelSize z (k .0)
+pub untouched : (run : Run) {body work out : List ℕ} {w : Stand} {work′ out′ : List ℕ} {r : Stand} → legalSize (run .z) ≡ true
+    → 1 ≤ run .level .0 → run .level .0 ≤ levels (run .z) → run .stretch .n ≡ levelSize (run .z) (run .level .0) → workFor (run .z) ≤ length work
+    → Lent run body work out w work′ out′ r → Untouched run (r .fill .moved) work work′
+unfolding maximaFrom
+untouched run {body} {work} {out} {w} {work′} {out′} {r} h a b n room T =
+    record {
+      long = T .same;
+      before = T .before;
+      values = λ c p l g. same p (omega arith) (omega (arith, f .0)) (T .ran .around .values c (p - A) (omega arith));
+      others = λ p l g. same p (omega arith) (omega (arith, away)) (T .ran .around .others (p - A) (omega arith) (omega arith));
+      rest = λ p l. past p l (decLt p (lentTo z k));
+      ends = away;
+    }
+  where
+    z : Size
+    z = run .z
 
-  abbrev m : ℕ
-  m = levelSize z (next .0)
+    k : ℕ
+    k = run .level .0
 
-  next-begins : levelStart z (next .0) ≡ levelStart z (k .0) + n
-  next-begins =
-      let i : suc (next .0) ≡ k .0 = omega (arith, H .finer) in
-      sym (ap (levelEnd z) (sym i) ∙ level-next z Y (next .0) (H .coarser) (omega (arith, H .level, H .finer)))
-      ∙ sym (levelSize-end z Y (k .0) (omega (arith, H .finer)) (H .level))
+    A : ℕ
+    A = 4 * levelStart z k
 
-  next-ends : 4 * levelStart z (next .0) + 4 * m ≤ workFor z
-  next-ends =
-      let c : next .0 ≤ levels z = omega (arith, H .finer, H .level) in
-      omega (arith, levelSize-end z Y (next .0) (H .coarser) c, level-ends z Y (next .0) (H .coarser) c)
+    Z : Legal z
+    Z = legal z h
 
-  module _ (from to : ℕ) (e : from ≡ 4 * levelStart z (k .0)) (i : to ≡ 4 * levelStart z (next .0) + 4 * m) where
-    pub both-lent : to - from ≡ 4 * n + 4 * m
-    both-lent = omega (arith, next-begins)
+    f : (4 * levelStart z k + 4 * levelSize z k ≤ lentTo z k) × (lentTo z k ≤ workFor z)
+    f = lent-fits z Z k a b
 
-    pub both-room : (from ≤ to) × (4 * n + 4 * m ≤ length (midOf from (to - from) work)) × (n < 2 ^ 32) × (m < 2 ^ 32)
-    both-room =
-        let r = H .room in
-        let a = area-bound z (H .legal) in (
-          omega (arith, next-begins),
-          omega (arith, mid-len from to work (omega (arith, next-ends, r)), both-lent),
-          omega (arith, next-begins, next-ends, a),
-          omega (arith, next-ends, a),
-        )
+    away : A + run .stretch .away + r .fill .moved ≤ lentTo z k
+    away = omega (arith, T .ran .fits .moved, lent-length z Z k a b work′ (omega (arith, T .same)), f .0)
 
-    -- the two stretches, inside what is lent and inside the workspace that it is put back to
-    lent-own : seg 0 (4 * n) (midOf from (to - from) work) ≡ stretchOf z (k .0) work
-    unfolding stretchOf seg
-    lent-own =
-        let c : from + 0 ≡ 4 * levelStart z (k .0) = omega arith in
-        seg-seg from (to - from) 0 (4 * n) work (omega (arith, both-lent)) ∙ ap (λ (x : ℕ). seg x (4 * n) work) c
+    same : (p : ℕ) → A ≤ p → p < lentTo z k → getD (lentOf z k work′) (p - A) 0 ≡ getD (lentOf z k work) (p - A) 0 → getD work′ p 0 ≡ getD work p 0
+    same = lent-same z Z k a b work work′
 
-    lent-next : seg (4 * n) (4 * m) (midOf from (to - from) work) ≡ stretchOf z (next .0) work
-    unfolding stretchOf seg
-    lent-next =
-        let c : from + 4 * n ≡ 4 * levelStart z (next .0) = omega (arith, next-begins) in
-        seg-seg from (to - from) (4 * n) (4 * m) work (omega (arith, both-lent)) ∙ ap (λ (x : ℕ). seg x (4 * m) work) c
-
-    module _ (ys : List ℕ) (l : length ys ≡ to - from) where
-      back-own : stretchOf z (k .0) (putMid from (to - from) work ys) ≡ seg 0 (4 * n) ys
-      unfolding stretchOf
-      back-own =
-          put-inside from to (4 * levelStart z (k .0)) (4 * n) work ys (omega arith) (omega (arith, both-lent, both-room .0)) (omega (arith, both-room .0, next-ends, H .room)) l
-          ∙ ap (λ (x : ℕ). seg x (4 * n) ys) (omega arith)
-
-      back-next : stretchOf z (next .0) (putMid from (to - from) work ys) ≡ seg (4 * n) (4 * m) ys
-      unfolding stretchOf
-      back-next =
-          put-inside from to (4 * levelStart z (next .0)) (4 * m) work ys (omega (arith, next-begins)) (omega arith) (omega (arith, both-room .0, next-ends, H .room)) l
-          ∙ ap (λ (x : ℕ). seg x (4 * m) ys) (omega (arith, next-begins))
-
-      back-others : seg 0 (4 * n) ys ≡ seg 0 (4 * n) (midOf from (to - from) work) → (j : ℕ) → 1 ≤ j → j ≤ levels z → j ≢ next .0
-          → stretchOf z j (putMid from (to - from) work ys) ≡ stretchOf z j work
-      unfolding stretchOf
-      back-others o j c d f = go (decLe j (next .0)) (decLe j (k .0))
-        where
-          go : Dec (j ≤ next .0) → Dec (j ≤ k .0) → stretchOf z j (putMid from (to - from) work ys) ≡ stretchOf z j work
-          go (yes u) v =
-              put-behind from to (4 * levelStart z j) (4 * levelSize z j) work ys
-              (omega (arith, level-before z Y (next .0) j c (omega arith) (omega (arith, H .finer, H .level)), levelSize-end z Y (next .0) (H .coarser) (omega (arith, H .finer, H .level))))
-              (both-room .0) (omega (arith, next-ends, H .room)) l
-          go (no u) (yes v) =
-              let g : j ≡ k .0 = omega (arith, H .finer) in
-              subst (λ (x : ℕ). stretchOf z x (putMid from (to - from) work ys) ≡ stretchOf z x work) (sym g) (back-own ∙ o ∙ lent-own)
-          go (no u) (no v) =
-              put-before from to (4 * levelStart z j) (4 * levelSize z j) work ys
-              (omega (arith, level-before z Y j (k .0) (omega (arith, H .finer)) (omega arith) d, levelSize-end z Y j c d)) (omega (arith, both-room .0, next-ends, H .room))
-
-    pub handed-back : {ys : List ℕ} → HandedOn n moved m there (midOf from (to - from) work) ys → length ys ≡ length (midOf from (to - from) work)
-        → HandedOver z k next moved there work (putMid from (to - from) work ys)
-    unfolding movedOut
-    handed-back {ys} h l =
-        let g : length ys ≡ to - from = l ∙ mid-len from to work (omega (arith, next-ends, H .room)) in
-        record {
-          longer = λ lip lsp a b.
-              ap (λ s. listsIn m s lip (there + moved) lsp) (back-next ys g) ∙ h .next lip lsp a b
-              ∙ ap₂ (λ s t. record {
-                lip = listsIn m s lip there lsp .lip;
-                lis = listsIn m s lip there lsp .lis ++ sets (movedFrom n) moved t;
-                lsp = listsIn m s lip there lsp .lsp;
-              }) lent-next lent-own;
-          others = back-others ys g (h .own);
-          same = same-len-mid from (to - from) work ys l;
-        }
+    past : (p : ℕ) → A + run .stretch .away + r .fill .moved ≤ p → Dec (p < lentTo z k) → getD work′ p 0 ≡ getD work p 0
+    past p l (yes i) = same p (omega arith) i (T .ran .around .rest (p - A) (omega arith))
+    past p l (no i) = T .behind p (omega arith)

@@ -12,21 +12,20 @@ use Rattle.rules.specs.declared.Level.{Level}
 use Rattle.bits.specs.declared.BitPosition.{BitPosition}
 use Rattle.parts.specs.declared.Counts.{Counts}
 use Rattle.parts.specs.declared.Passed.{Passed}
-use Rattle.rules.specs.Document.Pyramid.{legalSize, levels, mostPlanes, family, magnitude, negative}
-use Rattle.rules.specs.Document.Passes.{Lists, State, Course, Reader, PartName, start, after, coded, decoded}
+use Rattle.rules.specs.Document.Pyramid.{legalSize, area, levels, mostPlanes, magnitude, negative}
+use Rattle.rules.specs.Document.Passes.{Lists, State, Course, Reader, PartName, after, coded, decoded}
 use Rattle.rules.specs.Document.Layout.{bitAt}
 use Rattle.rules.specs.Document.Numbers.{mostBits}
 use Rattle.rules.specs.Document.Calls.{levelPlaces, workFor}
-use Rattle.rules.specs.Laws.Family.Sizes.{levelStart, levelSize}
-use Rattle.rules.specs.Laws.State.Record.{SoundLists}
+use Rattle.rules.specs.Laws.Family.Sizes.{levelSize}
+use Rattle.trees.specs.Family.{coefficientOf, trees}
+use Rattle.trees.specs.Run.{treeStart}
+use Rattle.trees.specs.Sound.{TreeSound}
+use Rattle.stretches.specs.Cut.{stretchOf}
+use Rattle.stretches.specs.Workspace.{wordIn, drawnIn, maximumIn, Words, Holds}
 use Rattle.lists.specs.declared.Fill.{Fill}
-use Rattle.lists.specs.Seg.{seg}
-use Rattle.lists.specs.Stretch.{listsIn}
+use Rattle.lists.specs.Lists.{listsIn}
 use Rattle.bits.specs.Bits.{writeBits}
-
--- The stretch of level k: four numbers for each of its coefficients, the levels one after another, coarsest first.
-unfoldable pub stretchOf : Size → ℕ → List ℕ → List ℕ
-stretchOf z k work = seg (4 * levelStart z k) (4 * levelSize z k) work
 
 -- how many entries each list of level k has
 abbrev pub countAt : List ℕ → ℕ → ℕ
@@ -70,8 +69,10 @@ abbrev pub named : Plane → Level → PartName
 named n k = record { plane = n .0; level = k .0 }
 
 pub record Started (z : Size) (work : List ℕ) (r : Counts) (work′ : List ℕ) : Type 0 where
-  pub lists : Agree (stateOf z work′ r) (start z)
+  pub lists : Agree (stateOf z work′ r) (treeStart z)
   pub same : length work′ ≡ length work
+  pub words : (x : ℕ) → x < area z → wordIn z work′ x ≡ wordIn z work x
+  pub maxima : (k i : ℕ) → 1 ≤ k → k ≤ z .n → maximumIn z work′ k i ≡ maximumIn z work k i
 
 -- what every part asks for
 pub record Ready (z : Size) (n : Plane) (k : Level) (work : List ℕ) (counts : Counts) : Type 0 where
@@ -80,39 +81,41 @@ pub record Ready (z : Size) (n : Plane) (k : Level) (work : List ℕ) (counts : 
   pub plane : n .0 < mostPlanes
   pub coarser : 1 ≤ k .0
   pub level : k .0 ≤ levels z
-  pub sound : SoundLists z (stateOf z work counts)
+  pub sound : TreeSound z (stateOf z work counts)
 
 pub record ReadyToCode (z : Size) (n : Plane) (k : Level) (work : List ℕ) (counts : Counts) (at : BitPosition) : Type 0 where
   pub ready : Ready z n k work counts
   pub place : at .at + mostBits z < 2 ^ 61
 
--- the coder's course over this part
+-- the coder's course over this part, for a pyramid v that the workspace holds
 abbrev pub courseC : List ℤ → Size → Plane → Level → List ℕ → Counts → Course (List Bool)
-courseC pyramid z n k work counts = coded (family z) (magnitude pyramid) (negative pyramid) (named n k) (stateOf z work counts)
+courseC v z n k work counts =
+    coded (trees z) (λ x. magnitude v (coefficientOf z x)) (λ x. negative v (coefficientOf z x)) (named n k) (stateOf z work counts)
 
-pub record PartCoded (pyramid : List ℤ) (z : Size) (n : Plane) (k : Level) (work : List ℕ) (counts : Counts) (out : List ℕ) (at : BitPosition)
+pub record CodedFrom (v : List ℤ) (z : Size) (n : Plane) (k : Level) (work : List ℕ) (counts : Counts) (out : List ℕ) (at : BitPosition)
     (r : Passed) (work′ out′ : List ℕ) : Type 0 where
-  pub lists : Agree (stateOf z work′ (r .counts)) (after (k .0) (courseC pyramid z n k work counts) (stateOf z work counts))
+  pub lists : Agree (stateOf z work′ (r .counts)) (after (k .0) (courseC v z n k work counts) (stateOf z work counts))
+  pub holds : Holds z v work′
+  pub bits : out′ ≡ writeBits out (at .at) (courseC v z n k work counts .side)
+  pub place : r .at .at ≡ at .at + length (courseC v z n k work counts .side)
+
+pub record PartCoded (z : Size) (n : Plane) (k : Level) (work : List ℕ) (counts : Counts) (out : List ℕ) (at : BitPosition)
+    (r : Passed) (work′ out′ : List ℕ) : Type 0 where
   pub same : length work′ ≡ length work
-  pub bits : out′ ≡ writeBits out (at .at) (courseC pyramid z n k work counts .side)
-  pub place : r .at .at ≡ at .at + length (courseC pyramid z n k work counts .side)
+  pub coded : (v : List ℤ) → Holds z v work → CodedFrom v z n k work counts out at r work′ out′
 
--- every magnitude is under b
-pub record Small (b : ℕ) (pyramid : List ℤ) : Type 0 where
-  pub under : (q : ℕ) → magnitude pyramid q < b
-
-pub record ReadyToDecode (z : Size) (n : Plane) (k : Level) (work : List ℕ) (counts : Counts) (pyramid : List ℤ) : Type 0 where
+pub record ReadyToDecode (z : Size) (n : Plane) (k : Level) (work : List ℕ) (counts : Counts) : Type 0 where
   pub ready : Ready z n k work counts
-  pub small : Small (2 ^ 29) pyramid
+  pub words : Words z (2 ^ 29) work
 
 -- the decoder's course over this part
-abbrev pub courseD : List ℕ → Size → Plane → Level → List ℕ → Counts → List ℤ → Course Reader
-courseD body z n k work counts pyramid = decoded (family z) (named n k) (bitAt body) (stateOf z work counts) pyramid
+abbrev pub courseD : List ℕ → Size → Plane → Level → List ℕ → Counts → Course Reader
+courseD body z n k work counts = decoded (trees z) (named n k) (bitAt body) (stateOf z work counts) (drawnIn z work)
 
-pub record PartDecoded (body : List ℕ) (z : Size) (n : Plane) (k : Level) (work : List ℕ) (counts : Counts) (pyramid : List ℤ)
-    (r : Passed) (work′ : List ℕ) (pyramid′ : List ℤ) : Type 0 where
-  pub lists : Agree (stateOf z work′ (r .counts)) (after (k .0) (courseD body z n k work counts pyramid) (stateOf z work counts))
+pub record PartDecoded (body : List ℕ) (z : Size) (n : Plane) (k : Level) (work : List ℕ) (counts : Counts)
+    (r : Passed) (work′ : List ℕ) : Type 0 where
+  pub lists : Agree (stateOf z work′ (r .counts)) (after (k .0) (courseD body z n k work counts) (stateOf z work counts))
   pub same : length work′ ≡ length work
-  pub taken : r .at .at ≡ courseD body z n k work counts pyramid .side .taken
-  pub writes : pyramid′ ≡ courseD body z n k work counts pyramid .side .pyramid
-  pub grows : (b : ℕ) → Small b pyramid → Small (b + 2 ^ mostPlanes) pyramid′
+  pub taken : r .at .at ≡ courseD body z n k work counts .side .taken
+  pub draws : drawnIn z work′ ≡ courseD body z n k work counts .side .pyramid
+  pub grows : (b : ℕ) → Words z b work → Words z (b + 2 * 2 ^ mostPlanes) work′

@@ -1,108 +1,111 @@
--- One part in the workspace: the level's stretch is lent to the pass, and what moved out is handed on to the next level.
+-- One part in the workspace: the level's stretch, and the next level's behind it, are lent to the pass.
 use mathlib.Core.Path.{_≡_}
-use mathlib.Core.List.{List, _++_}
-use mathlib.Core.Bool.{Bool, true, cond}
-use mathlib.Core.Logic.{_≢_}
-use Prim.Native.Nat.{ℕ, suc, _+_, _-_, _*_, _≤_, _<_, _^_}
-use lib.Dec.{eqb}
-use lib.ListN.{length}
-use lib.IntN.{ℤ}
+use mathlib.Core.List.{List}
+use mathlib.Core.Bool.{true, false, cond}
+use Prim.Native.Nat.{ℕ, _+_, _-_, _*_, _/_, _≤_, _<_, _^_}
+use lib.Dec.{leb}
+use lib.ListN.{length, getD}
 use Rattle.rules.specs.declared.Size.{Size}
 use Rattle.rules.specs.declared.Plane.{Plane}
 use Rattle.rules.specs.declared.Level.{Level}
 use Rattle.bits.specs.declared.BitPosition.{BitPosition}
 use Rattle.rules.specs.Document.Pyramid.{legalSize, levels}
-use Rattle.rules.specs.Document.Passes.{Entry, Lists, State, Side, Course, passed, after}
-use Rattle.rules.specs.Document.Calls.{workFor}
-use Rattle.rules.specs.Laws.Family.Sizes.{levelSize}
-use Rattle.lists.specs.Stretch.{setRoom, movedFrom, sets, listsIn}
+use Rattle.rules.specs.Document.Passes.{Course, passed, after}
+use Rattle.rules.specs.Document.Calls.{levelPlaces, workFor}
+use Rattle.rules.specs.Laws.Family.Sizes.{span, levelStart, levelSize}
+use Rattle.stretches.specs.Seg.{seg}
+use Rattle.stretches.specs.Cut.{lisFrom, valuesIn, maximaIn, stretchOf}
+use Rattle.stretches.specs.Workspace.{Words}
+use Rattle.lists.specs.declared.Stretch.{Stretch}
+use Rattle.testing.specs.declared.Role.{Role}
 use Rattle.testing.specs.declared.Run.{Run}
 use Rattle.testing.specs.declared.Stand.{Stand}
 use Rattle.parts.specs.declared.Counts.{Counts}
 use Rattle.parts.specs.declared.Passed.{Passed}
-use Rattle.testing.specs.Exchange.{Chan, chan, familyOf}
+use Rattle.testing.specs.Exchange.{Chan, chan, familyOf, side, reads}
 use Rattle.passes.specs.Steps.{Fresh, Ran}
-use Rattle.parts.specs.Standing.{stretchOf, countAt, stateOf, Agree, Ready, Small}
+use Rattle.parts.specs.Standing.{countAt, withSets, stateOf, Agree, Ready}
 
--- the level's stretch, lent to its pass
-pub record Lending (run : Run) (work : List ℕ) (d : List ℤ) (w : Stand) : Type 0 where
-  pub room : workFor (run .z) ≤ length work
-  pub size : run .n ≡ levelSize (run .z) (run .level .0)
-  pub fresh : Fresh run (stretchOf (run .z) (run .level .0) work) d w
+-- where the stretches end that are lent to the pass of level k: its own, and the next level's if there is one
+unfoldable pub lentTo : Size → ℕ → ℕ
+lentTo z k = cond (leb 2 k) (4 * levelStart z (k - 1) + 4 * levelSize z (k - 1)) (4 * levelStart z k + 4 * levelSize z k)
 
-pub record Lent (C : Side Chan) (run : Run) (work out : List ℕ) (d : List ℤ) (w : Stand) (work′ out′ : List ℕ) (d′ : List ℤ) (r : Stand) : Type 0
-  where
-    pub ran : Ran C run (stretchOf (run .z) (run .level .0) work) out d w (stretchOf (run .z) (run .level .0) work′) out′ d′ r
-    pub others : (j : ℕ) → 1 ≤ j → j ≤ levels (run .z) → j ≢ run .level .0 → stretchOf (run .z) j work′ ≡ stretchOf (run .z) j work
-    pub same : length work′ ≡ length work
+abbrev pub lentOf : Size → ℕ → List ℕ → List ℕ
+lentOf z k work = seg (4 * levelStart z k) (lentTo z k - 4 * levelStart z k) work
 
--- what moved out of level k
-unfoldable pub movedOut : Size → ℕ → List ℕ → ℕ → List Entry
-movedOut z k work moved = sets (movedFrom (levelSize z k)) moved (stretchOf z k work)
+-- the stretch of level k, by how full the lists are: what moves out goes behind the sets of the next level's LIS
+unfoldable pub stretchFor : Size → ℕ → Counts → Stretch
+stretchFor z k counts =
+    record {
+      n = levelSize z k;
+      away = cond (leb 2 k) (4 * levelSize z k + lisFrom (levelSize z (k - 1)) + countAt (counts .lis) (k - 1)) (4 * levelSize z k);
+    }
 
-unfoldable pub handedOn : ℕ → List Entry → State → State
-handedOn k es s j = cond {A = Lists} (eqb (suc j) k) (record { lip = s j .lip; lis = s j .lis ++ es; lsp = s j .lsp }) (s j)
+-- the counts with sets that came to the LIS of the level after k
+unfoldable pub withMoved : Counts → ℕ → ℕ → Counts
+withMoved c k moved = cond {A = Counts} (leb 2 k) (withSets c (k - 1) moved) c
 
--- the moved sets of level k in the stretch of the next, which has so many in its LIS
-pub record HandingOver (z : Size) (k next : Level) (work : List ℕ) (moved there : ℕ) : Type 0 where
+-- sets to be counted to the LIS of the level after k
+pub record Counting (counts : Counts) (k : Level) (moved : ℕ) : Type 0 where
+  pub coarser : 1 ≤ k .0
+  pub level : k .0 ≤ levelPlaces
+  pub few : countAt (counts .lis) (k .0 - 1) + moved < 2 ^ 32
+
+pub record Cutting (z : Size) (k : Level) (counts : Counts) : Type 0 where
   pub legal : legalSize z ≡ true
-  pub room : workFor z ≤ length work
-  pub coarser : 1 ≤ next .0
-  pub level : k .0 ≤ levels z
-  pub finer : k .0 ≡ next .0 + 1
-  pub gone : moved ≤ setRoom (levelSize z (k .0))
-  pub lis : there + moved ≤ setRoom (levelSize z (next .0))
-
-pub record HandedOver (z : Size) (k next : Level) (moved there : ℕ) (work work′ : List ℕ) : Type 0 where
-  pub longer : (lip lsp : ℕ) → lip ≤ levelSize z (next .0) → lsp ≤ levelSize z (next .0)
-      → listsIn (levelSize z (next .0)) (stretchOf z (next .0) work′) lip (there + moved) lsp ≡ record {
-        lip = listsIn (levelSize z (next .0)) (stretchOf z (next .0) work) lip there lsp .lip;
-        lis = listsIn (levelSize z (next .0)) (stretchOf z (next .0) work) lip there lsp .lis ++ movedOut z (k .0) work moved;
-        lsp = listsIn (levelSize z (next .0)) (stretchOf z (next .0) work) lip there lsp .lsp;
-      }
-  pub others : (j : ℕ) → 1 ≤ j → j ≤ levels z → j ≢ next .0 → stretchOf z j work′ ≡ stretchOf z j work
-  pub same : length work′ ≡ length work
-
-pub record Handing (z : Size) (k : Level) (work : List ℕ) (counts : Counts) (moved : ℕ) : Type 0 where
-  pub legal : legalSize z ≡ true
-  pub room : workFor z ≤ length work
   pub coarser : 1 ≤ k .0
   pub level : k .0 ≤ levels z
-  pub finest : k .0 ≡ 1 → moved ≡ 0
-  pub gone : moved ≤ setRoom (levelSize z (k .0))
-  pub lip : 1 < k .0 → countAt (counts .lip) (k .0 - 1) ≤ levelSize z (k .0 - 1)
-  pub lsp : 1 < k .0 → countAt (counts .lsp) (k .0 - 1) ≤ levelSize z (k .0 - 1)
-  pub lis : 1 < k .0 → countAt (counts .lis) (k .0 - 1) + moved ≤ setRoom (levelSize z (k .0 - 1))
+  pub few : countAt (counts .lis) (k .0 - 1) < 2 ^ 32
 
-pub record Handed (z : Size) (k : Level) (work : List ℕ) (counts : Counts) (moved : ℕ) (r : Counts) (work′ : List ℕ) : Type 0 where
-  pub lists : (j : ℕ) → stateOf z work′ r j ≡ handedOn (k .0) (movedOut z (k .0) work moved) (stateOf z work counts) j
+-- the level's stretch and the next, lent to the pass
+pub record Lending (run : Run) (body work out : List ℕ) (w : Stand) : Type 0 where
+  pub room : workFor (run .z) ≤ length work
+  pub size : run .stretch .n ≡ levelSize (run .z) (run .level .0)
+  pub fresh : Fresh run body (lentOf (run .z) (run .level .0) work) out w
+
+pub record Lent (run : Run) (body work out : List ℕ) (w : Stand) (work′ out′ : List ℕ) (r : Stand) : Type 0 where
+  pub ran : Ran run body (lentOf (run .z) (run .level .0) work) out w (lentOf (run .z) (run .level .0) work′) out′ r
+  pub before : (i : ℕ) → i < 4 * levelStart (run .z) (run .level .0) → getD work′ i 0 ≡ getD work i 0
+  pub behind : (i : ℕ) → lentTo (run .z) (run .level .0) ≤ i → getD work′ i 0 ≡ getD work i 0
   pub same : length work′ ≡ length work
 
 -- a part
-abbrev pub runOf : Bool → Size → Plane → Level → Counts → BitPosition → Run
-runOf reads z plane level counts from =
+abbrev pub runOf : Role → Size → Plane → Level → Counts → BitPosition → Run
+runOf role z plane level counts from =
     record {
-      reads = reads;
+      role = role;
       z = z;
       plane = plane;
       level = level;
-      n = levelSize z (level .0);
+      stretch = stretchFor z (level .0) counts;
+      first = levelStart z (level .0);
+      parents = span z (level .0 + 1);
+      elders = span z (level .0 + 2);
       olds = countAt (counts .lis) (level .0);
       from = from;
     }
 
-pub record Running (run : Run) (work : List ℕ) (counts : Counts) (d : List ℤ) : Type 0 where
+pub record Running (run : Run) (body work : List ℕ) (counts : Counts) (out : List ℕ) : Type 0 where
   pub ready : Ready (run .z) (run .plane) (run .level) work counts
-  pub size : run .n ≡ levelSize (run .z) (run .level .0)
-  pub olds : run .olds ≡ countAt (counts .lis) (run .level .0)
-  pub place : run .from .at + 4 * run .n < 2 ^ 62
-  pub small : Small (2 ^ 29) d
+  pub runs : run ≡ runOf (run .role) (run .z) (run .plane) (run .level) counts (run .from)
+  pub place : run .from .at + 4 * levelSize (run .z) (run .level .0) < 2 ^ 62
+  pub words : reads run ≡ true → Words (run .z) (2 ^ 29) work
 
-abbrev pub courseIn : Side Chan → Run → List ℕ → Counts → List ℕ → List ℤ → Course Chan
-courseIn C run work counts out d = passed (familyOf run) (run .level .0) C (stateOf (run .z) work counts (run .level .0)) (chan out d (run .from .at))
+-- what the pass makes of the level's lists, its values and the output
+abbrev pub courseIn : Run → List ℕ → List ℕ → Counts → List ℕ → Course Chan
+courseIn run body work counts out =
+    passed (familyOf run) (run .level .0) (side run (stretchOf (run .z) (run .level .0) work) body) (stateOf (run .z) work counts (run .level .0))
+    (chan out (valuesIn (levelSize (run .z) (run .level .0)) (stretchOf (run .z) (run .level .0) work)) (run .from .at))
 
-pub record PartRun (C : Side Chan) (run : Run) (work : List ℕ) (counts : Counts) (out : List ℕ) (d : List ℤ)
-    (r : Passed) (work′ out′ : List ℕ) (d′ : List ℤ) : Type 0 where
-  pub lists : Agree (stateOf (run .z) work′ (r .counts)) (after (run .level .0) (courseIn C run work counts out d) (stateOf (run .z) work counts))
+-- The part was run: lists, values of the level and output are what its pass makes of them; the values of other levels, by the coder those of its own
+-- too, and all maxima are as they were.
+pub record PartRun (run : Run) (body work : List ℕ) (counts : Counts) (out : List ℕ) (r : Passed) (work′ out′ : List ℕ) : Type 0 where
+  pub lists : Agree (stateOf (run .z) work′ (r .counts)) (after (run .level .0) (courseIn run body work counts out) (stateOf (run .z) work counts))
   pub same : length work′ ≡ length work
-  pub side : chan out′ d′ (r .at .at) ≡ courseIn C run work counts out d .side
+  pub side : chan out′ (valuesIn (levelSize (run .z) (run .level .0)) (stretchOf (run .z) (run .level .0) work′)) (r .at .at)
+      ≡ courseIn run body work counts out .side
+  pub words : (j i : ℕ) → 1 ≤ j → j ≤ levels (run .z) → (j ≡ run .level .0 → reads run ≡ false) → i < levelSize (run .z) j
+      → getD (stretchOf (run .z) j work′) i 0 ≡ getD (stretchOf (run .z) j work) i 0
+  pub maxima : (j i : ℕ) → 1 ≤ j → j ≤ run .z .n → i < levelSize (run .z) j / 4
+      → getD (maximaIn (levelSize (run .z) j) (stretchOf (run .z) j work′)) i 0
+      ≡ getD (maximaIn (levelSize (run .z) j) (stretchOf (run .z) j work)) i 0

@@ -1,3 +1,4 @@
+pub mod Trees
 pub mod Sets
 pub mod Visits
 pub mod Pass

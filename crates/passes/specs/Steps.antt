@@ -1,21 +1,23 @@
--- What the steps of a pass leave, in a level's stretch, in the output and in the coefficients: the contracts of the functions inside.
+-- What the steps of a pass leave, in a level's stretch and in the output: the contracts of the functions inside.
 use mathlib.Core.Path.{_≡_}
 use mathlib.Core.List.{List, [], _∷_, _++_}
 use mathlib.Core.Bool.{Bool, true, false, cond}
 use Prim.Native.Nat.{ℕ, suc, _+_, _*_, _≤_, _<_, _^_}
 use lib.Dec.{leb, ltb}
 use lib.ListN.{length}
-use lib.IntN.{ℤ}
-use Rattle.rules.specs.Document.Pyramid.{Family, legalSize, levels, mostPlanes}
-use Rattle.rules.specs.Document.Passes.{Entry, typeA, typeB, inLevel, opened, added, Lists, Side, Course, listing, passed}
+use Rattle.rules.specs.Document.Pyramid.{legalSize, levels, mostPlanes}
+use Rattle.rules.specs.Document.Passes.{Entry, typeA, typeB, inLevel, opened, added, Lists, Course, listing, passed}
 use Rattle.rules.specs.Laws.Pass.Steps.{triedAll, visitedAll}
 use Rattle.rules.specs.Laws.Pass.Levels.{Met}
+use Rattle.rules.specs.Laws.Family.Sizes.{span, levelStart}
 use Rattle.rules.specs.Laws.Pass.Slots.{Room}
 use Rattle.lists.specs.declared.Fill.{Fill}
-use Rattle.lists.specs.Stretch.{known, held, Fits}
+use Rattle.stretches.specs.Cut.{valuesIn}
+use Rattle.lists.specs.declared.Stretch.{Stretch}
+use Rattle.lists.specs.Lists.{known, held, Fits, Beside}
 use Rattle.testing.specs.declared.Run.{Run}
 use Rattle.testing.specs.declared.Stand.{Stand}
-use Rattle.testing.specs.Exchange.{Chan, chan, familyOf}
+use Rattle.testing.specs.Exchange.{Chan, chan, familyOf, reads, side, Around}
 use Rattle.testing.specs.Finding.{course}
 use Rattle.testing.specs.Growing.{Growth}
 
@@ -25,44 +27,48 @@ pub record Proper (run : Run) : Type 0 where
   pub plane : run .plane .0 < mostPlanes
   pub coarser : 1 ≤ run .level .0
   pub level : run .level .0 ≤ levels (run .z)
-  pub size : run .n < 2 ^ 32
-  pub from : run .from .at + 4 * run .n < 2 ^ 62
+  pub size : run .stretch .n < 2 ^ 32
+  pub first : run .first ≡ levelStart (run .z) (run .level .0)
+  pub parents : run .parents ≡ span (run .z) (run .level .0 + 1)
+  pub elders : run .elders ≡ span (run .z) (run .level .0 + 2)
+  pub from : run .from .at + 4 * run .stretch .n < 2 ^ 62
 
 -- Sets were put at the end of LIS; all else is as it was.
-pub record Added (es : List Entry) (n : ℕ) (s : List ℕ) (f : Fill) (s′ : List ℕ) (r : Fill) : Type 0 where
+pub record Added (es : List Entry) (t : Stretch) (s : List ℕ) (f : Fill) (s′ : List ℕ) (r : Fill) : Type 0 where
   pub fill : r ≡ record { lip = f .lip; lsp = f .lsp; kept = f .kept; visited = f .visited; left = f .left + length es; moved = f .moved }
-  pub holds : held n s′ r ≡ record {
-    lip = held n s f .lip;
-    lsp = held n s f .lsp;
-    kept = held n s f .kept;
-    todo = held n s f .todo ++ es;
-    moved = held n s f .moved;
+  pub holds : held t s′ r ≡ record {
+    lip = held t s f .lip;
+    lsp = held t s f .lsp;
+    kept = held t s f .kept;
+    todo = held t s f .todo ++ es;
+    moved = held t s f .moved;
   }
-  pub fits : Fits n s′ r
-  pub known : (m : ℕ) → m ≤ f .lsp → known n m s′ ≡ known n m s
+  pub fits : Fits t s′ r
+  pub beside : Beside t (r .moved) s s′
+  pub known : (m : ℕ) → m ≤ f .lsp → known (t .n) m s′ ≡ known (t .n) m s
 
 -- A set was opened: coefficients were tested, and sets were put at the end of LIS.
-pub record Opened (C : Side Chan) (F : Family) (e : Entry) (n : ℕ) (s out : List ℕ) (d : List ℤ) (w : Stand)
-    (s′ out′ : List ℕ) (d′ : List ℤ) (r : Stand) : Type 0 where
-  pub makes : course n s′ out′ d′ r ≡ triedAll (listing C) (opened F e) (course n s out d w)
-  pub todo : held n s′ (r .fill) .todo ≡ held n s (w .fill) .todo ++ added F e
-  pub fits : Fits n s′ (r .fill)
-  pub known : (m : ℕ) → m ≤ w .fill .lsp → known n m s′ ≡ known n m s
+pub record Opened (run : Run) (body : List ℕ) (e : Entry) (s out : List ℕ) (w : Stand) (s′ out′ : List ℕ) (r : Stand) : Type 0 where
+  pub makes : course (run .stretch) s′ out′ r ≡ triedAll (listing (side run s body)) (opened (familyOf run) e) (course (run .stretch) s out w)
+  pub todo : held (run .stretch) s′ (r .fill) .todo ≡ held (run .stretch) s (w .fill) .todo ++ added (familyOf run) e
+  pub fits : Fits (run .stretch) s′ (r .fill)
+  pub around : Around run (w .fill .moved) s s′
+  pub known : (m : ℕ) → m ≤ w .fill .lsp → known (run .stretch .n) m s′ ≡ known (run .stretch .n) m s
   pub visited : r .fill .visited ≡ w .fill .visited
-  pub left : r .fill .left ≡ w .fill .left + length (added F e)
+  pub left : r .fill .left ≡ w .fill .left + length (added (familyOf run) e)
   pub kept : r .fill .kept ≡ w .fill .kept
   pub moved : r .fill .moved ≡ w .fill .moved
-  pub both : r .fill .lip + r .fill .lsp ≡ w .fill .lip + w .fill .lsp + length (opened F e)
+  pub both : r .fill .lip + r .fill .lsp ≡ w .fill .lip + w .fill .lsp + length (opened (familyOf run) e)
   pub lsp : w .fill .lsp ≤ r .fill .lsp
-  pub place : r .at .at ≤ w .at .at + 2 * length (opened F e)
+  pub place : r .at .at ≤ w .at .at + 2 * length (opened (familyOf run) e)
 
 -- What an opening asks for: the set has members in the level, and there is room for what comes of it.
 pub record Opening (run : Run) (e : Entry) (s : List ℕ) (w : Stand) : Type 0 where
   pub proper : Proper run
   pub met : Met (familyOf run) (run .level .0) e
-  pub fits : Fits (run .n) s (w .fill)
-  pub room : Room (familyOf run) (run .level .0) (run .n) (w .fill .lip + w .fill .lsp) (w .fill .visited) (opened (familyOf run) e)
-      (held (run .n) s (w .fill) .todo ++ added (familyOf run) e)
+  pub fits : Fits (run .stretch) s (w .fill)
+  pub room : Room (familyOf run) (run .level .0) (run .stretch .n) (w .fill .lip + w .fill .lsp) (w .fill .visited) (opened (familyOf run) e)
+      (held (run .stretch) s (w .fill) .todo ++ added (familyOf run) e)
   pub place : w .at .at + 2 * length (opened (familyOf run) e) < 2 ^ 62
 
 -- Which sets of LIS have a member in the level, by their type and their place: the roots of level N+1 have none there. Elsewhere each of type A
@@ -75,69 +81,82 @@ unfoldable pub Queued : Run → ℕ → List Entry → Type 0
 Queued run v [] = Unit {0}
 Queued run v (e ∷ es) = (inLevel (familyOf run) (run .level .0) e ≡ hasMember run v e) × Queued run (suc v) es
 
--- In the midst of LIS: there is room for the rest, it is known which sets have a member in the level, what was visited was kept, moved out or is
--- gone, and each coefficient took two bits at most, each set one.
-pub record Underway (run : Run) (s : List ℕ) (w : Stand) : Type 0 where
-  pub fits : Fits (run .n) s (w .fill)
-  pub room : Room (familyOf run) (run .level .0) (run .n) (w .fill .lip + w .fill .lsp) (w .fill .visited) [] (held (run .n) s (w .fill) .todo)
-  pub queue : Queued run (w .fill .visited) (held (run .n) s (w .fill) .todo)
+-- what is left of the visits makes of a course
+abbrev pub visitsOf : Run → List ℕ → List ℕ → List Entry → Course Chan → Course Chan
+visitsOf run body s es c = visitedAll (familyOf run) (run .level .0) (listing (side run s body)) es c
+
+-- In the midst of LIS: there is room for the rest, and behind the stretch for all that will have moved out; it is known which sets have a member in
+-- the level, what was visited was kept, moved out or is gone, and each coefficient took two bits at most, each set one.
+pub record Underway (run : Run) (body s out : List ℕ) (w : Stand) : Type 0 where
+  pub fits : Fits (run .stretch) s (w .fill)
+  pub away : run .stretch .away + length (visitsOf run body s (held (run .stretch) s (w .fill) .todo) (course (run .stretch) s out w) .moved) ≤ length s
+  pub room : Room (familyOf run) (run .level .0) (run .stretch .n) (w .fill .lip + w .fill .lsp) (w .fill .visited) [] (held (run .stretch) s (w .fill) .todo)
+  pub queue : Queued run (w .fill .visited) (held (run .stretch) s (w .fill) .todo)
   pub olds : run .olds ≤ w .fill .visited + w .fill .left
   pub past : w .fill .kept + w .fill .moved ≤ w .fill .visited
   pub place : w .at .at ≤ run .from .at + 2 * (w .fill .lip + w .fill .lsp) + w .fill .visited
 
 -- The same with a set e in hand, that has just been taken and has members in the level.
-pub record InHand (run : Run) (e : Entry) (s : List ℕ) (w : Stand) : Type 0 where
+pub record InHand (run : Run) (body : List ℕ) (e : Entry) (s out : List ℕ) (w : Stand) : Type 0 where
   pub before : ℕ
   pub count : w .fill .visited ≡ before + 1
-  pub fits : Fits (run .n) s (w .fill)
+  pub fits : Fits (run .stretch) s (w .fill)
+  pub away : run .stretch .away + length (visitsOf run body s (e ∷ held (run .stretch) s (w .fill) .todo) (course (run .stretch) s out w) .moved) ≤ length s
   pub there : inLevel (familyOf run) (run .level .0) e ≡ true
-  pub room : Room (familyOf run) (run .level .0) (run .n) (w .fill .lip + w .fill .lsp) before [] (e ∷ held (run .n) s (w .fill) .todo)
-  pub queue : Queued run (suc before) (held (run .n) s (w .fill) .todo)
+  pub room : Room (familyOf run) (run .level .0) (run .stretch .n) (w .fill .lip + w .fill .lsp) before [] (e ∷ held (run .stretch) s (w .fill) .todo)
+  pub queue : Queued run (suc before) (held (run .stretch) s (w .fill) .todo)
   pub olds : run .olds ≤ w .fill .visited + w .fill .left
   pub past : w .fill .kept + w .fill .moved ≤ before
   pub place : w .at .at ≤ run .from .at + 2 * (w .fill .lip + w .fill .lsp) + before
 
--- what is left of the visits makes of a course
-abbrev pub visitsOf : Side Chan → Run → List Entry → Course Chan → Course Chan
-visitsOf C run es c = visitedAll (familyOf run) (run .level .0) (listing C) es c
-
 -- The set in hand was visited, or some sets were: what is left of the visits makes of lists and side what it would have made before.
-pub record Weighed (C : Side Chan) (run : Run) (e : Entry) (s out : List ℕ) (d : List ℤ) (w : Stand)
-    (s′ out′ : List ℕ) (d′ : List ℤ) (r : Stand) : Type 0 where
-  pub makes : visitsOf C run (held (run .n) s′ (r .fill) .todo) (course (run .n) s′ out′ d′ r)
-      ≡ visitsOf C run (e ∷ held (run .n) s (w .fill) .todo) (course (run .n) s out d w)
-  pub ready : Underway run s′ r
-  pub known : (m : ℕ) → m ≤ w .fill .lsp → known (run .n) m s′ ≡ known (run .n) m s
+pub record Weighed (run : Run) (body : List ℕ) (e : Entry) (s out : List ℕ) (w : Stand) (s′ out′ : List ℕ) (r : Stand) : Type 0 where
+  pub makes : visitsOf run body s′ (held (run .stretch) s′ (r .fill) .todo) (course (run .stretch) s′ out′ r)
+      ≡ visitsOf run body s (e ∷ held (run .stretch) s (w .fill) .todo) (course (run .stretch) s out w)
+  pub ready : Underway run body s′ out′ r
+  pub around : Around run (r .fill .moved) s s′
+  pub known : (m : ℕ) → m ≤ w .fill .lsp → known (run .stretch .n) m s′ ≡ known (run .stretch .n) m s
   pub lsp : w .fill .lsp ≤ r .fill .lsp
+  pub moved : w .fill .moved ≤ r .fill .moved
   pub visited : r .fill .visited ≡ w .fill .visited
 
-pub record Visited (C : Side Chan) (run : Run) (s out : List ℕ) (d : List ℤ) (w : Stand)
-    (s′ out′ : List ℕ) (d′ : List ℤ) (r : Stand) : Type 0 where
-  pub makes : visitsOf C run (held (run .n) s′ (r .fill) .todo) (course (run .n) s′ out′ d′ r)
-      ≡ visitsOf C run (held (run .n) s (w .fill) .todo) (course (run .n) s out d w)
-  pub ready : Underway run s′ r
-  pub known : (m : ℕ) → m ≤ w .fill .lsp → known (run .n) m s′ ≡ known (run .n) m s
+pub record Visited (run : Run) (body s out : List ℕ) (w : Stand) (s′ out′ : List ℕ) (r : Stand) : Type 0 where
+  pub makes : visitsOf run body s′ (held (run .stretch) s′ (r .fill) .todo) (course (run .stretch) s′ out′ r)
+      ≡ visitsOf run body s (held (run .stretch) s (w .fill) .todo) (course (run .stretch) s out w)
+  pub ready : Underway run body s′ out′ r
+  pub around : Around run (r .fill .moved) s s′
+  pub moved : w .fill .moved ≤ r .fill .moved
+  pub known : (m : ℕ) → m ≤ w .fill .lsp → known (run .stretch .n) m s′ ≡ known (run .stretch .n) m s
   pub lsp : w .fill .lsp ≤ r .fill .lsp
 
 -- the lists of the level as a pass finds them
 abbrev pub listsOf : Run → List ℕ → Stand → Lists
 listsOf run s w =
-    record { lip = held (run .n) s (w .fill) .lip; lis = held (run .n) s (w .fill) .todo; lsp = held (run .n) s (w .fill) .lsp }
+    record { lip = held (run .stretch) s (w .fill) .lip; lis = held (run .stretch) s (w .fill) .todo; lsp = held (run .stretch) s (w .fill) .lsp }
 
--- Before a pass: there is room for it, nothing of LIS was visited, and no coefficient is too large to be refined.
-pub record Fresh (run : Run) (s : List ℕ) (d : List ℤ) (w : Stand) : Type 0 where
+-- what a pass makes
+abbrev pub passOf : Run → List ℕ → List ℕ → List ℕ → Stand → Course Chan
+passOf run body s out w =
+    passed (familyOf run) (run .level .0) (side run s body) (listsOf run s w) (chan out (valuesIn (run .stretch .n) s) (w .at .at))
+
+-- Before a pass: there is room for it, and behind the stretch for all that will move out; nothing of LIS was visited, and no word is too large to be
+-- refined.
+pub record Fresh (run : Run) (body s out : List ℕ) (w : Stand) : Type 0 where
   pub proper : Proper run
-  pub fits : Fits (run .n) s (w .fill)
-  pub room : Room (familyOf run) (run .level .0) (run .n) (w .fill .lsp) 0 (held (run .n) s (w .fill) .lip) (held (run .n) s (w .fill) .todo)
-  pub queue : Queued run 0 (held (run .n) s (w .fill) .todo)
+  pub fits : Fits (run .stretch) s (w .fill)
+  pub room : Room (familyOf run) (run .level .0) (run .stretch .n) (w .fill .lsp) 0 (held (run .stretch) s (w .fill) .lip)
+      (held (run .stretch) s (w .fill) .todo)
+  pub away : run .stretch .away + length (passOf run body s out w .moved) ≤ length s
+  pub queue : Queued run 0 (held (run .stretch) s (w .fill) .todo)
   pub olds : run .olds ≤ w .fill .left
   pub kept : w .fill .kept ≡ 0
   pub visited : w .fill .visited ≡ 0
   pub moved : w .fill .moved ≡ 0
   pub place : w .at .at ≡ run .from .at
-  pub growth : Growth (run .plane .0) (2 ^ 30) d (held (run .n) s (w .fill) .lsp)
+  pub growth : reads run ≡ true → Growth (run .first) (run .plane .0) (2 ^ 30) (valuesIn (run .stretch .n) s) (held (run .stretch) s (w .fill) .lsp)
 
 -- A pass was run.
-pub record Ran (C : Side Chan) (run : Run) (s out : List ℕ) (d : List ℤ) (w : Stand) (s′ out′ : List ℕ) (d′ : List ℤ) (r : Stand) : Type 0 where
-  pub makes : course (run .n) s′ out′ d′ r ≡ passed (familyOf run) (run .level .0) C (listsOf run s w) (chan out d (w .at .at))
-  pub fits : Fits (run .n) s′ (r .fill)
+pub record Ran (run : Run) (body s out : List ℕ) (w : Stand) (s′ out′ : List ℕ) (r : Stand) : Type 0 where
+  pub makes : course (run .stretch) s′ out′ r ≡ passOf run body s out w
+  pub fits : Fits (run .stretch) s′ (r .fill)
+  pub around : Around run (r .fill .moved) s s′

@@ -3,69 +3,38 @@
 ghost use mathlib.Core.Path.{_≡_};
 ghost use mathlib.Core.List.{map};
 ghost use Prim.Native.Nat.{_+_, _*_, _^_, _≤_, _<_};
-ghost use lib.ListN.{length};
-ghost use Rattle.rules.specs.Document.Notation.{greatest};
-ghost use Rattle.rules.specs.Document.Pyramid.{mostArea, offspringOf, magnitude};
-ghost use Rattle.rules.specs.Document.Passes.{typeA, typeB, set?, members};
-ghost use Rattle.rules.specs.Laws.Pass.Levels.{Met};
-ghost use Rattle.shape.specs.Offspring.{offspringList};
-ghost use Rattle.shape.specs.Nodes.{Node};
-ghost use Rattle.lists.specs.Stretch.{setRoom, entryOf, indexOf, Fits};
-ghost use Rattle.testing.specs.Exchange.{familyOf, side, Replied};
+ghost use Rattle.rules.specs.Document.Passes.{typeA, typeB};
+ghost use Rattle.stretches.specs.Cut.{setRoom};
+ghost use Rattle.lists.specs.Lists.{entryOf, indexOf, Fits};
+ghost use Rattle.testing.specs.Exchange.{familyOf};
+ghost use Rattle.testing.specs.Finding.{fourFrom};
 ghost use Rattle.passes.specs.Steps.{Proper, Added, Opened, Opening, hasMember, Underway, InHand, Weighed, Visited, Fresh, Ran};
-use bits::BitPosition;
-use bits::BitRead;
 use lists::Fill;
 use lists::Set;
-use rules::Size;
-use shape::Depth;
-use shape::Offspring;
 use testing::Candidates;
 use testing::Run;
 use testing::Stand;
 
-// The four offspring of the block that begins at an index, as sets of type A at the end of LIS.
+// Four tree numbers, as sets of type A at the end of LIS.
 fn add_block(run: Run, s: &mut [u32], f: Fill, first: usize) -> Fill
-    requires { ⌜ Fits (run .n) (now s) f × (run .n < 2 ^ 32) × (f .visited + f .left + 4 ≤ setRoom (run .n)) × (first + run .z .w + 1 < mostArea) ⌝ }
-    ensures { λ r. ⌜ Added (map typeA (offspringList (run .z) (Offspring.Block first))) (run .n) (now (s .entry)) f (now (s .exit)) r ⌝ }
+    requires { ⌜ Fits (run .stretch) (now s) f × (run .stretch .n < 2 ^ 32) × (f .visited + f .left + 4 ≤ setRoom (run .stretch .n)) × (first + 4 < 2 ^ 31) ⌝ }
+    ensures { λ r. ⌜ Added (map typeA (fourFrom first)) (run .stretch) (now (s .entry)) f (now (s .exit)) r ⌝ }
 {
-    let below = first + run.z.w;
-    let a = lists::add_set(s, run.n, f, Set::TypeA(first));
-    let b = lists::add_set(s, run.n, a, Set::TypeA(first + 1));
-    let c = lists::add_set(s, run.n, b, Set::TypeA(below));
-    lists::add_set(s, run.n, c, Set::TypeA(below + 1))
-}
-
-// Where the offspring of a coefficient that has some begin.
-fn first_of(z: Size, p: usize, k: Depth) -> usize
-    requires { ⌜ Node z p (k .0) × (1 ≤ length (offspringOf z p)) ⌝ }
-    ensures { λ r. ⌜ (offspringList z (Offspring.Block r) ≡ offspringOf z p) × (r + z .w + 1 < mostArea) ⌝ }
-{
-    match shape::offspring_in(z, p, k) {
-        Offspring::Nothing => 0,
-        Offspring::Block(first) => first,
-    }
+    let stretch = run.stretch;
+    let a = lists::add_set(s, stretch, f, Set::TypeA(first));
+    let b = lists::add_set(s, stretch, a, Set::TypeA(first + 1));
+    let c = lists::add_set(s, stretch, b, Set::TypeA(first + 2));
+    lists::add_set(s, stretch, c, Set::TypeA(first + 3))
 }
 
 // A set of type A whose bit is 1: its offspring are tested, and it goes to the end of LIS as type B if L is not empty.
-fn open_a(
-    run: Run,
-    pyramid: &[i32],
-    body: &[u8],
-    s: &mut [u32],
-    w: Stand,
-    out: &mut [u8],
-    d: &mut [i32],
-    p: usize,
-) -> Stand
-    requires { ⌜ Opening run (typeA p) (now s) w ⌝ }
-    ensures { λ r. ⌜ Opened (side run (now (pyramid .entry)) (now (body .entry))) (familyOf run) (typeA p) (run .n) (now (s .entry)) (now (out .entry)) (now (d .entry)) w
-        (now (s .exit)) (now (out .exit)) (now (d .exit)) r ⌝ }
+fn open_a(run: Run, body: &[u8], s: &mut [u32], w: Stand, out: &mut [u8], x: usize) -> Stand
+    requires { ⌜ Opening run (typeA x) (now s) w ⌝ }
+    ensures { λ r. ⌜ Opened run (now (body .entry)) (typeA x) (now (s .entry)) (now (out .entry)) w (now (s .exit)) (now (out .exit)) r ⌝ }
 {
-    let first = first_of(run.z, p, Depth(run.level.0 + 1));
-    let r = testing::test_each(run, pyramid, body, s, w, out, d, Candidates::Four(first), 4);
+    let r = testing::test_each(run, body, s, w, out, Candidates::Four(4 * x), 4);
     if 1 < run.level.0 {
-        let fill = lists::add_set(s, run.n, r.fill, Set::TypeB(p));
+        let fill = lists::add_set(s, run.stretch, r.fill, Set::TypeB(x));
         let at = r.at;
         return Stand { fill, at };
     }
@@ -73,67 +42,24 @@ fn open_a(
 }
 
 // A set of type B whose bit is 1: its offspring go to the end of LIS as type A.
-fn open_b(run: Run, s: &mut [u32], w: Stand, p: usize) -> Stand
-    requires { ⌜ Opening run (typeB p) (now s) w ⌝ }
-    ensures { λ r. ⌜ Added (map typeA (offspringOf (run .z) p)) (run .n) (now (s .entry)) (w .fill) (now (s .exit)) (r .fill) × (r .at ≡ w .at) ⌝ }
+fn open_b(run: Run, s: &mut [u32], w: Stand, x: usize) -> Stand
+    requires { ⌜ Opening run (typeB x) (now s) w ⌝ }
+    ensures { λ r. ⌜ Added (map typeA (familyOf run .offspring x)) (run .stretch) (now (s .entry)) (w .fill) (now (s .exit)) (r .fill) × (r .at ≡ w .at) ⌝ }
 {
-    let first = first_of(run.z, p, Depth(run.level.0 + 2));
-    let fill = add_block(run, s, w.fill, first);
+    let fill = add_block(run, s, w.fill, 4 * x);
     let at = w.at;
     Stand { fill, at }
 }
 
 // A set whose bit is 1.
-fn open_set(
-    run: Run,
-    pyramid: &[i32],
-    body: &[u8],
-    s: &mut [u32],
-    w: Stand,
-    out: &mut [u8],
-    d: &mut [i32],
-    e: Set,
-) -> Stand
+fn open_set(run: Run, body: &[u8], s: &mut [u32], w: Stand, out: &mut [u8], e: Set) -> Stand
     requires { ⌜ Opening run (entryOf e) (now s) w ⌝ }
-    ensures { λ r. ⌜ Opened (side run (now (pyramid .entry)) (now (body .entry))) (familyOf run) (entryOf e) (run .n) (now (s .entry)) (now (out .entry)) (now (d .entry)) w
-        (now (s .exit)) (now (out .exit)) (now (d .exit)) r ⌝ }
+    ensures { λ r. ⌜ Opened run (now (body .entry)) (entryOf e) (now (s .entry)) (now (out .entry)) w (now (s .exit)) (now (out .exit)) r ⌝ }
 {
     match e {
-        Set::TypeA(p) => open_a(run, pyramid, body, s, w, out, d, p),
-        Set::TypeB(p) => open_b(run, s, w, p),
+        Set::TypeA(x) => open_a(run, body, s, w, out, x),
+        Set::TypeB(x) => open_b(run, s, w, x),
     }
-}
-
-// The largest magnitude in a set that has members in the level: the node of D is one level above, that of L two.
-fn largest_in(run: Run, pyramid: &[i32], e: Set) -> u32
-    requires { ⌜ Proper run × Met (familyOf run) (run .level .0) (entryOf e) ⌝ }
-    ensures { λ r. ⌜ r ≡ greatest (magnitude (now (pyramid .entry))) (members (familyOf run) (entryOf e)) ⌝ }
-{
-    match e {
-        Set::TypeA(p) => largest::max_d(pyramid, run.z, p, Depth(run.level.0 + 1)),
-        Set::TypeB(p) => largest::max_l(pyramid, run.z, p, Depth(run.level.0 + 2)),
-    }
-}
-
-fn ask_set(
-    run: Run,
-    pyramid: &[i32],
-    body: &[u8],
-    out: &mut [u8],
-    at: BitPosition,
-    e: Set,
-) -> BitRead
-    requires { ⌜ (at .at < 2 ^ 62) × Proper run × Met (familyOf run) (run .level .0) (entryOf e) ⌝ }
-    ensures { λ r. ⌜ Replied (side run (now (pyramid .entry)) (now (body .entry))) (set? (entryOf e)) (now (out .entry)) at r (now (out .exit)) ⌝ }
-{
-    if run.reads {
-        return at.read(body);
-    }
-    testing::say(
-        out,
-        at,
-        coefficients::threshold_of(run.plane) <= largest_in(run, pyramid, e),
-    )
 }
 
 // Whether a set has a member in the level: the roots of level N+1 have none there. Elsewhere each of type A has, and each of type B that was in
@@ -151,88 +77,52 @@ fn has_member(run: Run, visited: usize, e: Set) -> bool
 }
 
 // The bit of a set that has members in the level: it stays in its place, or is opened.
-fn weigh(
-    run: Run,
-    pyramid: &[i32],
-    body: &[u8],
-    s: &mut [u32],
-    w: Stand,
-    out: &mut [u8],
-    d: &mut [i32],
-    e: Set,
-) -> Stand
-    requires { ⌜ Proper run × InHand run (entryOf e) (now s) w × (indexOf e < 2 ^ 31) ⌝ }
-    ensures { λ r. ⌜ Weighed (side run (now (pyramid .entry)) (now (body .entry))) run (entryOf e) (now (s .entry)) (now (out .entry)) (now (d .entry)) w
-        (now (s .exit)) (now (out .exit)) (now (d .exit)) r ⌝ }
+fn weigh(run: Run, body: &[u8], s: &mut [u32], w: Stand, out: &mut [u8], e: Set) -> Stand
+    requires { ⌜ Proper run × InHand run (now body) (entryOf e) (now s) (now out) w × (indexOf e < 2 ^ 31) ⌝ }
+    ensures { λ r. ⌜ Weighed run (now (body .entry)) (entryOf e) (now (s .entry)) (now (out .entry)) w (now (s .exit)) (now (out .exit)) r ⌝ }
 {
-    let bit = ask_set(run, pyramid, body, out, w.at, e);
+    let bit = testing::ask_set(run, body, s, out, w.at, e);
     let fill = w.fill;
     let at = bit.next;
     if bit.bit {
-        return open_set(run, pyramid, body, s, Stand { fill, at }, out, d, e);
+        return open_set(run, body, s, Stand { fill, at }, out, e);
     }
-    let kept = lists::keep_set(s, run.n, fill, e);
+    let kept = lists::keep_set(s, run.stretch, fill, e);
     Stand { fill: kept, at }
 }
 
 // One entry of LIS: moved out of the level if it has no member there, else weighed.
-fn visit_set(
-    run: Run,
-    pyramid: &[i32],
-    body: &[u8],
-    s: &mut [u32],
-    w: Stand,
-    out: &mut [u8],
-    d: &mut [i32],
-) -> Stand
-    requires { ⌜ Proper run × Underway run (now s) w × (0 < w .fill .left) ⌝ }
-    ensures { λ r. ⌜ Visited (side run (now (pyramid .entry)) (now (body .entry))) run (now (s .entry)) (now (out .entry)) (now (d .entry)) w
-        (now (s .exit)) (now (out .exit)) (now (d .exit)) r × (r .fill .visited ≡ w .fill .visited + 1) ⌝ }
+fn visit_set(run: Run, body: &[u8], s: &mut [u32], w: Stand, out: &mut [u8]) -> Stand
+    requires { ⌜ Proper run × Underway run (now body) (now s) (now out) w × (0 < w .fill .left) ⌝ }
+    ensures { λ r. ⌜ Visited run (now (body .entry)) (now (s .entry)) (now (out .entry)) w (now (s .exit)) (now (out .exit)) r
+        × (r .fill .visited ≡ w .fill .visited + 1) ⌝ }
 {
-    let e = lists::next_set(s, run.n, w.fill);
+    let e = lists::next_set(s, run.stretch, w.fill);
     let fill = lists::past_set(w.fill);
     let at = w.at;
     if has_member(run, w.fill.visited, e) {
-        return weigh(run, pyramid, body, s, Stand { fill, at }, out, d, e);
+        return weigh(run, body, s, Stand { fill, at }, out, e);
     }
-    let gone = lists::move_set(s, run.n, fill, e);
+    let gone = lists::move_set(s, run.stretch, fill, e);
     Stand { fill: gone, at }
 }
 
 // Step 2: each entry of LIS, those added to its end meanwhile included.
-fn visit_lis(
-    run: Run,
-    pyramid: &[i32],
-    body: &[u8],
-    s: &mut [u32],
-    w: Stand,
-    out: &mut [u8],
-    d: &mut [i32],
-) -> Stand
-    requires { ⌜ Proper run × Underway run (now s) w ⌝ }
-    ensures { λ r. ⌜ Visited (side run (now (pyramid .entry)) (now (body .entry))) run (now (s .entry)) (now (out .entry)) (now (d .entry)) w
-        (now (s .exit)) (now (out .exit)) (now (d .exit)) r × (r .fill .left ≤ 0) ⌝ }
+fn visit_lis(run: Run, body: &[u8], s: &mut [u32], w: Stand, out: &mut [u8]) -> Stand
+    requires { ⌜ Proper run × Underway run (now body) (now s) (now out) w ⌝ }
+    ensures { λ r. ⌜ Visited run (now (body .entry)) (now (s .entry)) (now (out .entry)) w (now (s .exit)) (now (out .exit)) r × (r .fill .left ≤ 0) ⌝ }
 {
     let mut r = w;
     while 0 < r.fill.left {
-        r = visit_set(run, pyramid, body, s, r, out, d);
+        r = visit_set(run, body, s, r, out);
     }
     r
 }
 
 // One part's pass in the level's stretch: the three steps.
-pub fn run_pass(
-    run: Run,
-    pyramid: &[i32],
-    body: &[u8],
-    s: &mut [u32],
-    w: Stand,
-    out: &mut [u8],
-    d: &mut [i32],
-) -> Stand
-    requires { ⌜ Fresh run (now s) (now d) w ⌝ }
-    ensures { λ r. ⌜ Ran (side run (now (pyramid .entry)) (now (body .entry))) run (now (s .entry)) (now (out .entry)) (now (d .entry)) w
-        (now (s .exit)) (now (out .exit)) (now (d .exit)) r ⌝ }
+pub fn run_pass(run: Run, body: &[u8], s: &mut [u32], w: Stand, out: &mut [u8]) -> Stand
+    requires { ⌜ Fresh run (now body) (now s) (now out) w ⌝ }
+    ensures { λ r. ⌜ Ran run (now (body .entry)) (now (s .entry)) (now (out .entry)) w (now (s .exit)) (now (out .exit)) r ⌝ }
 {
     let waiting = w.fill.lip;
     let known = w.fill.lsp;
@@ -240,17 +130,15 @@ pub fn run_pass(
     let fill = lists::empty_lip(w.fill);
     let tested = testing::test_each(
         run,
-        pyramid,
         body,
         s,
         Stand { fill, at },
         out,
-        d,
         Candidates::Waiting,
         waiting,
     );
-    let visited = visit_lis(run, pyramid, body, s, tested, out, d);
-    let next = testing::refine_lsp(run, pyramid, body, s, known, out, d, visited.at);
+    let visited = visit_lis(run, body, s, tested, out);
+    let next = testing::refine_lsp(run, body, s, known, out, visited.at);
     let left = visited.fill;
     Stand {
         fill: left,

@@ -1,107 +1,163 @@
 -- Step 1, and the offspring of an opened set: what the test of a coefficient makes of lists and side, and several tests in order.
 use mathlib.Core.Path.{_≡_, refl, sym, ap, ap₂, _∙_, subst}
 use mathlib.Core.Bool.{true, false}
-use mathlib.Core.List.{List, [], _∷_, _++_}
-use Prim.Native.Nat.{ℕ, zero, suc, _+_, _-_, _*_, _≤_, _<_}
+use mathlib.Core.List.{List, [], _∷_, _++_, map}
+use Prim.Native.Nat.{ℕ, zero, suc, _+_, _*_, _≤_, _<_, _^_}
 use native.Mathlib.Omega.{arith}
 use lib.ListN.{length, length-append}
-use lib.IntN.{ℤ}
 use Rattle.bits.specs.declared.BitRead.{BitRead}
-use Rattle.rules.specs.Document.Passes.{significant?, negative?, toLip, toLsp, Side, listing}
+use Rattle.rules.specs.Document.Passes.{Event, significant?, negative?, toLip, toLsp, Side, listing}
 use Rattle.rules.specs.Laws.Pass.Steps.{signNoted, tried, triedAll, tried-insignificant, tried-significant, tried-toLip, tried-toLsp, triedAll-append}
-use Rattle.rules.specs.declared.Size.{Size}
-use Rattle.rules.specs.Document.Pyramid.{mostArea}
-use Rattle.shape.specs.declared.Offspring.the-variants.{Block}
-use Rattle.shape.specs.Offspring.{offspringList}
+use Rattle.stretches.specs.Seg.{seg, seg-length, seg-add, seg-none, seg-same}
+use Rattle.stretches.specs.Cut.{lipFrom, lspFrom, lisFrom, valuesIn}
+use Rattle.lists.specs.declared.Stretch.{Stretch}
 use Rattle.lists.specs.declared.Fill.{Fill}
-use Rattle.lists.specs.Seg.{seg}
-use Rattle.lists.specs.Stretch.{waiting, Fits, LipPushed, LspPushed, waiting-add, waiting-none, waiting-length}
+use Rattle.lists.specs.Lists.{entry, sets, waiting, known, Held, held, Fits, LipPushed, LspPushed, waiting-add, waiting-none, waiting-length}
+use Rattle.lists.specs.Besides.{beside-values, held-same}
 use Rattle.testing.specs.declared.Run.{Run}
 use Rattle.testing.specs.declared.Stand.{Stand}
 use Rattle.testing.specs.declared.Candidates.{Candidates}
 use Rattle.testing.specs.declared.Candidates.the-variants.{Waiting, Four}
-use Rattle.testing.specs.Exchange.{Chan, chan, noted, side, notes, Replied, quiet-toLip}
-use Rattle.testing.specs.Finding.{courseOf, course, candidates, Choosing, Suited, Testing, Tested, tested-none}
+use Rattle.testing.specs.Exchange.{Chan, chan, side, notes, Replied, Noted, Around, quiet-toLip}
+use Rattle.testing.specs.Exchange.{around-then, around-beside, around-noted, side-same}
+use Rattle.testing.specs.Finding.{courseOf, course, fourFrom, chosen, Choosing, Testing, Tested, tested-none}
 
 one-tried : {S : Type 0} (C : Side S) (p : ℕ) (s : S) → triedAll C (p ∷ []) s ≡ tried C p s
 unfolding triedAll
 one-tried C p s = refl
 
-module _ (run : Run) (pyramid : List ℤ) (body : List ℕ) where
-  abbrev C : Side Chan
-  C = side run pyramid body
+-- lists are as they were where a value was noted
+module _ {run : Run} {e : Event} {s s′ : List ℕ} (N : Noted run e s s′) where
+  abbrev n : ℕ
+  n = run .stretch .n
 
-  module _ (p n : ℕ) (s out : List ℕ) (d : List ℤ) (w : Stand) (found : BitRead) (out₁ : List ℕ)
-      (R : Replied (side run pyramid body) (significant? p) out (w .at) found out₁) where
-    abbrev x : Chan
-    x = chan out d (w .at .at)
+  noted-seg : (b m : ℕ) → n ≤ b → seg b m s′ ≡ seg b m s
+  noted-seg b m l = seg-same b m s s′ (N .long) (λ j k _. N .others j (omega arith))
 
-    insignificant-side : found .bit ≡ false → tried C p x ≡ chan out₁ d (found .next .at)
-    insignificant-side h =
-        tried-insignificant C p x (R .bit d ∙ h) ∙ ap (C .note (toLip p)) (R .next d) ∙ notes run pyramid body (toLip p) out₁ d (found .next .at)
-        ∙ ap (λ y. chan out₁ y (found .next .at)) (quiet-toLip run p d)
+  noted-sets : (b m : ℕ) → n ≤ b → sets b m s′ ≡ sets b m s
+  unfolding sets
+  noted-sets b m l = ap (map entry) (noted-seg b m l)
 
-    pub tested-insignificant : {s′ : List ℕ} {f : Fill} → found .bit ≡ false → LipPushed n s (w .fill) p s′ f
-        → Tested C (p ∷ []) n s out d w s′ out₁ d (record { fill = f; at = found .next })
-    tested-insignificant h L =
+  pub noted-waiting : (i m : ℕ) → waiting n i m s′ ≡ waiting n i m s
+  unfolding waiting lipFrom
+  noted-waiting i m = noted-seg (n + i) m (omega arith)
+
+  pub noted-known : (m : ℕ) → known n m s′ ≡ known n m s
+  unfolding known lspFrom
+  noted-known m = noted-seg (n + n) m (omega arith)
+
+  module _ {f : Fill} (g : Fits (run .stretch) s f) where
+    noted-held : held (run .stretch) s′ f ≡ held (run .stretch) s f
+    unfolding held lisFrom
+    noted-held =
+        held-same (noted-waiting 0 (f .lip)) (noted-known (f .lsp)) (noted-sets (n + n + n) (f .kept) (omega arith))
+        (noted-sets (n + n + n + f .visited) (f .left) (omega arith)) (noted-sets (run .stretch .away) (f .moved) (omega (arith, g .behind)))
+
+    pub noted-fits : Fits (run .stretch) s′ f
+    noted-fits =
         record {
-          makes =
-              ap₂ courseOf (L .holds) (sym (insignificant-side h))
-              ∙ sym (tried-toLip C p (course n s out d w) (R .bit d ∙ h)) ∙ sym (one-tried (listing C) p (course n s out d w));
-          todo = ap (λ y. y .todo) (L .holds);
-          fits = L .fits;
-          ahead = λ i m a b. L .ahead i m (omega arith) b;
-          known = L .known;
-          visited = ap (λ y. y .visited) (L .fill);
-          left = ap (λ y. y .left) (L .fill);
-          kept = ap (λ y. y .kept) (L .fill);
-          moved = ap (λ y. y .moved) (L .fill);
-          both = omega (arith, ap (λ y. y .lip) (L .fill), ap (λ y. y .lsp) (L .fill));
-          lip = omega (arith, ap (λ y. y .lip) (L .fill));
-          lsp = omega (arith, ap (λ y. y .lsp) (L .fill));
-          place = omega (arith, R .place);
+          room = rw (N .long) (g .room);
+          lip = g .lip;
+          lsp = g .lsp;
+          kept = g .kept;
+          visits = g .visits;
+          behind = g .behind;
+          moved = rw (N .long) (g .moved);
         }
 
-    module _ (sign : BitRead) (out₂ : List ℕ) (d′ : List ℤ) (Q : Replied (side run pyramid body) (negative? p) out₁ (found .next) sign out₂)
-        (h : found .bit ≡ true) (e : d′ ≡ noted run (toLsp p (sign .bit)) d) where
-      significant-side : tried C p x ≡ chan out₂ d′ (sign .next .at)
-      unfolding signNoted
-      significant-side =
-          tried-significant C p x (R .bit d ∙ h)
-          ∙ ap (λ y. signNoted C p (C .reply (negative? p) y)) (R .next d)
-          ∙ ap₂ (λ b y. C .note (toLsp p b) y) (Q .bit d) (Q .next d)
-          ∙ notes run pyramid body (toLsp p (sign .bit)) out₂ d (sign .next .at)
-          ∙ ap (λ y. chan out₂ y (sign .next .at)) (sym e)
+module _ (run : Run) (body : List ℕ) (x : ℕ) (s out : List ℕ) (w : Stand) (found : BitRead) (out₁ : List ℕ)
+    (R : Replied (side run s body) (significant? x) out (w .at) found out₁) where
+  abbrev C : Side Chan
+  C = side run s body
 
-      pub tested-significant : {s′ : List ℕ} {f : Fill} → LspPushed n s (w .fill) p s′ f → Tested C (p ∷ []) n s out d w s′ out₂ d′ (record { fill = f; at = sign .next })
-      tested-significant L =
-          record {
-            makes =
-                ap₂ courseOf (L .holds) (sym significant-side)
-                ∙ sym (tried-toLsp C p (course n s out d w) (R .bit d ∙ h)) ∙ sym (one-tried (listing C) p (course n s out d w));
-            todo = ap (λ y. y .todo) (L .holds);
-            fits = L .fits;
-            ahead = λ i m a b. L .ahead i m (omega arith) b;
-            known = L .known;
-            visited = ap (λ y. y .visited) (L .fill);
-            left = ap (λ y. y .left) (L .fill);
-            kept = ap (λ y. y .kept) (L .fill);
-            moved = ap (λ y. y .moved) (L .fill);
-            both = omega (arith, ap (λ y. y .lip) (L .fill), ap (λ y. y .lsp) (L .fill));
-            lip = omega (arith, ap (λ y. y .lip) (L .fill));
-            lsp = omega (arith, ap (λ y. y .lsp) (L .fill));
-            place = omega (arith, R .place, Q .place);
-          }
+  abbrev t : Stretch
+  t = run .stretch
+
+  abbrev vs : List ℕ
+  vs = valuesIn (run .stretch .n) s
+
+  abbrev y : Chan
+  y = chan out vs (w .at .at)
+
+  insignificant-side : found .bit ≡ false → tried C x y ≡ chan out₁ vs (found .next .at)
+  insignificant-side h =
+      tried-insignificant C x y (R .bit vs ∙ h) ∙ ap (C .note (toLip x)) (R .next vs) ∙ notes run s body (toLip x) out₁ vs (found .next .at)
+      ∙ ap (λ v. chan out₁ v (found .next .at)) (quiet-toLip run x vs)
+
+  pub tested-insignificant : {s′ : List ℕ} {f : Fill} → found .bit ≡ false → LipPushed (run .stretch) s (w .fill) x s′ f
+      → Tested run body (x ∷ []) s out w s′ out₁ (record { fill = f; at = found .next })
+  tested-insignificant {s′} h L =
+      record {
+        makes =
+            ap₂ courseOf (L .holds) (ap (λ v. chan out₁ v (found .next .at)) (beside-values (L .beside)) ∙ sym (insignificant-side h))
+            ∙ sym (tried-toLip C x (course t s out w) (R .bit vs ∙ h)) ∙ sym (one-tried (listing C) x (course t s out w));
+        todo = ap (λ h. h .todo) (L .holds);
+        fits = L .fits;
+        around = subst (λ (m : ℕ). Around run m s s′) (ap (λ h. h .moved) (L .fill)) (around-beside (L .beside));
+        ahead = λ i m a b. L .ahead i m (omega arith) b;
+        known = L .known;
+        visited = ap (λ h. h .visited) (L .fill);
+        left = ap (λ h. h .left) (L .fill);
+        kept = ap (λ h. h .kept) (L .fill);
+        moved = ap (λ h. h .moved) (L .fill);
+        both = omega (arith, ap (λ h. h .lip) (L .fill), ap (λ h. h .lsp) (L .fill));
+        lip = omega (arith, ap (λ h. h .lip) (L .fill));
+        lsp = omega (arith, ap (λ h. h .lsp) (L .fill));
+        place = omega (arith, R .place);
+      }
+
+  module _ (sign : BitRead) (out₂ : List ℕ) (s₁ : List ℕ) (Q : Replied (side run s body) (negative? x) out₁ (found .next) sign out₂)
+      (h : found .bit ≡ true) (N : Noted run (toLsp x (sign .bit)) s s₁) where
+    significant-side : tried C x y ≡ chan out₂ (valuesIn (run .stretch .n) s₁) (sign .next .at)
+    unfolding signNoted
+    significant-side =
+        tried-significant C x y (R .bit vs ∙ h)
+        ∙ ap (λ z. signNoted C x (C .reply (negative? x) z)) (R .next vs)
+        ∙ ap₂ (λ b z. C .note (toLsp x b) z) (Q .bit vs) (Q .next vs)
+        ∙ notes run s body (toLsp x (sign .bit)) out₂ vs (sign .next .at)
+        ∙ ap (λ v. chan out₂ v (sign .next .at)) (sym (N .values))
+
+    pub tested-significant : {s′ : List ℕ} {f : Fill} → Fits (run .stretch) s (w .fill) → LspPushed (run .stretch) s₁ (w .fill) x s′ f
+        → Tested run body (x ∷ []) s out w s′ out₂ (record { fill = f; at = sign .next })
+    tested-significant {s′} F L =
+        let e : held t s₁ (w .fill) ≡ held t s (w .fill) = noted-held N F in
+        let pushed : Held → Held =
+        λ h. record { lip = h .lip; lsp = h .lsp ++ (x ∷ []); kept = h .kept; todo = h .todo; moved = h .moved } in
+        record {
+          makes =
+              ap₂ courseOf (L .holds ∙ ap pushed e) (ap (λ v. chan out₂ v (sign .next .at)) (beside-values (L .beside)) ∙ sym significant-side)
+              ∙ sym (tried-toLsp C x (course t s out w) (R .bit vs ∙ h)) ∙ sym (one-tried (listing C) x (course t s out w));
+          todo = ap (λ h. h .todo) (L .holds) ∙ ap (λ h. h .todo) e;
+          fits = L .fits;
+          around =
+              subst (λ (m : ℕ). Around run m s s′) (ap (λ h. h .moved) (L .fill))
+              (around-then (around-noted 0 N (F .behind)) (around-beside (L .beside)) (omega arith));
+          ahead = λ i m a b. L .ahead i m (omega arith) b ∙ noted-waiting N i m;
+          known = λ m a. L .known m a ∙ noted-known N m;
+          visited = ap (λ h. h .visited) (L .fill);
+          left = ap (λ h. h .left) (L .fill);
+          kept = ap (λ h. h .kept) (L .fill);
+          moved = ap (λ h. h .moved) (L .fill);
+          both = omega (arith, ap (λ h. h .lip) (L .fill), ap (λ h. h .lsp) (L .fill));
+          lip = omega (arith, ap (λ h. h .lip) (L .fill));
+          lsp = omega (arith, ap (λ h. h .lsp) (L .fill));
+          place = omega (arith, R .place, Q .place);
+        }
 
 -- one after another
-pub tested-on : {C : Side Chan} {ps qs : List ℕ} {n : ℕ} {s out s₁ out₁ s₂ out₂ : List ℕ} {d d₁ d₂ : List ℤ} {w w₁ w₂ : Stand}
-    → Tested C ps n s out d w s₁ out₁ d₁ w₁ → Tested C qs n s₁ out₁ d₁ w₁ s₂ out₂ d₂ w₂ → Tested C (ps ++ qs) n s out d w s₂ out₂ d₂ w₂
-tested-on {C} {ps} {qs} {n} {s} {out} {d = d} {w = w} a b =
+pub tested-on : {run : Run} {body ps qs s out s₁ out₁ s₂ out₂ : List ℕ} {w w₁ w₂ : Stand}
+    → Tested run body ps s out w s₁ out₁ w₁ → Tested run body qs s₁ out₁ w₁ s₂ out₂ w₂ → Tested run body (ps ++ qs) s out w s₂ out₂ w₂
+tested-on {run} {body} {ps} {qs} {s} {out} {s₁} {out₁} {s₂} {w = w} {w₁} a b =
     let l : length (ps ++ qs) ≡ length ps + length qs = length-append ps qs in
+    let C : Side Chan = side run s body in
+    let same : side run s₁ body ≡ C = side-same (a .around) (a .fits .behind) body in
     record {
-      makes = b .makes ∙ ap (triedAll (listing C) qs) (a .makes) ∙ sym (triedAll-append (listing C) ps qs (course n s out d w));
+      makes =
+          b .makes ∙ ap (λ D. triedAll (listing D) qs (course (run .stretch) s₁ out₁ w₁)) same ∙ ap (triedAll (listing C) qs) (a .makes)
+          ∙ sym (triedAll-append (listing C) ps qs (course (run .stretch) s out w));
       todo = b .todo ∙ a .todo;
       fits = b .fits;
+      around = subst (λ (m : ℕ). Around run m s s₂) (a .moved) (around-then (a .around) (b .around) (omega (arith, a .moved)));
       ahead = λ i m g h. b .ahead i m (omega (arith, a .both, a .lsp)) h ∙ a .ahead i m (omega arith) h;
       known = λ m g. b .known m (omega (arith, a .lsp)) ∙ a .known m g;
       visited = b .visited ∙ a .visited;
@@ -114,75 +170,79 @@ tested-on {C} {ps} {qs} {n} {s} {out} {d = d} {w = w} a b =
       place = omega (arith, a .place, b .place);
     }
 
--- the four offspring of a block, one by one
-pub four-first : (z : Size) (first i : ℕ) → i < 2 → waiting i 1 (offspringList z (Block first)) ≡ (first + i) ∷ []
-unfolding waiting seg offspringList
-four-first z first zero h = ap (λ (x : ℕ). x ∷ []) (omega arith)
-four-first z first (suc zero) h = refl
-four-first z first (suc (suc i)) h = absurd (omega arith)
+-- the four from a tree number on, one by one
+four-at : (first i : ℕ) → i < 4 → seg i 1 (fourFrom first) ≡ (first + i) ∷ []
+unfolding seg
+four-at first zero h = ap (λ (x : ℕ). x ∷ []) (omega arith)
+four-at first (suc zero) h = refl
+four-at first (suc (suc zero)) h = refl
+four-at first (suc (suc (suc zero))) h = refl
+four-at first (suc (suc (suc (suc i)))) h = absurd (omega arith)
 
-pub four-below : (z : Size) (first i : ℕ) → 2 ≤ i → i < 4 → waiting i 1 (offspringList z (Block first)) ≡ (first + z .w + (i - 2)) ∷ []
-unfolding waiting seg offspringList
-four-below z first zero h l = absurd (omega arith)
-four-below z first (suc zero) h l = absurd (omega arith)
-four-below z first (suc (suc zero)) h l = ap (λ (x : ℕ). x ∷ []) (omega arith)
-four-below z first (suc (suc (suc zero))) h l = ap (λ (x : ℕ). x ∷ []) (omega arith)
-four-below z first (suc (suc (suc (suc i)))) h l = absurd (omega arith)
+module _ (run : Run) {from : Candidates} (i : ℕ) (s : List ℕ) (h : Choosing run from i s) where
+  pub choosing-waiting : from ≡ Waiting → (4 * run .stretch .n ≤ length s) × (i < run .stretch .n)
+  choosing-waiting e = subst (λ x. Choosing run x i s) e h
 
-module _ (run : Run) {from : Candidates} (i : ℕ) (s : List ℕ) where
-  pub choosing-waiting : from ≡ Waiting → Choosing run from i s → i < length s
-  choosing-waiting e h = subst (λ x. Choosing run x i s) e h
+  pub chosen-waiting : {r : ℕ} → from ≡ Waiting → waiting (run .stretch .n) i 1 s ≡ r ∷ [] → chosen (run .stretch .n) from i 1 s ≡ r ∷ []
+  chosen-waiting {r} e w = subst (λ x. chosen (run .stretch .n) x i 1 s ≡ r ∷ []) (sym e) w
 
-  pub chosen-waiting : {r : ℕ} → from ≡ Waiting → waiting i 1 s ≡ r ∷ [] → waiting i 1 (candidates (run .z) from s) ≡ r ∷ []
-  chosen-waiting {r} e h = subst (λ x. waiting i 1 (candidates (run .z) x s) ≡ r ∷ []) (sym e) h
-
-  module _ {first : ℕ} (e : from ≡ Four first) (h : Choosing run from i s) where
-    pub choosing-four : (i < 4) × (first + run .z .w + 1 < mostArea)
+  module _ {first : ℕ} (e : from ≡ Four first) where
+    pub choosing-four : (i < 4) × (first + 4 < 2 ^ 32)
     choosing-four = subst (λ x. Choosing run x i s) e h
 
-    pub chosen-first : i < 2 → waiting i 1 (candidates (run .z) from s) ≡ (first + i) ∷ []
-    chosen-first l = subst (λ x. waiting i 1 (candidates (run .z) x s) ≡ (first + i) ∷ []) (sym e) (four-first (run .z) first i l)
-
-    pub chosen-below : 2 ≤ i → waiting i 1 (candidates (run .z) from s) ≡ (first + run .z .w + (i - 2)) ∷ []
-    chosen-below l =
-        subst (λ x. waiting i 1 (candidates (run .z) x s) ≡ (first + run .z .w + (i - 2)) ∷ []) (sym e)
-        (four-below (run .z) first i l (choosing-four .0))
+    pub chosen-four : chosen (run .stretch .n) from i 1 s ≡ (first + i) ∷ []
+    chosen-four = subst (λ x. chosen (run .stretch .n) x i 1 s ≡ (first + i) ∷ []) (sym e) (four-at first i (choosing-four .0))
 
 -- the loop: the next coefficient is the one that was listed there at the beginning
-candidates-length : (run : Run) (from : Candidates) (m i : ℕ) (s : List ℕ) (w : Stand) → Testing run from m s w → i ≤ m → i ≤ length (candidates (run .z) from s)
-unfolding offspringList
-candidates-length run Waiting m i s w H h = omega (arith, H .room, H .fits .room)
-candidates-length run (Four first) m i s w H h = omega (arith, H .suited .0)
+module _ (run : Run) where
+  abbrev size : ℕ
+  size = run .stretch .n
 
-module _ (run : Run) (from : Candidates) {C : Side Chan} {m i : ℕ} {s out : List ℕ} {d : List ℤ} {w : Stand} {s₁ out₁ : List ℕ} {d₁ : List ℤ} {w₁ : Stand}
-    (H : Testing run from m s w) (T : Tested C (waiting 0 i (candidates (run .z) from s)) (run .n) s out d w s₁ out₁ d₁ w₁) (more : i < m) where
-  pub each-length : length (waiting 0 i (candidates (run .z) from s)) ≡ i
-  each-length = waiting-length 0 i (candidates (run .z) from s) (omega (arith, candidates-length run from m i s w H (omega arith)))
+  each-counted : (from : Candidates) {m : ℕ} (i : ℕ) {s : List ℕ} {w : Stand} → Testing run from m s w → i ≤ m → length (chosen size from 0 i s) ≡ i
+  each-counted Waiting i {s} H l = waiting-length size 0 i s (H .fits .room) (omega (arith, H .room))
+  each-counted (Four first) i H l = seg-length 0 i (fourFrom first) (omega (arith, H .suited .0))
 
-  listed-still : (from : Candidates) → Suited run from m w → length (waiting 0 i (candidates (run .z) from s)) ≡ i
-      → (Tested C (waiting 0 i (candidates (run .z) from s)) (run .n) s out d w s₁ out₁ d₁ w₁)
-      → waiting i 1 (candidates (run .z) from s₁) ≡ waiting i 1 (candidates (run .z) from s)
-  listed-still Waiting a l T = T .ahead i 1 (omega arith) (omega (arith, H .room))
-  listed-still (Four first) a l T = refl
+  each-more : (from : Candidates) (i : ℕ) (s : List ℕ) → chosen size from 0 (i + 1) s ≡ chosen size from 0 i s ++ chosen size from i 1 s
+  each-more Waiting i s = waiting-add size i 1 s
+  each-more (Four first) i s = seg-add 0 i 1 (fourFrom first) ∙ ap (λ (x : ℕ). seg 0 i (fourFrom first) ++ seg x 1 (fourFrom first)) (omega arith)
 
-  pub each-choosing : length s₁ ≡ length s → Choosing run from i s₁
-  each-choosing e = by from (H .suited)
-    where
-      by : (from : Candidates) → Suited run from m w → Choosing run from i s₁
-      by Waiting a = omega (arith, H .room, H .fits .room)
-      by (Four first) a = (omega (arith, a .0), a .1)
+  module _ {body : List ℕ} {m i : ℕ} {s out : List ℕ} {w : Stand} {s₁ out₁ : List ℕ} {w₁ : Stand} where
+    each-still : (from : Candidates) → Testing run from m s w → i < m → Tested run body (chosen size from 0 i s) s out w s₁ out₁ w₁
+        → chosen size from i 1 s₁ ≡ chosen size from i 1 s
+    each-still Waiting H l T =
+        let c = each-counted Waiting i H (omega arith) in
+        T .ahead i 1 (omega (arith, H .suited)) (omega (arith, H .room))
+    each-still (Four first) H l T = refl
 
-  pub each-next : {p : ℕ} {s₂ out₂ : List ℕ} {d₂ : List ℤ} {w₂ : Stand} → waiting i 1 (candidates (run .z) from s₁) ≡ p ∷ []
-      → Tested C (p ∷ []) (run .n) s₁ out₁ d₁ w₁ s₂ out₂ d₂ w₂ → Tested C (waiting 0 (i + 1) (candidates (run .z) from s)) (run .n) s out d w s₂ out₂ d₂ w₂
-  each-next {p} {s₂} {out₂} {d₂} {w₂} e U =
-      let a : waiting 0 i (candidates (run .z) from s) ++ (p ∷ []) ≡ waiting 0 (i + 1) (candidates (run .z) from s) =
-      sym (waiting-add i 1 (candidates (run .z) from s) ∙ ap (λ x. waiting 0 i (candidates (run .z) from s) ++ x) (sym (listed-still from (H .suited) each-length T) ∙ e)) in
-      subst (λ ps. Tested C ps (run .n) s out d w s₂ out₂ d₂ w₂) a (tested-on T U)
+    each-chosen : (from : Candidates) → Testing run from m s w → i < m → Tested run body (chosen size from 0 i s) s out w s₁ out₁ w₁
+        → Choosing run from i s₁
+    each-chosen Waiting H l T = (T .fits .room, omega (arith, H .room))
+    each-chosen (Four first) H l T = (omega (arith, H .suited .0), H .suited .1)
 
-pub each-none : (C : Side Chan) (qs : List ℕ) (n : ℕ) (s out : List ℕ) (d : List ℤ) (w : Stand) → Fits n s (w .fill)
-    → Tested C (waiting 0 0 qs) n s out d w s out d w
-each-none C qs n s out d w h = subst (λ ps. Tested C ps n s out d w s out d w) (sym (waiting-none 0 qs)) (tested-none C n s out d w h)
+    module _ {from : Candidates} (H : Testing run from m s w) (T : Tested run body (chosen size from 0 i s) s out w s₁ out₁ w₁) (more : i < m) where
+      pub each-length : length (chosen size from 0 i s) ≡ i
+      each-length = each-counted from i H (omega arith)
 
-pub each-done : {C : Side Chan} (qs : List ℕ) {n i m : ℕ} {s out : List ℕ} {d : List ℤ} {w : Stand} {s₁ out₁ : List ℕ} {d₁ : List ℤ} {w₁ : Stand} → i ≡ m
-    → Tested C (waiting 0 i qs) n s out d w s₁ out₁ d₁ w₁ → Tested C (waiting 0 m qs) n s out d w s₁ out₁ d₁ w₁
-each-done {C} qs {n} {s = s} {out} {d} {w} {s₁} {out₁} {d₁} {w₁} e T = subst (λ (x : ℕ). Tested C (waiting 0 x qs) n s out d w s₁ out₁ d₁ w₁) e T
+      pub each-choosing : Choosing run from i s₁
+      each-choosing = each-chosen from H more T
+
+      pub each-next : {x : ℕ} {s₂ out₂ : List ℕ} {w₂ : Stand} → chosen size from i 1 s₁ ≡ x ∷ []
+          → Tested run body (x ∷ []) s₁ out₁ w₁ s₂ out₂ w₂ → Tested run body (chosen size from 0 (i + 1) s) s out w s₂ out₂ w₂
+      each-next {x} {s₂} {out₂} {w₂} e U =
+          let a : chosen size from 0 i s ++ (x ∷ []) ≡ chosen size from 0 (i + 1) s =
+          sym (each-more from i s ∙ ap (λ z. chosen size from 0 i s ++ z) (sym (each-still from H more T) ∙ e)) in
+          subst (λ ps. Tested run body ps s out w s₂ out₂ w₂) a (tested-on T U)
+
+chosen-none : (n : ℕ) (from : Candidates) (s : List ℕ) → chosen n from 0 0 s ≡ []
+chosen-none n Waiting s = waiting-none n 0 s
+chosen-none n (Four first) s = seg-none 0 (fourFrom first)
+
+pub each-none : (run : Run) (body : List ℕ) (from : Candidates) (s out : List ℕ) (w : Stand) → Fits (run .stretch) s (w .fill)
+    → Tested run body (chosen (run .stretch .n) from 0 0 s) s out w s out w
+each-none run body from s out w h =
+    subst (λ ps. Tested run body ps s out w s out w) (sym (chosen-none (run .stretch .n) from s)) (tested-none run body s out w h)
+
+pub each-done : {run : Run} {body : List ℕ} (from : Candidates) (i m : ℕ) {s out : List ℕ} {w : Stand} {s₁ out₁ : List ℕ} {w₁ : Stand} → i ≡ m
+    → Tested run body (chosen (run .stretch .n) from 0 i s) s out w s₁ out₁ w₁ → Tested run body (chosen (run .stretch .n) from 0 m s) s out w s₁ out₁ w₁
+each-done {run} {body} from i m {s} {out} {w} {s₁} {out₁} {w₁} e T =
+    subst (λ (j : ℕ). Tested run body (chosen (run .stretch .n) from 0 j s) s out w s₁ out₁ w₁) e T

@@ -1,33 +1,110 @@
--- The leaves that branch on the side: the coder's answers on a coefficient; a coefficient written or not.
-use mathlib.Core.Path.{_≡_, _∙_}
-use mathlib.Core.Bool.{Bool, true, false}
+-- The leaves that branch on the side: a word read, the coder's answers, and a word drawn or not.
+use mathlib.Core.Path.{_≡_, refl, ap, _∙_}
+use mathlib.Core.Bool.{Bool, cond, true}
 use mathlib.Core.List.{List}
-use Prim.Native.Nat.{ℕ, _/_, _%_, _^_}
-use lib.IntN.{ℤ}
-use lib.Dec.{leb, eqb}
-use Rattle.bits.specs.declared.BitPosition.{BitPosition}
-use Rattle.rules.specs.Document.Pyramid.{magnitude, negative}
-use Rattle.rules.specs.Document.Passes.{significant?, negative?, bit?, Event, truth, written}
+use Prim.Native.Nat.{ℕ, _+_, _-_, _*_, _/_, _%_, _≤_, _<_, _^_}
+use native.Mathlib.Omega.{arith}
+use lib.Dec.{leb, ltb, eqb}
+use lib.ListN.{getD, set}
+use borrow.Author.Tests.{le-leb, lt-leb}
+use Rattle.rules.specs.Document.Passes.{Entry, significant?, negative?, bit?, set?, Event, toLsp, refined}
+use Rattle.coefficients.specs.Words.{wordOf}
+use Rattle.stretches.specs.Cut.{valuesIn, maximaIn, ValueSet}
+use Rattle.lists.specs.declared.Set.{Set}
+use Rattle.lists.specs.declared.Set.the-variants.{TypeA, TypeB}
+use Rattle.lists.specs.Lists.{entryOf, indexOf}
+use Rattle.testing.specs.declared.Role.the-variants.{Codes, Reads}
 use Rattle.testing.specs.declared.Run.{Run}
-use Rattle.testing.specs.Exchange.{noted, answer}
+use Rattle.testing.specs.Exchange.{localWord, wordAt, largestAt, wordsTell, answer, drawn, noted, Noted, reading, reads}
+use Rattle.testing.specs.Growing.{word-local}
 
-module _ (run : Run) (pyramid : List ℤ) (body out : List ℕ) (at : BitPosition) where
-  pub says-significant : {t m : ℕ} (p : ℕ) → t ≡ 2 ^ run .plane .0 → m ≡ magnitude pyramid p → leb t m ≡ answer run pyramid body (significant? p)
-  unfolding answer truth
-  says-significant p e f = rw (e, f)
+pub word-outside : (first : ℕ) (vs : List ℕ) (x : ℕ) → x < first → 0 ≡ localWord first vs x
+unfolding localWord
+word-outside first vs x l = rw (lt-leb first x l)
 
-  pub says-negative : {b : Bool} (p : ℕ) → b ≡ negative pyramid p → b ≡ answer run pyramid body (negative? p)
-  unfolding answer truth
-  says-negative p e = e
+pub word-inside : (first : ℕ) (vs : List ℕ) (x : ℕ) {r : ℕ} → first ≤ x → r ≡ getD vs (x - first) 0 → r ≡ localWord first vs x
+unfolding localWord
+word-inside first vs x l e = e ∙ rw (le-leb first x l)
 
-  pub says-bit : {m : ℕ} (p : ℕ) → m ≡ magnitude pyramid p → eqb (m / 2 ^ run .plane .0 % 2) 1 ≡ answer run pyramid body (bit? p)
-  unfolding answer truth
-  says-bit p e = rw e
+-- a set's maximum
+module _ (run : Run) (s : List ℕ) {e : Set} {x : ℕ} where
+  pub largest-outside-A : e ≡ TypeA x → x < run .parents → 0 ≡ largestAt run s (entryOf e)
+  unfolding largestAt
+  largest-outside-A i l = rw (i, lt-leb (run .parents) x l)
 
-pub noted-written : (run : Run) (e : Event) (d : List ℤ) {d′ : List ℤ} → run .reads ≡ true → d′ ≡ written (run .plane .0) e d → d′ ≡ noted run e d
-unfolding noted
-noted-written run e d h i = i ∙ rw h
+  pub largest-outside-B : e ≡ TypeB x → x < run .elders → 0 ≡ largestAt run s (entryOf e)
+  unfolding largestAt
+  largest-outside-B i l = rw (i, lt-leb (run .elders) x l)
 
-pub noted-none : (run : Run) (e : Event) (d : List ℤ) → run .reads ≡ false → d ≡ noted run e d
-unfolding noted
-noted-none run e d h = rw h
+  pub largest-A : {m : ℕ} → e ≡ TypeA x → run .parents ≤ x → m ≡ getD (maximaIn (run .stretch .n) s) (x - run .parents) 0
+      → m % 32 ≡ largestAt run s (entryOf e)
+  unfolding largestAt
+  largest-A i l h = rw (h, i, le-leb (run .parents) x l)
+
+  pub largest-B : {m : ℕ} → e ≡ TypeB x → run .elders ≤ x → m ≡ getD (maximaIn (run .stretch .n) s) (4 * (x - run .elders)) 0
+      → m / 32 ≡ largestAt run s (entryOf e)
+  unfolding largestAt
+  largest-B i l h = rw (h, i, le-leb (run .elders) x l)
+
+pub index-B : {e : Set} {x : ℕ} → e ≡ TypeB x → indexOf e ≡ x
+index-B i = rw i
+
+-- the coder's answers
+module _ (run : Run) (s : List ℕ) where
+  pub says-significant : {t m : ℕ} (x : ℕ) → t ≡ 2 ^ run .plane .0 → m ≡ wordAt run s x → leb t (m / 2) ≡ answer run s (significant? x)
+  unfolding answer wordsTell
+  says-significant x e f = rw (e, f)
+
+  pub says-negative : {m : ℕ} (x : ℕ) → m ≡ wordAt run s x → eqb (m % 2) 1 ≡ answer run s (negative? x)
+  unfolding answer wordsTell
+  says-negative x e = rw e
+
+  pub says-bit : {m : ℕ} (x : ℕ) → m ≡ wordAt run s x → eqb (m / 2 / 2 ^ run .plane .0 % 2) 1 ≡ answer run s (bit? x)
+  unfolding answer wordsTell
+  says-bit x e = rw e
+
+  pub says-set : {m : ℕ} (e : Entry) → m ≡ largestAt run s e → ltb (run .plane .0 + 1) m ≡ answer run s (set? e)
+  unfolding answer wordsTell
+  says-set e i = rw i
+
+-- what is noted: by the coder nothing, by the decoder a word of the level
+module _ (run : Run) (s : List ℕ) where
+  unchanged : (e : Event) → valuesIn (run .stretch .n) s ≡ noted run e (valuesIn (run .stretch .n) s) → Noted run e s s
+  unchanged e h = record { long = refl; values = h; others = λ i l. refl }
+
+  pub noted-coder : (e : Event) → run .role ≡ Codes → Noted run e s s
+  unfolding noted
+  noted-coder e h = unchanged e (rw h)
+
+  module _ (x : ℕ) (b : Bool) (r : run .role ≡ Reads) where
+    pub found-outside : x < run .first → Noted run (toLsp x b) s s
+    unfolding noted drawn
+    found-outside l = unchanged (toLsp x b) (rw (r, lt-leb (run .first) x l))
+
+    pub refined-outside : x < run .first → Noted run (refined x b) s s
+    unfolding noted drawn
+    refined-outside l = unchanged (refined x b) (rw (r, lt-leb (run .first) x l))
+
+    module _ {w : ℕ} {s′ : List ℕ} (l : run .first ≤ x) (drew : ValueSet (run .stretch .n) s (x - run .first) w s′) where
+      pub found-drawn : w ≡ wordOf b (2 ^ run .plane .0) → Noted run (toLsp x b) s s′
+      unfolding noted drawn
+      found-drawn e =
+          record {
+            long = drew .long;
+            values = drew .values ∙ ap (λ (y : ℕ). set (valuesIn (run .stretch .n) s) (x - run .first) y) e ∙ rw (r, le-leb (run .first) x l);
+            others = drew .others;
+          }
+
+      pub refined-drawn : {old : ℕ} → old ≡ getD (valuesIn (run .stretch .n) s) (x - run .first) 0 → w ≡ old + cond b (2 * 2 ^ run .plane .0) 0
+          → Noted run (refined x b) s s′
+      unfolding noted drawn
+      refined-drawn o e =
+          record {
+            long = drew .long;
+            values = drew .values ∙ ap (λ (y : ℕ). set (valuesIn (run .stretch .n) s) (x - run .first) y) e ∙ rw (r, o, le-leb (run .first) x l);
+            others = drew .others;
+          }
+
+pub word-small : (run : Run) (vs : List ℕ) (x : ℕ) {old : ℕ} → run .role ≡ Reads → run .first ≤ x → old ≡ getD vs (x - run .first) 0
+    → (reads run ≡ true → localWord (run .first) vs x < 2 ^ 30) → old < 2 ^ 31
+word-small run vs x r l e h = omega (arith, word-local (run .first) vs x l, h (ap reading r))

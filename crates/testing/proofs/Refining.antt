@@ -1,78 +1,126 @@
--- Step 3: what the refinement of a coefficient makes of a side, the loop over LSP, and how large a coefficient is in its midst.
+-- Step 3: what the refinement of a coefficient makes of a side, the loop over LSP, and how large a word is in its midst.
+use mathlib.Core.Bool.{true}
 use mathlib.Core.Path.{_≡_, refl, sym, ap, ap₂, _∙_, subst}
 use mathlib.Core.List.{List, [], _∷_, _++_}
 use Prim.Native.Nat.{ℕ, _+_, _-_, _*_, _≤_, _<_, _^_}
 use native.Mathlib.Nat.{mul-le-mul-left}
 use native.Mathlib.Omega.{arith}
-use lib.IntN.{ℤ}
+use lib.ListN.{length-append}
 use Rattle.bits.specs.declared.BitPosition.{BitPosition}
 use Rattle.bits.specs.declared.BitRead.{BitRead}
 use Rattle.rules.specs.Document.Passes.{bit?, refined, Side}
 use Rattle.rules.specs.Laws.Pass.Steps.{bitNoted, sharpened, sharpenedAll, sharpenedAll-append}
-use Rattle.rules.specs.Document.Pyramid.{magnitude}
 use Rattle.rules.specs.Laws.Counting.Sums.{sum, is, sum-append}
-use Rattle.lists.specs.Seg.{seg}
-use Rattle.lists.specs.Stretch.{lspFrom, known, known-add, known-none}
+use Rattle.stretches.specs.Seg.{seg, seg-same}
+use Rattle.stretches.specs.Cut.{lspFrom, maximaFrom, valuesIn, values-same, maxima-same}
+use Rattle.lists.specs.Lists.{known, known-add, known-none, known-length}
 use Rattle.testing.specs.declared.Run.{Run}
-use Rattle.testing.specs.Exchange.{Chan, chan, noted, side, notes, Replied}
-use Rattle.testing.specs.Growing.{Growth, refined-most}
+use Rattle.testing.specs.Exchange.{Chan, chan, localWord, wordAt, side, notes, Replied, Noted, noted-values, side-kept, reads}
+use Rattle.testing.specs.Growing.{refined-most}
+use Rattle.testing.specs.Finding.{Refining, Refined}
 
-pub refined-one : (run : Run) (pyramid : List ℤ) (body : List ℕ) (d : List ℤ) {out out₁ : List ℕ} {d₁ : List ℤ} {at : BitPosition} {p : ℕ} {bit : BitRead}
-    → Replied (side run pyramid body) (bit? p) out at bit out₁ → d₁ ≡ noted run (refined p (bit .bit)) d
-    → chan out₁ d₁ (bit .next .at) ≡ sharpened (side run pyramid body) p (chan out d (at .at))
-unfolding sharpened bitNoted
-refined-one run pyramid body d {out} {out₁} {d₁} {at} {p} {bit} R e =
-    sym
-    (ap₂ (λ b y. side run pyramid body .note (refined p b) y) (R .bit d) (R .next d)
-    ∙ notes run pyramid body (refined p (bit .bit)) out₁ d (bit .next .at) ∙ ap (λ y. chan out₁ y (bit .next .at)) (sym e))
+pub refined-one : (run : Run) (body s out : List ℕ) (at : BitPosition) (x : ℕ) {bit : BitRead} {s₁ out₁ : List ℕ}
+    → Replied (side run s body) (bit? x) out at bit out₁ → Noted run (refined x (bit .bit)) s s₁
+    → Refined run body (x ∷ []) s out at s₁ out₁ (bit .next)
+unfolding sharpenedAll sharpened bitNoted
+refined-one run body s out at x {bit} {s₁} {out₁} R N =
+    let vs = valuesIn (run .stretch .n) s in
+    record {
+      makes =
+          sym
+          (ap₂ (λ b y. side run s body .note (refined x b) y) (R .bit vs) (R .next vs)
+          ∙ notes run s body (refined x (bit .bit)) out₁ vs (bit .next .at) ∙ ap (λ v. chan out₁ v (bit .next .at)) (sym (N .values)));
+      place = R .place;
+      long = N .long;
+      values = noted-values N;
+      others = N .others;
+    }
+
+module _ {run : Run} {body ps s out : List ℕ} {at : BitPosition} {s₁ out₁ : List ℕ} {at₁ : BitPosition} (a : Refined run body ps s out at s₁ out₁ at₁) where
+  abbrev n : ℕ
+  n = run .stretch .n
+
+  refined-known : (m : ℕ) → known n m s₁ ≡ known n m s
+  unfolding known lspFrom
+  refined-known m = seg-same (n + n) m s s₁ (a .long) (λ i l k. a .others i (omega arith))
+
+  refined-side : side run s₁ body ≡ side run s body
+  unfolding maximaFrom
+  refined-side =
+      side-kept run s s₁ (λ r. values-same n s s₁ (a .long) (a .values r)) (maxima-same n s s₁ (a .long) (λ i l k. a .others i (omega arith))) body
+
+  refined-on : {qs s₂ out₂ : List ℕ} {at₂ : BitPosition} → Refined run body qs s₁ out₁ at₁ s₂ out₂ at₂ → Refined run body (ps ++ qs) s out at s₂ out₂ at₂
+  refined-on {qs} b =
+      let C : Side Chan = side run s body in
+      record {
+        makes =
+            b .makes ∙ ap (λ D. sharpenedAll D qs (chan out₁ (valuesIn n s₁) (at₁ .at))) refined-side ∙ ap (sharpenedAll C qs) (a .makes)
+            ∙ sym (sharpenedAll-append C ps qs (chan out (valuesIn n s) (at .at)));
+        place = omega (arith, a .place, b .place, length-append ps qs);
+        long = b .long ∙ a .long;
+        values = λ r i h. b .values r i h ∙ a .values r i h;
+        others = λ i h. b .others i h ∙ a .others i h;
+      }
 
 -- the loop over LSP
-one-sharpened : {S : Type 0} (C : Side S) (p : ℕ) (x : S) → sharpenedAll C (p ∷ []) x ≡ sharpened C p x
+pub refined-none : (run : Run) (body s out : List ℕ) (at : BitPosition) → Refined run body (known (run .stretch .n) 0 s) s out at s out at
 unfolding sharpenedAll
-one-sharpened C p x = refl
+refined-none run body s out at =
+    subst (λ ps. Refined run body ps s out at s out at) (sym (known-none (run .stretch .n) s))
+    (record { makes = refl; place = omega arith; long = refl; values = λ r i h. refl; others = λ i h. refl })
 
-pub refined-none : (C : Side Chan) (n : ℕ) (s : List ℕ) (x : Chan) → x ≡ sharpenedAll C (known n 0 s) x
-unfolding sharpenedAll
-refined-none C n s x = ap (λ ps. sharpenedAll C ps x) (sym (known-none n s))
+module _ {run : Run} {body : List ℕ} {i m : ℕ} {s out : List ℕ} {at : BitPosition} {s₁ out₁ : List ℕ} {at₁ : BitPosition}
+    (H : Refining run m s at) (T : Refined run body (known (run .stretch .n) i s) s out at s₁ out₁ at₁) (more : i < m) where
+  abbrev size : ℕ
+  size = run .stretch .n
 
-pub refined-next : (C : Side Chan) (n i p : ℕ) (s : List ℕ) (x : Chan) {y z : Chan} → y ≡ sharpenedAll C (known n i s) x
-    → known n (i + 1) s ≡ known n i s ++ (p ∷ []) → z ≡ sharpened C p y → z ≡ sharpenedAll C (known n (i + 1) s) x
-refined-next C n i p s x a e b =
-    b ∙ ap (sharpened C p) a
-    ∙ sym
-    (ap (λ ps. sharpenedAll C ps x) e ∙ sharpenedAll-append C (known n i s) (p ∷ []) x ∙ one-sharpened C p (sharpenedAll C (known n i s) x))
+  pub refining-next : {x : ℕ} {s₂ out₂ : List ℕ} {at₂ : BitPosition} → known size (i + 1) s₁ ≡ known size i s₁ ++ (x ∷ [])
+      → Refined run body (x ∷ []) s₁ out₁ at₁ s₂ out₂ at₂ → Refined run body (known size (i + 1) s) s out at s₂ out₂ at₂
+  refining-next {x} {s₂} {out₂} {at₂} e U =
+      let a : known size i s ++ (x ∷ []) ≡ known size (i + 1) s =
+      sym (sym (refined-known T (i + 1)) ∙ e ∙ ap (λ z. z ++ (x ∷ [])) (refined-known T i)) in
+      subst (λ ps. Refined run body ps s out at s₂ out₂ at₂) a (refined-on T U)
 
--- Of LSP each coefficient is refined once, so none grows by more than 2^n.
-module _ (run : Run) (pyramid : List ℤ) (body : List ℕ) where
+  pub refining-place : at₁ .at < 2 ^ 62
+  refining-place = omega (arith, T .place, H .place, known-length size i s (H .room) (omega (arith, H .few)))
+
+-- Of LSP each coefficient is refined once, so none grows by more than twice 2^n.
+module _ (run : Run) (s body : List ℕ) where
   abbrev C : Side Chan
-  C = side run pyramid body
+  C = side run s body
 
   abbrev a : ℕ
-  a = 2 ^ run .plane .0
+  a = 2 * 2 ^ run .plane .0
 
-  sharpened-most : (p : ℕ) (x : Chan) (q : ℕ) → magnitude (sharpened C p x .pyramid) q ≤ magnitude (x .pyramid) q + a * is q p
+  sharpened-most : (x : ℕ) (y : Chan) (q : ℕ) → localWord (run .first) (sharpened C x y .values) q ≤ localWord (run .first) (y .values) q + a * is q x
   unfolding sharpened bitNoted side
-  sharpened-most p x q = refined-most run pyramid body p _ (x .pyramid) q
+  sharpened-most x y q = refined-most run x _ (y .values) q
 
-  sharpenedAll-most : (ps : List ℕ) (x : Chan) (q : ℕ) → magnitude (sharpenedAll C ps x .pyramid) q ≤ magnitude (x .pyramid) q + a * sum (is q) ps
+  sharpenedAll-most : (ps : List ℕ) (y : Chan) (q : ℕ)
+      → localWord (run .first) (sharpenedAll C ps y .values) q ≤ localWord (run .first) (y .values) q + a * sum (is q) ps
   unfolding sharpenedAll sum
-  sharpenedAll-most [] x q = omega arith
-  sharpenedAll-most (p ∷ ps) x q = omega (arith, sharpenedAll-most ps (sharpened C p x) q, sharpened-most p x q)
+  sharpenedAll-most [] y q = omega arith
+  sharpenedAll-most (x ∷ ps) y q = omega (arith, sharpenedAll-most ps (sharpened C x y) q, sharpened-most x y q)
 
-  -- in the midst of the loop over LSP
-  pub refining-small : (n i m : ℕ) (s : List ℕ) (out : List ℕ) (d : List ℤ) (t : ℕ) {out₁ : List ℕ} {d₁ : List ℤ} {u : ℕ} → i ≤ m → Growth (run .plane .0) (2 ^ 30) d (known n m s)
-      → chan out₁ d₁ u ≡ sharpenedAll C (known n i s) (chan out d t) → (q : ℕ) → magnitude d₁ q < 2 ^ 30
-  refining-small n i m s out d t l G e q =
-      let j : i + (m - i) ≡ m = omega arith in
-      let k : sum (is q) (known n m s) ≡ sum (is q) (known n i s) + sum (is q) (seg (lspFrom n + i) (m - i) s) =
-      ap (λ (x : ℕ). sum (is q) (known n x s)) (sym j) ∙ ap (sum (is q)) (known-add n i (m - i) s) ∙ sum-append (is q) (known n i s) _ in
-      let g : a * sum (is q) (known n i s) ≤ a * sum (is q) (known n m s) = mul-le-mul-left a (omega arith) in
-      omega (
-        arith,
-        ap (λ x. magnitude (x .pyramid) q) e,
-        sharpenedAll-most (known n i s) (chan out d t) q,
-        G .small q,
-      )
+-- in the midst of the loop over LSP
+pub refining-small : {run : Run} {body : List ℕ} {i m : ℕ} {s out : List ℕ} {at : BitPosition} {s₁ out₁ : List ℕ} {at₁ : BitPosition}
+    → Refining run m s at → Refined run body (known (run .stretch .n) i s) s out at s₁ out₁ at₁ → i ≤ m → (x : ℕ)
+    → reads run ≡ true → wordAt run s₁ x < 2 ^ 30
+refining-small {run} {body} {i} {m} {s} {out} {at} H T l q r =
+    let n = run .stretch .n in
+    let a : ℕ = 2 * 2 ^ run .plane .0 in
+    let j : i + (m - i) ≡ m = omega arith in
+    let k : sum (is q) (known n m s) ≡ sum (is q) (known n i s) + sum (is q) (seg (lspFrom n + i) (m - i) s) =
+    ap (λ (x : ℕ). sum (is q) (known n x s)) (sym j) ∙ ap (sum (is q)) (known-add n i (m - i) s) ∙ sum-append (is q) (known n i s) _ in
+    let g : a * sum (is q) (known n i s) ≤ a * sum (is q) (known n m s) = mul-le-mul-left a (omega arith) in
+    omega (
+      arith,
+      ap (λ x. localWord (run .first) (x .values) q) (T .makes),
+      sharpenedAll-most run s body (known n i s) (chan out (valuesIn n s) (at .at)) q,
+      H .growth r .small q,
+    )
 
-pub refined-done : (C : Side Chan) (n : ℕ) {i m : ℕ} (s : List ℕ) (x : Chan) {y : Chan} → i ≡ m → y ≡ sharpenedAll C (known n i s) x → y ≡ sharpenedAll C (known n m s) x
-refined-done C n s x {y} e h = subst (λ (j : ℕ). y ≡ sharpenedAll C (known n j s) x) e h
+pub refined-done : {run : Run} {body : List ℕ} {i m : ℕ} {s out : List ℕ} {at : BitPosition} {s₁ out₁ : List ℕ} {at₁ : BitPosition} → i ≡ m
+    → Refined run body (known (run .stretch .n) i s) s out at s₁ out₁ at₁ → Refined run body (known (run .stretch .n) m s) s out at s₁ out₁ at₁
+refined-done {run} {body} {s = s} {out} {at} {s₁} {out₁} {at₁} e T =
+    subst (λ (j : ℕ). Refined run body (known (run .stretch .n) j s) s out at s₁ out₁ at₁) e T

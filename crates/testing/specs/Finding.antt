@@ -1,59 +1,65 @@
--- What the tests of single coefficients ask for, and what they leave, in a level's stretch, in the output and in the coefficients.
+-- What the tests of single coefficients and their refinement ask for, and what they leave, in a level's stretch and in the output.
 use mathlib.Core.Path.{_≡_, refl}
-use mathlib.Core.List.{List, []}
+use mathlib.Core.List.{List, [], _∷_}
+use mathlib.Core.Bool.{true, false}
 use Prim.Native.Nat.{ℕ, _+_, _*_, _≤_, _<_, _^_}
 use native.Mathlib.Omega.{arith}
-use lib.ListN.{length}
-use lib.IntN.{ℤ}
-use Rattle.rules.specs.declared.Size.{Size}
-use Rattle.rules.specs.Document.Pyramid.{mostArea, mostPlanes}
-use Rattle.rules.specs.Document.Passes.{Side, Course, listing}
-use Rattle.rules.specs.Laws.Pass.Steps.{triedAll}
-use Rattle.shape.specs.declared.Offspring.the-variants.{Block}
-use Rattle.shape.specs.Offspring.{offspringList}
-use Rattle.lists.specs.Stretch.{waiting, known, Held, held, Fits}
+use lib.ListN.{length, getD}
+use Rattle.bits.specs.declared.BitPosition.{BitPosition}
+use Rattle.rules.specs.Document.Pyramid.{mostPlanes}
+use Rattle.rules.specs.Document.Passes.{Course, listing}
+use Rattle.rules.specs.Laws.Pass.Steps.{triedAll, sharpenedAll}
+use Rattle.stretches.specs.Seg.{seg}
+use Rattle.stretches.specs.Cut.{valuesIn, maximaFrom}
+use Rattle.lists.specs.declared.Stretch.{Stretch}
+use Rattle.lists.specs.Lists.{waiting, known, Held, held, Fits}
 use Rattle.testing.specs.declared.Run.{Run}
 use Rattle.testing.specs.declared.Stand.{Stand}
 use Rattle.testing.specs.declared.Candidates.{Candidates}
 use Rattle.testing.specs.declared.Candidates.the-variants.{Waiting, Four}
-use Rattle.testing.specs.Exchange.{Chan, chan}
+use Rattle.testing.specs.Exchange.{Chan, chan, side, reads, Around, around-none}
+use Rattle.testing.specs.Growing.{Growth}
 
 -- where a pass stands: the lists that it has made so far, and its side
 abbrev pub courseOf : Held → Chan → Course Chan
 courseOf h x = record { lip = h .lip; lsp = h .lsp; lis = h .kept; moved = h .moved; side = x }
 
-abbrev pub course : ℕ → List ℕ → List ℕ → List ℤ → Stand → Course Chan
-course n s out d w = courseOf (held n s (w .fill)) (chan out d (w .at .at))
+abbrev pub course : Stretch → List ℕ → List ℕ → Stand → Course Chan
+course t s out w = courseOf (held t s (w .fill)) (chan out (valuesIn (t .n) s) (w .at .at))
 
--- where the coefficients to test are listed
-abbrev pub candidates : Size → Candidates → List ℕ → List ℕ
-candidates z Waiting s = s
-candidates z (Four first) s = offspringList z (Block first)
+-- the coefficients to test, m of them from the i-th on
+abbrev pub fourFrom : ℕ → List ℕ
+fourFrom x = x ∷ (x + 1) ∷ (x + 2) ∷ (x + 3) ∷ []
+
+abbrev pub chosen : ℕ → Candidates → ℕ → ℕ → List ℕ → List ℕ
+chosen n Waiting i m s = waiting n i m s
+chosen n (Four first) i m s = seg i m (fourFrom first)
 
 abbrev pub Choosing : Run → Candidates → ℕ → List ℕ → Type 0
-Choosing run Waiting i s = i < length s
-Choosing run (Four first) i s = (i < 4) × (first + run .z .w + 1 < mostArea)
+Choosing run Waiting i s = (4 * run .stretch .n ≤ length s) × (i < run .stretch .n)
+Choosing run (Four first) i s = (i < 4) × (first + 4 < 2 ^ 32)
 
 -- What the tests of m of them ask for: LIP must be empty where its own entries are tested, as those that stay are put to its front.
-abbrev pub Suited : Run → Candidates → ℕ → Stand → Type 0
-Suited run Waiting m w = w .fill .lip ≤ 0
-Suited run (Four first) m w = (m ≤ 4) × (first + run .z .w + 1 < mostArea)
+abbrev pub Suited : Candidates → ℕ → Stand → Type 0
+Suited Waiting m w = w .fill .lip ≤ 0
+Suited (Four first) m w = (m ≤ 4) × (first + 4 < 2 ^ 32)
 
 pub record Testing (run : Run) (from : Candidates) (m : ℕ) (s : List ℕ) (w : Stand) : Type 0 where
   pub plane : run .plane .0 < mostPlanes
-  pub fits : Fits (run .n) s (w .fill)
-  pub room : w .fill .lip + w .fill .lsp + m ≤ run .n
+  pub size : run .stretch .n < 2 ^ 32
+  pub fits : Fits (run .stretch) s (w .fill)
+  pub room : w .fill .lip + w .fill .lsp + m ≤ run .stretch .n
   pub place : w .at .at + 2 * m < 2 ^ 62
-  pub suited : Suited run from m w
+  pub suited : Suited from m w
 
 -- The coefficients ps were tested. What lies ahead in LIP, what was in LSP, and the sets are as they were.
-pub record Tested (C : Side Chan) (ps : List ℕ) (n : ℕ) (s out : List ℕ) (d : List ℤ) (w : Stand)
-    (s′ out′ : List ℕ) (d′ : List ℤ) (r : Stand) : Type 0 where
-  pub makes : course n s′ out′ d′ r ≡ triedAll (listing C) ps (course n s out d w)
-  pub todo : held n s′ (r .fill) .todo ≡ held n s (w .fill) .todo
-  pub fits : Fits n s′ (r .fill)
-  pub ahead : (i m : ℕ) → w .fill .lip + length ps ≤ i → i + m ≤ n → waiting i m s′ ≡ waiting i m s
-  pub known : (m : ℕ) → m ≤ w .fill .lsp → known n m s′ ≡ known n m s
+pub record Tested (run : Run) (body : List ℕ) (ps s out : List ℕ) (w : Stand) (s′ out′ : List ℕ) (r : Stand) : Type 0 where
+  pub makes : course (run .stretch) s′ out′ r ≡ triedAll (listing (side run s body)) ps (course (run .stretch) s out w)
+  pub todo : held (run .stretch) s′ (r .fill) .todo ≡ held (run .stretch) s (w .fill) .todo
+  pub fits : Fits (run .stretch) s′ (r .fill)
+  pub around : Around run (w .fill .moved) s s′
+  pub ahead : (i m : ℕ) → w .fill .lip + length ps ≤ i → i + m ≤ run .stretch .n → waiting (run .stretch .n) i m s′ ≡ waiting (run .stretch .n) i m s
+  pub known : (m : ℕ) → m ≤ w .fill .lsp → known (run .stretch .n) m s′ ≡ known (run .stretch .n) m s
   pub visited : r .fill .visited ≡ w .fill .visited
   pub left : r .fill .left ≡ w .fill .left
   pub kept : r .fill .kept ≡ w .fill .kept
@@ -64,13 +70,14 @@ pub record Tested (C : Side Chan) (ps : List ℕ) (n : ℕ) (s out : List ℕ) (
   pub place : r .at .at ≤ w .at .at + 2 * length ps
 
 -- none tested
-pub tested-none : (C : Side Chan) (n : ℕ) (s out : List ℕ) (d : List ℤ) (w : Stand) → Fits n s (w .fill) → Tested C [] n s out d w s out d w
+pub tested-none : (run : Run) (body s out : List ℕ) (w : Stand) → Fits (run .stretch) s (w .fill) → Tested run body [] s out w s out w
 unfolding triedAll
-tested-none C n s out d w h =
+tested-none run body s out w h =
     record {
       makes = refl;
       todo = refl;
       fits = h;
+      around = around-none run (w .fill .moved) s;
       ahead = λ i m a b. refl;
       known = λ m a. refl;
       visited = refl;
@@ -82,3 +89,26 @@ tested-none C n s out d w h =
       lsp = omega arith;
       place = omega arith;
     }
+
+-- Entries of LSP are to be refined.
+pub record Refining (run : Run) (m : ℕ) (s : List ℕ) (at : BitPosition) : Type 0 where
+  pub plane : run .plane .0 < mostPlanes
+  pub size : run .stretch .n < 2 ^ 32
+  pub room : 4 * run .stretch .n ≤ length s
+  pub few : m ≤ run .stretch .n
+  pub place : at .at + m < 2 ^ 62
+  pub growth : reads run ≡ true → Growth (run .first) (run .plane .0) (2 ^ 30) (valuesIn (run .stretch .n) s) (known (run .stretch .n) m s)
+
+-- The coefficients ps were refined: nothing but values has changed.
+pub record Refined (run : Run) (body : List ℕ) (ps s out : List ℕ) (at : BitPosition) (s′ out′ : List ℕ) (r : BitPosition) : Type 0 where
+  pub makes : chan out′ (valuesIn (run .stretch .n) s′) (r .at) ≡ sharpenedAll (side run s body) ps (chan out (valuesIn (run .stretch .n) s) (at .at))
+  pub place : r .at ≡ at .at + length ps
+  pub long : length s′ ≡ length s
+  pub values : reads run ≡ false → (i : ℕ) → i < run .stretch .n → getD s′ i 0 ≡ getD s i 0
+  pub others : (i : ℕ) → run .stretch .n ≤ i → getD s′ i 0 ≡ getD s i 0
+
+pub around-refined : {run : Run} {body ps s out : List ℕ} {at : BitPosition} {s′ out′ : List ℕ} {r : BitPosition} (m : ℕ)
+    → Refined run body ps s out at s′ out′ r → 4 * run .stretch .n ≤ run .stretch .away → Around run m s s′
+unfolding maximaFrom
+around-refined m R b =
+    record { long = R .long; values = R .values; others = λ i h k. R .others i (omega arith); rest = λ i h. R .others i (omega arith) }

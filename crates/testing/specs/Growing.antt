@@ -1,4 +1,4 @@
--- How large a coefficient can grow: whatever a pass finds and refines, none outgrows its bound.
+-- How large a word can grow: whatever a pass finds and refines, none outgrows its bound.
 use mathlib.Core.Path.{_≡_, refl, ap}
 use mathlib.Core.Bool.{Bool, true, false, cond}
 use mathlib.Core.List.{List, _∷_}
@@ -6,92 +6,118 @@ use Prim.Native.Nat.{ℕ, _+_, _-_, _*_, _≤_, _<_, _^_}
 use native.Mathlib.Nat.{mul-le-mul-left}
 use native.Mathlib.Decide.{ℕ-discrete, decLt}
 use native.Mathlib.Omega.{arith}
+use lib.Dec.{leb}
 use lib.ListN.{length, getD, set}
 use lib.Seq.{getD-set-same, getD-set-other, set-out}
-use lib.IntN.{ℤ, pos, negsuc, natAbs}
-use Rattle.rules.specs.Document.Pyramid.{Family, magnitude}
-use Rattle.rules.specs.Document.Passes.{toLsp, refined, Side, listed, listing, signed, grown, written}
+use borrow.Author.Tests.{leb-true, le-leb}
+use Rattle.rules.specs.Document.Pyramid.{Family}
+use Rattle.rules.specs.Document.Passes.{toLsp, refined, listed, listing}
 use Rattle.rules.specs.Laws.Pass.Steps.{signNoted, bitNoted}
 use Rattle.rules.specs.Laws.Counting.Sums.{sum, is, is-same}
 use Rattle.rules.specs.Laws.Pass.Kept.{Kept}
-use Rattle.rules.specs.Laws.Rounding.TowardZero.{signed-magnitude}
+use Rattle.coefficients.specs.Words.{wordOf}
 use Rattle.testing.specs.declared.Run.{Run}
-use Rattle.testing.specs.Exchange.{Chan, noted, side, quiet-toLip, quiet-stays, quiet-moves}
+use Rattle.testing.specs.Exchange.{reads, localWord, drawn, noted, side, quiet-toLip, quiet-stays, quiet-moves}
 
--- No coefficient outgrows a bound, though those of ks are still to be refined, each once.
-pub record Growth (plane bound : ℕ) (d : List ℤ) (ks : List ℕ) : Type 0 where
-  pub small : (q : ℕ) → magnitude d q + 2 ^ plane * sum (is q) ks < bound
-  pub once : (q : ℕ) → sum (is q) ks ≤ 1
+-- No word outgrows a bound, though the coefficients ks are still to be refined, each once.
+pub record Growth (first plane bound : ℕ) (vs : List ℕ) (ks : List ℕ) : Type 0 where
+  pub small : (x : ℕ) → localWord first vs x + 2 * 2 ^ plane * sum (is x) ks < bound
+  pub once : (x : ℕ) → sum (is x) ks ≤ 1
 
--- a coefficient written, and what is added to one
-magnitude-set : (v : List ℤ) (p q : ℕ) (y : ℤ) (b : ℕ) → (q ≡ p → natAbs y ≤ b) → magnitude v q ≤ b → magnitude (set v p y) q ≤ b
-unfolding magnitude
-magnitude-set v p q y b f h = by (ℕ-discrete q p) (decLt p (length v))
+-- a word that is drawn, in values and under its tree number
+getD-drawn : (vs : List ℕ) (i j y b : ℕ) → (j ≡ i → y ≤ b) → getD vs j 0 ≤ b → getD (set vs i y) j 0 ≤ b
+getD-drawn vs i j y b f h = by (ℕ-discrete j i) (decLt i (length vs))
   where
-    by : Dec (q ≡ p) → Dec (p < length v) → natAbs (getD (set v p y) q (pos 0)) ≤ b
-    by (no n) l = rw (getD-set-other v p q y (pos 0) n) h
-    by (yes e) (yes l) = rw (e, getD-set-same v p y (pos 0) l) (f e)
-    by (yes e) (no l) = rw (set-out v p y (omega arith)) h
+    by : Dec (j ≡ i) → Dec (i < length vs) → getD (set vs i y) j 0 ≤ b
+    by (no n) l = rw (getD-set-other vs i j y 0 n) h
+    by (yes e) (yes l) = rw (e, getD-set-same vs i y 0 l) (f e)
+    by (yes e) (no l) = rw (set-out vs i y (omega arith)) h
 
-grown-most : (b : Bool) (a : ℕ) (v : ℤ) → natAbs (grown b a v) ≤ natAbs v + a
-unfolding grown
-grown-most false a v = omega arith
-grown-most true a (pos m) = omega arith
-grown-most true a (negsuc m) = omega arith
+word-drawn : (first : ℕ) (vs : List ℕ) (x q y b : ℕ) → (first ≤ x → q ≡ x → y ≤ b) → localWord first vs q ≤ b
+    → localWord first (cond (leb first x) (set vs (x - first) y) vs) q ≤ b
+unfolding localWord
+word-drawn first vs x q y b f h = by (leb first x) refl (leb first q) refl h
+  where
+    by : (l : Bool) → leb first x ≡ l → (k : Bool) → leb first q ≡ k → cond k (getD vs (q - first) 0) 0 ≤ b
+        → cond k (getD (cond l (set vs (x - first) y) vs) (q - first) 0) 0 ≤ b
+    by l i false j h = h
+    by false i true j h = h
+    by true i true j h =
+        let l = leb-true first x i in
+        getD-drawn vs (x - first) (q - first) y b (λ e. f l (omega (arith, leb-true first q j))) h
+
+pub word-local : (first : ℕ) (vs : List ℕ) (x : ℕ) → first ≤ x → localWord first vs x ≡ getD vs (x - first) 0
+unfolding localWord
+word-local first vs x l = rw (le-leb first x l)
+
+added-most : (b : Bool) (v a : ℕ) → v + cond b a 0 ≤ v + a
+added-most true v a = omega arith
+added-most false v a = omega arith
+
+word-most : (b : Bool) (m : ℕ) → wordOf b m ≤ 2 * m + 1
+unfolding wordOf
+word-most true m = omega arith
+word-most false m = omega arith
 
 sum-cons : (q p : ℕ) (ks : List ℕ) → sum (is q) (p ∷ ks) ≡ is q p + sum (is q) ks
 unfolding sum
 sum-cons q p ks = refl
 
-either-le : (b : Bool) (x y : List ℤ) (q c : ℕ) → magnitude x q ≤ c → magnitude y q ≤ c → magnitude (cond b x y) q ≤ c
-either-le true x y q c h k = h
-either-le false x y q c h k = k
+either-le : (b : Bool) (first : ℕ) (x y : List ℕ) (q c : ℕ) → localWord first x q ≤ c → localWord first y q ≤ c → localWord first (cond b x y) q ≤ c
+either-le true first x y q c h k = h
+either-le false first x y q c h k = k
 
-module _ (run : Run) (pyramid : List ℤ) (body : List ℕ) where
-  abbrev C : Side Chan
-  C = side run pyramid body
-
+module _ (run : Run) where
+  -- twice a plane's bit, as a word has it
   abbrev a : ℕ
-  a = 2 ^ run .plane .0
+  a = 2 * 2 ^ run .plane .0
 
-  pub refined-most : (p : ℕ) (b : Bool) (v : List ℤ) (q : ℕ) → magnitude (noted run (refined p b) v) q ≤ magnitude v q + a * is q p
-  unfolding noted written magnitude
-  refined-most p b v q =
-      either-le (run .reads) (set v p (grown b a (getD v p (pos 0)))) v q _
-      (magnitude-set v p q (grown b a (getD v p (pos 0))) _ same (omega arith)) (omega arith)
+  pub refined-most : (x : ℕ) (b : Bool) (vs : List ℕ) (q : ℕ) → localWord (run .first) (noted run (refined x b) vs) q ≤ localWord (run .first) vs q + a * is q x
+  unfolding noted drawn
+  refined-most x b vs q =
+      let y = getD vs (x - run .first) 0 + cond b a 0 in
+      either-le (reads run) (run .first) (cond (leb (run .first) x) (set vs (x - run .first) y) vs) vs q _
+      (word-drawn (run .first) vs x q y _ same (omega arith)) (omega arith)
     where
-      same : q ≡ p → natAbs (grown b a (getD v p (pos 0))) ≤ magnitude v q + a * is q p
-      same e = rw (e, is-same p) (omega (arith, grown-most b a (getD v p (pos 0))))
+      same : run .first ≤ x → q ≡ x → getD vs (x - run .first) 0 + cond b a 0 ≤ localWord (run .first) vs q + a * is q x
+      same l e = rw (e, is-same x, word-local (run .first) vs x l) (omega (arith, added-most b (getD vs (x - run .first) 0) a))
 
-  found-most : (p : ℕ) (b : Bool) (v : List ℤ) (q c : ℕ) → a ≤ c → magnitude v q ≤ c → magnitude (noted run (toLsp p b) v) q ≤ c
-  unfolding noted written
-  found-most p b v q c h i =
-      either-le (run .reads) (set v p (signed b a)) v q c (magnitude-set v p q (signed b a) c (λ e. rw (signed-magnitude b a) h) i) i
+  pub found-most : (x : ℕ) (b : Bool) (vs : List ℕ) (q c : ℕ) → (q ≡ x → a + 1 ≤ c) → localWord (run .first) vs q ≤ c
+      → localWord (run .first) (noted run (toLsp x b) vs) q ≤ c
+  unfolding noted drawn
+  found-most x b vs q c h i =
+      let y = wordOf b (2 ^ run .plane .0) in
+      either-le (reads run) (run .first) (cond (leb (run .first) x) (set vs (x - run .first) y) vs) vs q c
+      (word-drawn (run .first) vs x q y c (λ l e. omega (arith, word-most b (2 ^ run .plane .0), h e)) i) i
 
-  module _ (bound : ℕ) (large : 2 * a < bound) where
-    growth-found : (p : ℕ) (b : Bool) (v : List ℤ) (ks : List ℕ) → Growth (run .plane .0) bound v ks → Growth (run .plane .0) bound (noted run (toLsp p b) v) ks
-    growth-found p b v ks h = record {
+  module _ (bound : ℕ) (large : 4 * 2 ^ run .plane .0 + 1 < bound) where
+    -- what is still small, whatever is noted
+    abbrev Small : List ℕ → List ℕ → Type 0
+    Small vs ks = Growth (run .first) (run .plane .0) bound vs ks
+
+    pub growth-found : (x : ℕ) (b : Bool) (vs ks : List ℕ) → Small vs ks → Small (noted run (toLsp x b) vs) ks
+    growth-found x b vs ks h = record {
       small = λ q.
           let g : a * sum (is q) ks ≤ a * 1 = mul-le-mul-left a (h .once q) in
-          omega (arith, found-most p b v q (bound - 1 - a * sum (is q) ks) (omega arith) (omega (arith, h .small q)), h .small q);
+          omega (arith, found-most x b vs q (bound - 1 - a * sum (is q) ks) (λ e. omega arith) (omega (arith, h .small q)), h .small q);
       once = h .once;
     }
 
-    growth-refined : (p : ℕ) (b : Bool) (v : List ℤ) (ks : List ℕ) → Growth (run .plane .0) bound v (p ∷ ks)
-        → Growth (run .plane .0) bound (noted run (refined p b) v) ks
-    growth-refined p b v ks h = record {
-      small = λ q. omega (arith, refined-most p b v q, h .small q, ap (λ (x : ℕ). a * x) (sum-cons q p ks));
-      once = λ q. omega (arith, h .once q, sum-cons q p ks);
+    pub growth-refined : (x : ℕ) (b : Bool) (vs ks : List ℕ) → Small vs (x ∷ ks) → Small (noted run (refined x b) vs) ks
+    growth-refined x b vs ks h = record {
+      small = λ q. omega (arith, refined-most x b vs q, h .small q, ap (λ (y : ℕ). a * y) (sum-cons q x ks));
+      once = λ q. omega (arith, h .once q, sum-cons q x ks);
     }
 
-    -- Whatever is found and refined, no coefficient outgrows the bound.
-    pub growth-kept : (F : Family) (k : ℕ) → Kept F k (listing C) (λ c ps es ks. Growth (run .plane .0) bound (c .side .pyramid) ks)
+    -- Whatever is found and refined, no word outgrows the bound.
+    pub growth-kept : (s body : List ℕ) (F : Family) (k : ℕ)
+        → Kept F k (listing (side run s body)) (λ c ps es ks. Growth (run .first) (run .plane .0) bound (c .side .values) ks)
     unfolding listed signNoted bitNoted side
-    growth-kept F k = record {
-      insignificant = λ c p ps es ks b h. rw (quiet-toLip run p (c .side .pyramid)) h;
-      significant = λ c p ps es ks b h. growth-found p _ (c .side .pyramid) ks h;
-      moving = λ c e es ks i h. rw (quiet-moves run e (c .side .pyramid)) h;
-      staying = λ c e es ks i b h. rw (quiet-stays run e (c .side .pyramid)) h;
+    growth-kept s body F k = record {
+      insignificant = λ c x ps es ks b h. rw (quiet-toLip run x (c .side .values)) h;
+      significant = λ c x ps es ks b h. growth-found x _ (c .side .values) ks h;
+      moving = λ c e es ks i h. rw (quiet-moves run e (c .side .values)) h;
+      staying = λ c e es ks i b h. rw (quiet-stays run e (c .side .values)) h;
       opening = λ c e es ks i b h. h;
-      refining = λ c p ks h. growth-refined p _ (c .side .pyramid) ks h;
+      refining = λ c x ks h. growth-refined x _ (c .side .values) ks h;
     }

@@ -1,3 +1,3 @@
 pub mod Exchange
-pub mod Finding
 pub mod Growing
+pub mod Finding

@@ -1,32 +1,42 @@
 // Single coefficients, for coder and decoder alike, in the level's stretch that is lent to a pass: those of LIP and the offspring of an opened set
 // tested, those of LSP refined, and the leaves that ask of them and take note for either side.
+ghost use mathlib.Core.Bool.{true};
 ghost use mathlib.Core.Path.{_≡_};
 ghost use mathlib.Core.List.{[], _∷_};
 ghost use Prim.Native.Nat.{_+_, _*_, _^_, _≤_, _<_};
 ghost use lib.ListN.{length};
-ghost use Rattle.rules.specs.Document.Pyramid.{mostPlanes, magnitude};
-ghost use Rattle.rules.specs.Document.Passes.{significant?, negative?, bit?, toLsp, refined};
-ghost use Rattle.rules.specs.Laws.Pass.Steps.{sharpened, sharpenedAll};
+ghost use Rattle.rules.specs.Document.Pyramid.{mostPlanes};
+ghost use Rattle.rules.specs.Document.Passes.{significant?, negative?, bit?, set?, toLsp, refined};
 ghost use Rattle.bits.specs.Bits.{setBit};
-ghost use Rattle.lists.specs.Stretch.{waiting, known, Fits};
-ghost use Rattle.testing.specs.Exchange.{chan, side, noted, Replied};
-ghost use Rattle.testing.specs.Finding.{candidates, Choosing, Testing, Tested};
-ghost use Rattle.testing.specs.Growing.{Growth};
+ghost use Rattle.lists.specs.Lists.{entryOf, indexOf, known, Fits};
+ghost use Rattle.testing.specs.Exchange.{wordAt, largestAt, side, Replied, Noted, reads};
+ghost use Rattle.testing.specs.Finding.{chosen, Choosing, Testing, Tested, Refining, Refined};
 use bits::BitPosition;
 use bits::BitRead;
 use lists::Fill;
+use lists::Set;
+use lists::Stretch;
 use rules::Level;
 use rules::Plane;
 use rules::Size;
 
-// Which part is run, and for which side: the decoder, which reads bits, or the coder, which writes them. The level has n coefficients; at
-// the beginning its LIS had so many sets, and the bits go on from a place.
+// Which side of the conversation a pass is run for: the coder answers from the stretch and writes bits, the decoder reads them and draws coefficients.
+pub enum Role {
+    Codes,
+    Reads,
+}
+
+// Which part is run, and for which side. The level's tree numbers begin at `first`, those of the nodes whose offspring are here at `parents`, those of
+// the nodes whose offspring's offspring are here at `elders`. At the beginning its LIS had so many sets, and the bits go on from a place.
 pub struct Run {
-    pub reads: bool,
+    pub role: Role,
     pub z: Size,
     pub plane: Plane,
     pub level: Level,
-    pub n: usize,
+    pub stretch: Stretch,
+    pub first: usize,
+    pub parents: usize,
+    pub elders: usize,
     pub olds: usize,
     pub from: BitPosition,
 }
@@ -37,14 +47,14 @@ pub struct Stand {
     pub at: BitPosition,
 }
 
-// Coefficients to test: those at the front of LIP, or the four offspring whose block begins at an index.
+// Coefficients to test: those at the front of LIP, or the four from a tree number on.
 pub enum Candidates {
     Waiting,
     Four(usize),
 }
 
 // The coder's reply, written as the next bit.
-pub fn say(out: &mut [u8], at: BitPosition, bit: bool) -> BitRead
+fn say(out: &mut [u8], at: BitPosition, bit: bool) -> BitRead
     requires { ⌜ at .at < 2 ^ 62 ⌝ }
     ensures { λ r. ⌜ (r .bit ≡ bit) × (r .next .at ≡ at .at + 1) × (now (out .exit) ≡ setBit (now (out .entry)) (at .at) bit) ⌝ }
 {
@@ -52,110 +62,160 @@ pub fn say(out: &mut [u8], at: BitPosition, bit: bool) -> BitRead
     BitRead { bit, next }
 }
 
+// The word of a coefficient of the level; 0 of any other.
+fn word_at(run: Run, s: &[u32], x: usize) -> u32
+    requires { ⌜ 4 * run .stretch .n ≤ length (now s) ⌝ }
+    ensures { λ r. ⌜ r ≡ wordAt run (now (s .entry)) x ⌝ }
+{
+    if x < run.first {
+        return 0;
+    }
+    stretches::value_at(s, run.stretch.n, x - run.first)
+}
+
 fn ask_significant(
     run: Run,
-    pyramid: &[i32],
     body: &[u8],
+    s: &[u32],
     out: &mut [u8],
     at: BitPosition,
-    p: usize,
+    x: usize,
 ) -> BitRead
-    requires { ⌜ (at .at < 2 ^ 62) × (run .plane .0 < mostPlanes) ⌝ }
-    ensures { λ r. ⌜ Replied (side run (now (pyramid .entry)) (now (body .entry))) (significant? p) (now (out .entry)) at r (now (out .exit)) ⌝ }
+    requires { ⌜ (at .at < 2 ^ 62) × (run .plane .0 < mostPlanes) × (4 * run .stretch .n ≤ length (now s)) ⌝ }
+    ensures { λ r. ⌜ Replied (side run (now (s .entry)) (now (body .entry))) (significant? x) (now (out .entry)) at r (now (out .exit)) ⌝ }
 {
-    if run.reads {
-        return at.read(body);
+    let role = run.role;
+    match role {
+        Role::Reads => at.read(body),
+        Role::Codes => say(
+            out,
+            at,
+            coefficients::threshold_of(run.plane) <= word_at(run, s, x) / 2,
+        ),
     }
-    say(
-        out,
-        at,
-        coefficients::threshold_of(run.plane) <= coefficients::magnitude_at(pyramid, p),
-    )
 }
 
 fn ask_negative(
     run: Run,
-    pyramid: &[i32],
     body: &[u8],
+    s: &[u32],
     out: &mut [u8],
     at: BitPosition,
-    p: usize,
+    x: usize,
 ) -> BitRead
-    requires { ⌜ at .at < 2 ^ 62 ⌝ }
-    ensures { λ r. ⌜ Replied (side run (now (pyramid .entry)) (now (body .entry))) (negative? p) (now (out .entry)) at r (now (out .exit)) ⌝ }
+    requires { ⌜ (at .at < 2 ^ 62) × (4 * run .stretch .n ≤ length (now s)) ⌝ }
+    ensures { λ r. ⌜ Replied (side run (now (s .entry)) (now (body .entry))) (negative? x) (now (out .entry)) at r (now (out .exit)) ⌝ }
 {
-    if run.reads {
-        return at.read(body);
-    }
-    say(out, at, coefficients::negative_at(pyramid, p))
-}
-
-fn ask_bit(
-    run: Run,
-    pyramid: &[i32],
-    body: &[u8],
-    out: &mut [u8],
-    at: BitPosition,
-    p: usize,
-) -> BitRead
-    requires { ⌜ (at .at < 2 ^ 62) × (run .plane .0 < mostPlanes) ⌝ }
-    ensures { λ r. ⌜ Replied (side run (now (pyramid .entry)) (now (body .entry))) (bit? p) (now (out .entry)) at r (now (out .exit)) ⌝ }
-{
-    if run.reads {
-        return at.read(body);
-    }
-    let n = run.plane.0;
-    say(
-        out,
-        at,
-        (coefficients::magnitude_at(pyramid, p) >> n) % 2 == 1,
-    )
-}
-
-// The decoder writes a coefficient that was found; the coder writes none.
-fn note_found(run: Run, d: &mut [i32], p: usize, negative: bool)
-    requires { ⌜ run .plane .0 < mostPlanes ⌝ }
-    ensures { λ _. ⌜ now (d .exit) ≡ noted run (toLsp p negative) (now (d .entry)) ⌝ }
-{
-    if run.reads {
-        coefficients::write_found(d, p, negative, run.plane);
+    let role = run.role;
+    match role {
+        Role::Reads => at.read(body),
+        Role::Codes => say(out, at, word_at(run, s, x) % 2 == 1),
     }
 }
 
-// The decoder writes a coefficient that a bit makes larger; the coder writes none.
-fn note_refined(run: Run, d: &mut [i32], p: usize, bit: bool)
-    requires { ⌜ (run .plane .0 < mostPlanes) × (magnitude (now d) p < 2 ^ 30) ⌝ }
-    ensures { λ _. ⌜ now (d .exit) ≡ noted run (refined p bit) (now (d .entry)) ⌝ }
+fn ask_bit(run: Run, body: &[u8], s: &[u32], out: &mut [u8], at: BitPosition, x: usize) -> BitRead
+    requires { ⌜ (at .at < 2 ^ 62) × (run .plane .0 < mostPlanes) × (4 * run .stretch .n ≤ length (now s)) ⌝ }
+    ensures { λ r. ⌜ Replied (side run (now (s .entry)) (now (body .entry))) (bit? x) (now (out .entry)) at r (now (out .exit)) ⌝ }
 {
-    if run.reads {
-        coefficients::write_refined(d, p, bit, run.plane);
+    let role = run.role;
+    match role {
+        Role::Reads => at.read(body),
+        Role::Codes => {
+            let n = run.plane.0;
+            say(out, at, (word_at(run, s, x) / 2 >> n) % 2 == 1)
+        }
+    }
+}
+
+// The number of planes, and one more, of the largest magnitude in a set that has members in the level; 0 of any other.
+fn largest_in(run: Run, s: &[u32], e: Set) -> u32
+    requires { ⌜ (4 * run .stretch .n ≤ length (now s)) × (run .stretch .n < 2 ^ 32) × (indexOf e < 2 ^ 32) ⌝ }
+    ensures { λ r. ⌜ r ≡ largestAt run (now (s .entry)) (entryOf e) ⌝ }
+{
+    let n = run.stretch.n;
+    match e {
+        Set::TypeA(x) => {
+            if x < run.parents {
+                return 0;
+            }
+            stretches::maximum_at(s, n, x - run.parents) % 32
+        }
+        Set::TypeB(x) => {
+            if x < run.elders {
+                return 0;
+            }
+            stretches::maximum_at(s, n, 4 * (x - run.elders)) / 32
+        }
+    }
+}
+
+// Whether a set is significant.
+pub fn ask_set(run: Run, body: &[u8], s: &[u32], out: &mut [u8], at: BitPosition, e: Set) -> BitRead
+    requires { ⌜ (at .at < 2 ^ 62) × (run .plane .0 < mostPlanes) × (4 * run .stretch .n ≤ length (now s)) × (run .stretch .n < 2 ^ 32)
+        × (indexOf e < 2 ^ 32) ⌝ }
+    ensures { λ r. ⌜ Replied (side run (now (s .entry)) (now (body .entry))) (set? (entryOf e)) (now (out .entry)) at r (now (out .exit)) ⌝ }
+{
+    let role = run.role;
+    match role {
+        Role::Reads => at.read(body),
+        Role::Codes => {
+            let n = run.plane.0 as u32;
+            say(out, at, n + 1 < largest_in(run, s, e))
+        }
+    }
+}
+
+// The decoder draws a coefficient that was found; the coder draws none.
+fn note_found(run: Run, s: &mut [u32], x: usize, negative: bool)
+    requires { ⌜ (run .plane .0 < mostPlanes) × (4 * run .stretch .n ≤ length (now s)) ⌝ }
+    ensures { λ _. ⌜ Noted run (toLsp x negative) (now (s .entry)) (now (s .exit)) ⌝ }
+{
+    let role = run.role;
+    match role {
+        Role::Codes => {}
+        Role::Reads => {
+            if run.first <= x {
+                let word = coefficients::found_word(negative, run.plane);
+                stretches::set_value(s, run.stretch.n, x - run.first, word);
+            }
+        }
+    }
+}
+
+// The decoder draws a coefficient that a bit makes larger; the coder draws none.
+fn note_refined(run: Run, s: &mut [u32], x: usize, bit: bool)
+    requires { ⌜ (run .plane .0 < mostPlanes) × (4 * run .stretch .n ≤ length (now s)) × (reads run ≡ true → wordAt run (now s) x < 2 ^ 30) ⌝ }
+    ensures { λ _. ⌜ Noted run (refined x bit) (now (s .entry)) (now (s .exit)) ⌝ }
+{
+    let role = run.role;
+    match role {
+        Role::Codes => {}
+        Role::Reads => {
+            if run.first <= x {
+                let i = x - run.first;
+                let old = stretches::value_at(s, run.stretch.n, i);
+                let word = coefficients::refined_word(old, bit, run.plane);
+                stretches::set_value(s, run.stretch.n, i, word);
+            }
+        }
     }
 }
 
 // A coefficient is tested: its bits, and its place at the end of LSP or of LIP.
-fn test(
-    run: Run,
-    pyramid: &[i32],
-    body: &[u8],
-    s: &mut [u32],
-    w: Stand,
-    out: &mut [u8],
-    d: &mut [i32],
-    p: usize,
-) -> Stand
-    requires { ⌜ (run .plane .0 < mostPlanes) × Fits (run .n) (now s) (w .fill) × (w .fill .lip + w .fill .lsp < run .n) × (w .at .at + 2 < 2 ^ 62) × (p < 2 ^ 32) ⌝ }
-    ensures { λ r. ⌜ Tested (side run (now (pyramid .entry)) (now (body .entry))) (p ∷ []) (run .n) (now (s .entry)) (now (out .entry)) (now (d .entry)) w
-        (now (s .exit)) (now (out .exit)) (now (d .exit)) r ⌝ }
+fn test(run: Run, body: &[u8], s: &mut [u32], w: Stand, out: &mut [u8], x: usize) -> Stand
+    requires { ⌜ (run .plane .0 < mostPlanes) × Fits (run .stretch) (now s) (w .fill) × (run .stretch .n < 2 ^ 32)
+        × (w .fill .lip + w .fill .lsp < run .stretch .n) × (w .at .at + 2 < 2 ^ 62) × (x < 2 ^ 32) ⌝ }
+    ensures { λ r. ⌜ Tested run (now (body .entry)) (x ∷ []) (now (s .entry)) (now (out .entry)) w (now (s .exit)) (now (out .exit)) r ⌝ }
 {
-    let found = ask_significant(run, pyramid, body, out, w.at, p);
+    let found = ask_significant(run, body, s, out, w.at, x);
     if found.bit {
-        let sign = ask_negative(run, pyramid, body, out, found.next, p);
-        note_found(run, d, p, sign.bit);
-        let fill = lists::push_lsp(s, run.n, w.fill, p);
+        let sign = ask_negative(run, body, s, out, found.next, x);
+        note_found(run, s, x, sign.bit);
+        let fill = lists::push_lsp(s, run.stretch, w.fill, x);
         let at = sign.next;
         return Stand { fill, at };
     }
-    let fill = lists::push_lip(s, run.n, w.fill, p);
+    let fill = lists::push_lip(s, run.stretch, w.fill, x);
     let at = found.next;
     Stand { fill, at }
 }
@@ -163,41 +223,34 @@ fn test(
 // The i-th of the coefficients to test.
 fn candidate(run: Run, s: &[u32], from: Candidates, i: usize) -> usize
     requires { ⌜ Choosing run from i (now s) ⌝ }
-    ensures { λ r. ⌜ (waiting i 1 (candidates (run .z) from (now (s .entry))) ≡ r ∷ []) × (r < 2 ^ 32) ⌝ }
+    ensures { λ r. ⌜ (chosen (run .stretch .n) from i 1 (now (s .entry)) ≡ r ∷ []) × (r < 2 ^ 32) ⌝ }
 {
     match from {
-        Candidates::Waiting => lists::lip_at(s, i),
-        Candidates::Four(first) => {
-            if i < 2 {
-                return first + i;
-            }
-            first + run.z.w + (i - 2)
-        }
+        Candidates::Waiting => lists::lip_at(s, run.stretch.n, i),
+        Candidates::Four(first) => first + i,
     }
 }
 
 // Step 1, and the offspring of an opened set: m coefficients are tested, in order. LIP's entries that stay are put back to its front.
 pub fn test_each(
     run: Run,
-    pyramid: &[i32],
     body: &[u8],
     s: &mut [u32],
     w: Stand,
     out: &mut [u8],
-    d: &mut [i32],
     from: Candidates,
     m: usize,
 ) -> Stand
     requires { ⌜ Testing run from m (now s) w ⌝ }
-    ensures { λ r. ⌜ Tested (side run (now (pyramid .entry)) (now (body .entry))) (waiting 0 m (candidates (run .z) from (now (s .entry)))) (run .n) (now (s .entry)) (now (out .entry)) (now (d .entry)) w
-        (now (s .exit)) (now (out .exit)) (now (d .exit)) r ⌝ }
+    ensures { λ r. ⌜ Tested run (now (body .entry)) (chosen (run .stretch .n) from 0 m (now (s .entry))) (now (s .entry)) (now (out .entry)) w
+        (now (s .exit)) (now (out .exit)) r ⌝ }
 {
     let mut r = w;
     let mut i = 0;
     while i < m {
-        let p = candidate(run, s, from, i);
+        let x = candidate(run, s, from, i);
         i += 1;
-        r = test(run, pyramid, body, s, r, out, d, p);
+        r = test(run, body, s, r, out, x);
     }
     r
 }
@@ -205,43 +258,40 @@ pub fn test_each(
 // The refinement of a coefficient.
 fn refine(
     run: Run,
-    pyramid: &[i32],
     body: &[u8],
+    s: &mut [u32],
     out: &mut [u8],
-    d: &mut [i32],
     at: BitPosition,
-    p: usize,
+    x: usize,
 ) -> BitPosition
-    requires { ⌜ (at .at < 2 ^ 62) × (run .plane .0 < mostPlanes) × (magnitude (now d) p < 2 ^ 30) ⌝ }
-    ensures { λ r. ⌜ (chan (now (out .exit)) (now (d .exit)) (r .at) ≡ sharpened (side run (now (pyramid .entry)) (now (body .entry))) p (chan (now (out .entry)) (now (d .entry)) (at .at)))
-        × (r .at ≡ at .at + 1) ⌝ }
+    requires { ⌜ (at .at < 2 ^ 62) × (run .plane .0 < mostPlanes) × (4 * run .stretch .n ≤ length (now s))
+        × (reads run ≡ true → wordAt run (now s) x < 2 ^ 30) ⌝ }
+    ensures { λ r. ⌜ Refined run (now (body .entry)) (x ∷ []) (now (s .entry)) (now (out .entry)) at (now (s .exit)) (now (out .exit)) r ⌝ }
 {
-    let bit = ask_bit(run, pyramid, body, out, at, p);
-    note_refined(run, d, p, bit.bit);
+    let bit = ask_bit(run, body, s, out, at, x);
+    note_refined(run, s, x, bit.bit);
     bit.next
 }
 
 // Step 3: each of the m entries of LSP that came in at an earlier plane.
 pub fn refine_lsp(
     run: Run,
-    pyramid: &[i32],
     body: &[u8],
-    s: &[u32],
+    s: &mut [u32],
     m: usize,
     out: &mut [u8],
-    d: &mut [i32],
     at: BitPosition,
 ) -> BitPosition
-    requires { ⌜ (run .plane .0 < mostPlanes) × (4 * run .n ≤ length (now s)) × (m ≤ run .n) × (at .at + m < 2 ^ 62) × Growth (run .plane .0) (2 ^ 30) (now d) (known (run .n) m (now s)) ⌝ }
-    ensures { λ r. ⌜ (chan (now (out .exit)) (now (d .exit)) (r .at) ≡ sharpenedAll (side run (now (pyramid .entry)) (now (body .entry))) (known (run .n) m (now (s .entry))) (chan (now (out .entry)) (now (d .entry)) (at .at)))
-        × (r .at ≡ at .at + m) ⌝ }
+    requires { ⌜ Refining run m (now s) at ⌝ }
+    ensures { λ r. ⌜ Refined run (now (body .entry)) (known (run .stretch .n) m (now (s .entry))) (now (s .entry)) (now (out .entry)) at
+        (now (s .exit)) (now (out .exit)) r ⌝ }
 {
     let mut next = at;
     let mut i = 0;
     while i < m {
-        let p = lists::lsp_at(s, run.n, i);
+        let x = lists::lsp_at(s, run.stretch.n, i);
         i += 1;
-        next = refine(run, pyramid, body, out, d, next, p);
+        next = refine(run, body, s, out, next, x);
     }
     next
 }

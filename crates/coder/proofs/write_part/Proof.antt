@@ -1,6 +1,6 @@
 -- `coder::write_part`: the pass writes the body, the head comes before it.
 use borrow.Author.Needs.{needs}
-use Rattle.coder.proofs.Parts.{part-ready, part-bits, part-written}
+use Rattle.coder.proofs.Parts.{part-ready, part-forward, part-bits, part-written}
 use Rattle.coder.proofs.write_part.Statement.{statement}
 use Rattle.coder.proofs.write_part.Tie as tie
 
@@ -14,7 +14,7 @@ code-part-requires : tie.Need-code-part-requires
 code-part-requires c κs = search (needs, part-ready)
 
 sub-put-head : tie.Need-sub-put-head
-sub-put-head c = search needs
+sub-put-head c = search (needs, part-forward)
 
 put-head-requires : tie.Need-put-head-requires
 put-head-requires c κs = search (needs, part-bits)

@@ -7,11 +7,11 @@ use Rattle.coder.proofs.write_planes.Statement.{statement}
 use Rattle.coder.proofs.write_planes.Tie as tie
 
 abbrev Inv-loop : tie.InvT-loop
-Inv-loop pyramid z planes out₀ work₀ reached₀ done₀ out work reached done =
-    PlanesDone pyramid z planes work₀ (stageOf z work₀ reached₀ out₀) done work (stageOf z work reached out)
+Inv-loop z planes out₀ work₀ reached₀ done₀ out work reached done =
+    PlanesDone z planes work₀ (stageOf z work₀ reached₀ out₀) done work (stageOf z work reached out)
 
 abbrev μ-loop : tie.MeasureT-loop
-μ-loop pyramid z planes out₀ work₀ reached₀ done₀ out work reached done = planes - done
+μ-loop z planes out₀ work₀ reached₀ done₀ out work reached done = planes - done
 
 loop-holds : tie.Need-loop-holds Inv-loop μ-loop
 loop-holds c = search (needs, planes-begin)
@@ -23,7 +23,7 @@ sub-n : tie.Need-sub-n Inv-loop μ-loop
 sub-n c = search needs
 
 write-plane-requires : tie.Need-write-plane-requires Inv-loop μ-loop
-write-plane-requires c κs = planes-due _ _ _ (c .before .before .loop-test .taken) (c .before .before .before .loop .inv)
+write-plane-requires c κs = planes-due _ _ (c .before .before .loop-test .taken) (c .before .before .before .loop .inv)
 
 loop-less : tie.Need-loop-less Inv-loop μ-loop
 loop-less c = search needs
@@ -38,7 +38,7 @@ same-length-2 : tie.Need-same-length-2 Inv-loop μ-loop
 same-length-2 c = search needs
 
 returns : tie.Need-returns Inv-loop μ-loop
-returns c = planes-end _ _ _ (c .loop-test .left) (c .before .loop .inv)
+returns c = planes-end _ _ (c .loop-test .left) (c .before .loop .inv)
 
 pub write-planes-spec : {M : Type 1} → statement M
 write-planes-spec =

@@ -1,7 +1,7 @@
 -- `coder::write_record`: header, then all parts.
 use borrow.Author.Needs.{needs}
 use Rattle.coder.proofs.Outcomes.{stored-room}
-use Rattle.coder.proofs.Records.{planes-few, planes-few, header-clear, header-short, record-stored}
+use Rattle.coder.proofs.Records.{planes-few, header-clear, header-short, record-stored}
 use Rattle.coder.proofs.write_record.Statement.{statement}
 use Rattle.coder.proofs.write_record.Tie as tie
 

@@ -1,5 +1,6 @@
 -- `decoder::decode`: header, pyramid, workspace, parts.
-use Rattle.decoder.proofs.LawsAnswer.{area-fits, size-legal, least-known, header-lent, decoding-refused, decoding-length, decoding-work, decoding-parts}
+use Rattle.decoder.proofs.LawsAnswer.{area-fits, size-legal, least-known, header-lent}
+use Rattle.decoder.proofs.LawsAnswer.{decoding-refused, decoding-length, decoding-work, decoding-parts}
 use Rattle.decoder.proofs.LawsAnswer.{answered-decoding, refusing-decoding}
 use borrow.Author.Needs.{needs}
 use Rattle.decoder.proofs.decode.Statement.{statement}

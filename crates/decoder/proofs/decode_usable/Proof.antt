@@ -20,17 +20,11 @@ walk-past-requires c κs = search needs
 same-length : tie.Need-same-length
 same-length c = search needs
 
-same-length-2 : tie.Need-same-length-2
-same-length-2 c = search needs
-
 returns : tie.Need-returns
 returns c = search (needs, part-fits)
 
-same-length-3 : tie.Need-same-length-3
-same-length-3 c = search needs
-
-same-length-4 : tie.Need-same-length-4
-same-length-4 c = search needs
+same-length-2 : tie.Need-same-length-2
+same-length-2 c = search needs
 
 returns-2 : tie.Need-returns-2
 returns-2 c = search (needs, part-unfit)
@@ -44,8 +38,6 @@ decode-usable-spec =
     with-reached-requires
     walk-past-requires
     same-length
-    same-length-2
     returns
-    same-length-3
-    same-length-4
+    same-length-2
     returns-2)

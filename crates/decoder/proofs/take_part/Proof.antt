@@ -21,9 +21,6 @@ decode-usable-requires c κs = search needs
 same-length : tie.Need-same-length
 same-length c = search needs
 
-same-length-2 : tie.Need-same-length-2
-same-length-2 c = search needs
-
 returns : tie.Need-returns
 unfolding nameOf
 returns c = search (needs, part-decoded)
@@ -41,6 +38,5 @@ take-part-spec =
     is-usable-requires
     decode-usable-requires
     same-length
-    same-length-2
     returns
     returns-2)

@@ -2,15 +2,16 @@
 use mathlib.Core.Path.{_≡_}
 use Prim.Native.Nat.{_-_}
 use lib.ListN.{length}
+use Rattle.rules.specs.Document.Pyramid.{area}
 use Rattle.decoder.specs.Walking.{Walking}
-use Rattle.decoder.proofs.LawsWalk.{walking-standing, turn-on, turn-falls, turn-within, turn-accepts, turn-refuses, cleared}
+use Rattle.decoder.proofs.LawsWalk.{walking-roomy, walking-standing, turn-on, turn-falls, turn-within, turn-accepts, turn-refuses, cleared}
 use borrow.Author.Needs.{needs}
 use Rattle.decoder.proofs.walk_all.Statement.{statement}
 use Rattle.decoder.proofs.walk_all.Tie as tie
 
 abbrev Inv-loop : tie.InvT-loop
 Inv-loop bytes h out₀ work₀ walk₀ out work walk =
-    Walking h bytes walk out work × (length out ≡ length out₀) × (length work ≡ length work₀)
+    Walking h bytes walk work × (length out ≡ length out₀) × (length out ≡ area (h .size)) × (length work ≡ length work₀)
 
 abbrev μ-loop : tie.MeasureT-loop
 μ-loop bytes h out₀ work₀ walk₀ out work walk = length bytes - walk .cursor .place
@@ -33,8 +34,11 @@ loop-again c = search (needs, turn-on)
 enum-told-2 : tie.Need-enum-told-2 Inv-loop μ-loop
 enum-told-2 c = search needs
 
-sub-accept : tie.Need-sub-accept Inv-loop μ-loop
-sub-accept c = search (needs, turn-within)
+sub-tail : tie.Need-sub-tail Inv-loop μ-loop
+sub-tail c = search (needs, turn-within)
+
+lay-out-requires : tie.Need-lay-out-requires Inv-loop μ-loop
+lay-out-requires c κs = search (needs, walking-roomy)
 
 accept-requires : tie.Need-accept-requires Inv-loop μ-loop
 accept-requires c κs = search needs
@@ -75,7 +79,8 @@ walk-all-spec =
     loop-less
     loop-again
     enum-told-2
-    sub-accept
+    sub-tail
+    lay-out-requires
     accept-requires
     same-length
     same-length-2

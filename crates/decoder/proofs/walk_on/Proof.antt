@@ -22,9 +22,6 @@ enum-known-r c = search needs
 same-length : tie.Need-same-length
 same-length c = search needs
 
-same-length-2 : tie.Need-same-length-2
-same-length-2 c = search needs
-
 returns : tie.Need-returns
 returns c = search (needs, turned-part)
 
@@ -44,7 +41,6 @@ walk-on-spec =
     enum-told
     enum-known-r
     same-length
-    same-length-2
     returns
     returns-2
     returns-3)

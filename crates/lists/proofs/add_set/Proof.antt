@@ -1,6 +1,7 @@
+-- `lists::add_set` meets its contract.
 use Rattle.lists.proofs.Laws.{add-set-law}
 use native.Mathlib.Omega.{arith}
-use Rattle.lists.specs.Stretch.{setRoom, lspFrom, lisFrom, movedFrom}
+use Rattle.stretches.specs.Cut.{lisFrom, setRoom}
 use borrow.Author.Needs.{needs}
 use Rattle.lists.proofs.add_set.Statement.{statement}
 use Rattle.lists.proofs.add_set.Tie as tie
@@ -9,33 +10,35 @@ lis-from-requires : tie.Need-lis-from-requires
 lis-from-requires c κs = search needs
 
 add-at : tie.Need-add-at
-unfolding lspFrom lisFrom movedFrom setRoom
+unfolding lisFrom setRoom
 add-at c = search needs
 
 add-at-2 : tie.Need-add-at-2
-unfolding lspFrom lisFrom movedFrom setRoom
+unfolding lisFrom setRoom
 add-at-2 c = search needs
 
 number-of-requires : tie.Need-number-of-requires
 number-of-requires c κs = search needs
 
 mul-s : tie.Need-mul-s
-unfolding lspFrom lisFrom movedFrom setRoom
+unfolding lisFrom setRoom
 mul-s c = search needs
 
 slice-write-s : tie.Need-slice-write-s
-unfolding lspFrom lisFrom movedFrom setRoom
+unfolding lisFrom setRoom
 slice-write-s c = search needs
 
 add-r : tie.Need-add-r
-unfolding lspFrom lisFrom movedFrom setRoom
+unfolding lisFrom setRoom
 add-r c = search needs
 
 same-length : tie.Need-same-length
 same-length c = search needs
 
 returns : tie.Need-returns
-returns c = add-set-law _ _ _ (c .before .before .before .before .before .before .pre .0) _ _ (c .before .number-of .ensures) _ (omega arith) (c .before .before .before .before .before .before .pre .2)
+returns c =
+    let p = c .before .before .before .before .before .before .pre in
+    add-set-law _ _ _ (p .0) _ _ (c .before .number-of .ensures) _ (omega arith) (p .2)
 
 pub add-set-spec : {M : Type 1} → statement M
 add-set-spec =

@@ -1,7 +1,8 @@
+-- `lists::lsp_at` meets its contract.
 use Prim.Native.Nat.{_+_}
-use Rattle.lists.specs.Stretch.{setRoom, lspFrom, lisFrom, movedFrom}
 use Rattle.lists.proofs.Laws.{known-more}
 use native.Mathlib.Omega.{arith}
+use Rattle.stretches.specs.Cut.{lspFrom}
 use borrow.Author.Needs.{needs}
 use Rattle.lists.proofs.lsp_at.Statement.{statement}
 use Rattle.lists.proofs.lsp_at.Tie as tie
@@ -10,22 +11,22 @@ lsp-from-requires : tie.Need-lsp-from-requires
 lsp-from-requires c κs = search needs
 
 add-at : tie.Need-add-at
-unfolding lspFrom lisFrom movedFrom setRoom
+unfolding lspFrom
 add-at c = search needs
 
 mul-result : tie.Need-mul-result
-unfolding lspFrom lisFrom movedFrom setRoom
+unfolding lspFrom
 mul-result c = search needs
 
 shared-slice-read-result : tie.Need-shared-slice-read-result
-unfolding lspFrom lisFrom movedFrom setRoom
+unfolding lspFrom
 shared-slice-read-result c = search needs
 
 cast-result : tie.Need-cast-result
 cast-result c = omega (arith, c .shared-slice-known2 .given (c .before .lsp-from .result + c .before .before .before .args .i))
 
 returns : tie.Need-returns
-unfolding lspFrom lisFrom movedFrom setRoom
+unfolding lspFrom
 returns c = known-more _ _ _ _ (omega arith) (search needs)
 
 pub lsp-at-spec : {M : Type 1} → statement M

@@ -1,10 +1,15 @@
+-- `lists::lsp_from` meets its contract.
+use Rattle.stretches.specs.Cut.{lspFrom}
 use borrow.Author.Needs.{needs}
 use Rattle.lists.proofs.lsp_from.Statement.{statement}
 use Rattle.lists.proofs.lsp_from.Tie as tie
 
+add-result : tie.Need-add-result
+add-result c = search needs
+
 returns : tie.Need-returns
-unfolding Rattle.lists.specs.Stretch.lspFrom
+unfolding lspFrom
 returns c = search needs
 
 pub lsp-from-spec : {M : Type 1} → statement M
-lsp-from-spec = tie.close (tie.spec returns)
+lsp-from-spec = tie.close (tie.spec add-result returns)

@@ -1,47 +1,31 @@
+-- `lists::move_set` meets its contract.
 use Rattle.lists.proofs.Laws.{move-set-law}
 use native.Mathlib.Omega.{arith}
-use Rattle.lists.specs.Stretch.{setRoom, lspFrom, lisFrom, movedFrom}
 use borrow.Author.Needs.{needs}
 use Rattle.lists.proofs.move_set.Statement.{statement}
 use Rattle.lists.proofs.move_set.Tie as tie
 
-moved-from-requires : tie.Need-moved-from-requires
-moved-from-requires c κs = search needs
-
 add-at : tie.Need-add-at
-unfolding lspFrom lisFrom movedFrom setRoom
 add-at c = search needs
 
 number-of-requires : tie.Need-number-of-requires
 number-of-requires c κs = search needs
 
 mul-s : tie.Need-mul-s
-unfolding lspFrom lisFrom movedFrom setRoom
 mul-s c = search needs
 
 slice-write-s : tie.Need-slice-write-s
-unfolding lspFrom lisFrom movedFrom setRoom
 slice-write-s c = search needs
 
 add-r : tie.Need-add-r
-unfolding lspFrom lisFrom movedFrom setRoom
 add-r c = search needs
 
 same-length : tie.Need-same-length
 same-length c = search needs
 
 returns : tie.Need-returns
-returns c = move-set-law _ _ _ (c .before .before .before .before .before .pre .0) _ _ (c .before .number-of .ensures) _ (omega arith) (c .before .before .before .before .before .pre .2)
+returns c = let p = c .before .before .before .before .before .pre in move-set-law _ _ _ (p .0) _ _ (c .before .number-of .ensures) _ (omega arith) (p .1)
 
 pub move-set-spec : {M : Type 1} → statement M
 move-set-spec =
-    tie.close
-    (tie.spec
-    moved-from-requires
-    add-at
-    number-of-requires
-    mul-s
-    slice-write-s
-    add-r
-    same-length
-    returns)
+    tie.close (tie.spec add-at number-of-requires mul-s slice-write-s add-r same-length returns)

@@ -1,7 +1,7 @@
 use Rattle.lists.proofs.Laws.{entry-A, entry-B}
 use mathlib.Core.Path.{ap, sym, _∙_}
 use native.Mathlib.Omega.{arith}
-use Rattle.lists.specs.Stretch.{entryOf, indexOf}
+use Rattle.lists.specs.Lists.{entryOf, indexOf}
 use borrow.Author.Needs.{needs}
 use Rattle.lists.proofs.number_of.Statement.{statement}
 use Rattle.lists.proofs.number_of.Tie as tie

@@ -1,6 +1,7 @@
-use Rattle.lists.specs.Stretch.{setRoom, lspFrom, lisFrom, movedFrom}
+-- `lists::push_lsp` meets its contract.
 use Rattle.lists.proofs.Laws.{push-lsp-law}
 use native.Mathlib.Omega.{arith}
+use Rattle.stretches.specs.Cut.{lspFrom}
 use borrow.Author.Needs.{needs}
 use Rattle.lists.proofs.push_lsp.Statement.{statement}
 use Rattle.lists.proofs.push_lsp.Tie as tie
@@ -9,30 +10,29 @@ lsp-from-requires : tie.Need-lsp-from-requires
 lsp-from-requires c κs = search needs
 
 add-at : tie.Need-add-at
-unfolding lspFrom lisFrom movedFrom setRoom
+unfolding lspFrom
 add-at c = search needs
 
 cast-s : tie.Need-cast-s
 cast-s c = search needs
 
 mul-s : tie.Need-mul-s
-unfolding lspFrom lisFrom movedFrom setRoom
+unfolding lspFrom
 mul-s c = search needs
 
 slice-write-s : tie.Need-slice-write-s
-unfolding lspFrom lisFrom movedFrom setRoom
+unfolding lspFrom
 slice-write-s c = search needs
 
 add-r : tie.Need-add-r
-unfolding lspFrom lisFrom movedFrom setRoom
+unfolding lspFrom
 add-r c = search needs
 
 same-length : tie.Need-same-length
 same-length c = search needs
 
 returns : tie.Need-returns
-unfolding lspFrom lisFrom movedFrom setRoom
-returns c = push-lsp-law _ _ _ (c .before .before .before .before .pre .0) _ _ (omega arith) (c .before .before .before .before .pre .1)
+returns c = let p = c .before .before .before .before .pre in push-lsp-law _ _ _ (p .0) _ _ (omega arith) (p .2)
 
 pub push-lsp-spec : {M : Type 1} → statement M
 push-lsp-spec =

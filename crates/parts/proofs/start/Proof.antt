@@ -1,3 +1,4 @@
+-- `parts::start` meets its contract.
 use native.Mathlib.Omega.{arith}
 use Rattle.rules.specs.Laws.Family.Sizes.{legal}
 use Rattle.parts.proofs.Begin.{top-size, top-under, top-room, band-listing, started}
@@ -21,10 +22,15 @@ part-list-band-start : tie.Need-part-list-band-start
 part-list-band-start c = search needs
 
 part-list-band-end : tie.Need-part-list-band-end
-part-list-band-end c = top-room _ (c .before .before .pre .0) (c .level-size .ensures) (c .before .before .pre .1)
+part-list-band-end c = let P = c .before .before .pre in top-room _ (P .0) (c .level-size .ensures) (P .1)
+
+mul-t14 : tie.Need-mul-t14
+mul-t14 c = omega (arith, top-under _ (c .before .before .before .pre .0) (c .before .level-size .ensures) .1)
 
 list-band-requires : tie.Need-list-band-requires
-list-band-requires c κs = band-listing _ _ (c .before .before .before .args .work .now) (c .before .before .before .pre .0) (top-size _ (c .before .level-size .ensures)) (top-room _ (c .before .before .before .pre .0) (c .before .level-size .ensures) (c .before .before .before .pre .1))
+list-band-requires c κs = let P = c .before .before .before .pre in
+    let size = c .before .level-size .ensures in
+    band-listing _ _ (c .before .before .before .args .work .now) (P .0) (top-size _ size) (top-room _ (P .0) size (P .1))
 
 mul-lip : tie.Need-mul-lip
 mul-lip c = omega (arith, legal _ (c .before .before .before .before .before .before .pre .0) .few)
@@ -42,7 +48,11 @@ same-length : tie.Need-same-length
 same-length c = search needs
 
 returns : tie.Need-returns
-returns c = started _ _ (c .before .before .before .before .before .before .pre .0) _ (top-size _ (c .before .before .before .before .level-size .ensures)) (c .before .before .before .before .before .before .args .work .now) _ (top-room _ (c .before .before .before .before .before .before .pre .0) (c .before .before .before .before .level-size .ensures) (c .before .before .before .before .before .before .pre .1)) (c .before .before .list-band .kept .1 .0) (c .before .before .list-band .ensures)
+returns c = let P = c .before .before .before .before .before .before .pre in
+    let size = c .before .before .before .before .level-size .ensures in
+    let listed = c .before .before .list-band .ensures in
+    let work = c .before .before .before .before .before .before .args .work .now in
+    started _ _ (P .0) _ (top-size _ size) work _ (top-room _ (P .0) size (P .1)) (listed .beside .long) listed
 
 pub start-spec : {M : Type 1} → statement M
 start-spec =
@@ -54,6 +64,7 @@ start-spec =
     sub-list-band
     part-list-band-start
     part-list-band-end
+    mul-t14
     list-band-requires
     mul-lip
     array-write-lip

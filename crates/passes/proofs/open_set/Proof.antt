@@ -1,8 +1,5 @@
-use mathlib.Core.Path.{sym, ap, subst}
-use Rattle.lists.specs.Stretch.{entryOf}
-use Rattle.passes.specs.Steps.{Opening, Opened}
-use Rattle.testing.specs.Exchange.{familyOf, side}
-use Rattle.passes.proofs.Sets.{opened-B, opened-as}
+-- `passes::open_set` meets its contract.
+use Rattle.passes.proofs.Sets.{opening-A, opening-B, opened-as-A, opened-as-B}
 use borrow.Author.Needs.{needs}
 use Rattle.passes.proofs.open_set.Statement.{statement}
 use Rattle.passes.proofs.open_set.Tie as tie
@@ -11,13 +8,13 @@ enum-known-e : tie.Need-enum-known-e
 enum-known-e c = search needs
 
 open-a-requires : tie.Need-open-a-requires
-open-a-requires c κs = subst (λ x. Opening (c .before .before .before .before .before .before .before .before .before .args .run) (entryOf x) (c .before .before .before .before .before .before .before .before .before .args .s .now) (c .before .before .before .before .before .before .before .before .before .args .w)) (c .before .before .before .before .e .given .1) (c .before .before .before .before .before .before .before .before .before .pre)
+open-a-requires c κs = search (needs, opening-A)
 
 enum-known-e-2 : tie.Need-enum-known-e-2
 enum-known-e-2 c = search needs
 
 open-b-requires : tie.Need-open-b-requires
-open-b-requires c κs = subst (λ x. Opening (c .before .before .before .before .before .before .before .args .run) (entryOf x) (c .before .before .before .before .before .before .before .args .s .now) (c .before .before .before .before .before .before .before .args .w)) (c .before .before .e2 .given .1) (c .before .before .before .before .before .before .before .pre)
+open-b-requires c κs = search (needs, opening-B)
 
 same-length : tie.Need-same-length
 same-length c = search needs
@@ -25,17 +22,14 @@ same-length c = search needs
 same-length-2 : tie.Need-same-length-2
 same-length-2 c = search needs
 
+returns : tie.Need-returns
+returns c = search (needs, opened-as-A)
+
 same-length-3 : tie.Need-same-length-3
 same-length-3 c = search needs
 
-returns : tie.Need-returns
-returns c = opened-as (ap entryOf (c .before .before .before .before .before .before .before .before .before .before .e .given .1)) (c .before .before .before .before .before .open-a .ensures)
-
-same-length-4 : tie.Need-same-length-4
-same-length-4 c = search needs
-
 returns-2 : tie.Need-returns-2
-returns-2 c = opened-as (ap entryOf (c .before .before .before .before .before .e2 .given .1)) (opened-B _ (c .before .before .before .before .before .before .before .before .before .before .pre .proper) (c .before .before .before .before .before .before .before .before .before .before .pre .fits) (c .before .before .open-b .ensures .0) (c .before .before .open-b .ensures .1))
+returns-2 c = search (needs, opened-as-B)
 
 pub open-set-spec : {M : Type 1} → statement M
 open-set-spec =
@@ -47,7 +41,6 @@ open-set-spec =
     open-b-requires
     same-length
     same-length-2
-    same-length-3
     returns
-    same-length-4
+    same-length-3
     returns-2)

@@ -1,21 +1,46 @@
-use Rattle.rules.specs.Document.Passes.{written}
-use Rattle.testing.proofs.Leaves.{noted-written, noted-none}
+-- `testing::note_refined` meets its contract.
+use Rattle.testing.proofs.Leaves.{noted-coder, refined-outside, refined-drawn, word-small}
 use borrow.Author.Needs.{needs}
 use Rattle.testing.proofs.note_refined.Statement.{statement}
 use Rattle.testing.proofs.note_refined.Tie as tie
 
-write-refined-requires : tie.Need-write-refined-requires
-write-refined-requires c κs = search needs
+enum-told : tie.Need-enum-told
+enum-told c = search needs
+
+enum-told-2 : tie.Need-enum-told-2
+enum-told-2 c = search needs
+
+value-at-requires : tie.Need-value-at-requires
+value-at-requires c κs = search needs
+
+refined-word-requires : tie.Need-refined-word-requires
+refined-word-requires c κs = search (needs, word-small)
+
+set-value-requires : tie.Need-set-value-requires
+set-value-requires c κs = search needs
+
+returns : tie.Need-returns
+returns c = search (needs, noted-coder)
 
 same-length : tie.Need-same-length
 same-length c = search needs
 
-returns : tie.Need-returns
-unfolding written
-returns c = noted-written _ _ _ (c .before .before .before .if1 .taken) (c .before .write-refined .ensures)
-
 returns-2 : tie.Need-returns-2
-returns-2 c = noted-none _ _ _ (c .if1 .left)
+returns-2 c = search (needs, refined-drawn)
+
+returns-3 : tie.Need-returns-3
+returns-3 c = search (needs, refined-outside)
 
 pub note-refined-spec : {M : Type 1} → statement M
-note-refined-spec = tie.close (tie.spec write-refined-requires same-length returns returns-2)
+note-refined-spec =
+    tie.close
+    (tie.spec
+    enum-told
+    enum-told-2
+    value-at-requires
+    refined-word-requires
+    set-value-requires
+    returns
+    same-length
+    returns-2
+    returns-3)

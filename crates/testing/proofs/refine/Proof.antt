@@ -1,3 +1,4 @@
+-- `testing::refine` meets its contract.
 use Rattle.testing.proofs.Refining.{refined-one}
 use borrow.Author.Needs.{needs}
 use Rattle.testing.proofs.refine.Statement.{statement}
@@ -16,7 +17,7 @@ same-length-2 : tie.Need-same-length-2
 same-length-2 c = search needs
 
 returns : tie.Need-returns
-returns c = let a = c .before .before .before .before .before .before .before .before .before .before .args in (refined-one (a .run) (a .pyramid .now) (a .body .now) (a .d .now) (c .before .before .before .before .before .before .ask-bit .ensures) (c .before .before .note-refined .ensures), c .before .before .before .before .before .before .ask-bit .ensures .place)
+returns c = search (needs, refined-one)
 
 pub refine-spec : {M : Type 1} → statement M
 refine-spec =

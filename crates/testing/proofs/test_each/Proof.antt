@@ -1,50 +1,66 @@
+-- `testing::test_each` meets its contract.
 use mathlib.Core.Path.{_≡_, refl}
 use native.Mathlib.Omega.{arith}
 use Prim.Native.Nat.{_≤_, _-_}
 use lib.ListN.{length}
-use Rattle.lists.specs.Stretch.{waiting}
-use Rattle.testing.specs.Exchange.{side}
-use Rattle.testing.specs.Finding.{candidates, Tested}
+use Rattle.testing.specs.Finding.{chosen, Tested}
 use Rattle.testing.proofs.Finding.{each-length, each-choosing, each-next, each-none, each-done}
 use borrow.Author.Needs.{needs}
 use Rattle.testing.proofs.test_each.Statement.{statement}
 use Rattle.testing.proofs.test_each.Tie as tie
 
 abbrev Inv-loop : tie.InvT-loop
-Inv-loop run pyramid body s₀ out₀ d₀ from m r₀ i₀ s out d r i = Tested (side run pyramid body) (waiting 0 i (candidates (run .z) from s₀)) (run .n) s₀ out₀ d₀ r₀ s out d r × (i ≤ m) × (length s ≡ length s₀) × (length out ≡ length out₀) × (length d ≡ length d₀)
+Inv-loop run body s₀ out₀ from m r₀ i₀ s out r i =
+    Tested run body (chosen (run .stretch .n) from 0 i s₀) s₀ out₀ r₀ s out r × (i ≤ m) × (length s ≡ length s₀) × (length out ≡ length out₀)
 
 abbrev μ-loop : tie.MeasureT-loop
-μ-loop run pyramid body s₀ out₀ d₀ from m r₀ i₀ s out d r i = m - i
+μ-loop run body s₀ out₀ from m r₀ i₀ s out r i = m - i
 
 loop-holds : tie.Need-loop-holds Inv-loop μ-loop
-loop-holds c = (each-none _ _ _ _ _ _ _ (c .before .before .before .pre .fits), omega arith, refl, refl, refl)
+loop-holds c = (search (needs, each-none), omega arith, refl, refl)
 
 candidate-requires : tie.Need-candidate-requires Inv-loop μ-loop
-candidate-requires c κs = let v = c .before .before .loop .inv in each-choosing _ _ (c .before .before .before .before .before .before .pre) (v .0) (omega arith) (v .2)
+candidate-requires c κs =
+    each-choosing _ (c .before .before .before .before .before .before .pre) (c .before .before .loop .inv .0) (omega arith)
 
 add-i : tie.Need-add-i Inv-loop μ-loop
 add-i c = search needs
 
 test-requires : tie.Need-test-requires Inv-loop μ-loop
-test-requires c κs = let v = c .before .before .before .before .before .before .loop .inv in let H = c .before .before .before .before .before .before .before .before .before .before .pre in let l = each-length _ _ H (v .0) (omega arith) in (H .plane, v .0 .fits, omega (arith, v .0 .both, H .room), omega (arith, v .0 .place, H .place), c .before .before .before .candidate .ensures .1)
+test-requires c κs =
+    let turn = c .before .before .before .before .before in
+    let asked = turn .before .before .before .before .pre in
+    let tested = turn .loop .inv .0 in
+    let count = each-length _ asked tested (omega arith) in (
+      asked .plane,
+      tested .fits,
+      asked .size,
+      omega (arith, tested .both, asked .room),
+      omega (arith, tested .place, asked .place),
+      c .before .before .candidate .ensures .1,
+    )
 
 loop-less : tie.Need-loop-less Inv-loop μ-loop
 loop-less c = omega arith
 
 loop-again : tie.Need-loop-again Inv-loop μ-loop
-loop-again c = let v = c .before .before .before .before .before .before .before .before .before .before .before .before .loop .inv in let H = c .before .before .before .before .before .before .before .before .before .before .before .before .before .before .before .before .pre in let K = c .before .before .before .before .before .test .kept in (each-next _ _ H (v .0) (omega arith) (c .before .before .before .before .before .before .before .before .before .candidate .ensures .0) (c .before .before .before .before .before .test .ensures), omega arith, omega (arith, K, v .2), omega (arith, K, v .3), omega (arith, K, v .4))
+loop-again c =
+    let made = c .before .before .before .before in
+    let turn = made .before .before .before .before .before .before in
+    let asked = turn .before .before .before .before .pre in
+    let next = each-next _ asked (turn .loop .inv .0) (omega arith) (made .before .before .before .candidate .ensures .0) (made .test .ensures) in
+    (next, omega arith, next .around .long, omega (arith, made .test .kept, turn .loop .inv .3))
 
 same-length : tie.Need-same-length Inv-loop μ-loop
-same-length c = c .before .loop .inv .2
+same-length c = search needs
 
 same-length-2 : tie.Need-same-length-2 Inv-loop μ-loop
-same-length-2 c = c .before .loop .inv .3
-
-same-length-3 : tie.Need-same-length-3 Inv-loop μ-loop
-same-length-3 c = c .before .loop .inv .4
+same-length-2 c = search needs
 
 returns : tie.Need-returns Inv-loop μ-loop
-returns c = each-done _ (omega arith) (c .before .loop .inv .0)
+returns c =
+    let a = c .before .before .before .before .before .args in
+    each-done (a .from) (c .before .loop .i) (a .m) (omega arith) (c .before .loop .inv .0)
 
 pub test-each-spec : {M : Type 1} → statement M
 test-each-spec =
@@ -60,5 +76,4 @@ test-each-spec =
     loop-again
     same-length
     same-length-2
-    same-length-3
     returns)

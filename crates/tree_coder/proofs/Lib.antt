@@ -1,7 +1,0 @@
-pub mod Stores
-pub mod Heads
-pub mod Stages
-pub mod Outcomes
-pub mod Parts
-pub mod Turns
-pub mod Records

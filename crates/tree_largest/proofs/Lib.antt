@@ -1,4 +1,0 @@
-pub mod Measures
-pub mod Blocks
-pub mod Lent
-pub mod Steps

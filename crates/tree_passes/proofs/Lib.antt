@@ -1,4 +1,0 @@
-pub mod Trees
-pub mod Sets
-pub mod Visits
-pub mod Pass

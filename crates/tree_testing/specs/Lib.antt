@@ -1,3 +1,0 @@
-pub mod Exchange
-pub mod Growing
-pub mod Finding
