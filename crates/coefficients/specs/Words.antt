@@ -10,7 +10,7 @@ use native.Mathlib.Nat.{add-zero, suc-add}
 use native.Mathlib.Omega.{arith}
 use borrow.Author.Tests.{eqb-true, eq-eqb, ne-eqb}
 use lib.Dec.{eqb}
-use lib.IntN.{ℤ, pos, negsuc, natAbs}
+use lib.IntN.{ℤ, pos, natAbs}
 use Rattle.rules.specs.Document.Pyramid.{below0}
 use Rattle.rules.specs.Document.Passes.{signed, grown}
 
@@ -43,29 +43,6 @@ negative-word false m = ne-eqb ((2 * m + 0) % 2) 1 (λ e. omega arith)
 pub value-word : (b : Bool) (m : ℕ) → valueOf (wordOf b m) ≡ signed b m
 unfolding valueOf
 value-word b m = ap₂ signed (negative-word b m) (magnitude-word b m)
-
-signed-parts : (v : ℤ) → signed (below0 v) (natAbs v) ≡ v
-unfolding signed
-signed-parts (pos m) = refl
-signed-parts (negsuc m) = refl
-
-pub value-worded : (v : ℤ) → valueOf (worded v) ≡ v
-unfolding worded
-value-worded v = value-word (below0 v) (natAbs v) ∙ signed-parts v
-
-signed-magnitude : (b : Bool) (m : ℕ) → natAbs (signed b m) ≡ m
-unfolding signed
-signed-magnitude false m = refl
-signed-magnitude true zero = refl
-signed-magnitude true (suc m) = refl
-
-pub value-magnitude : (w : ℕ) → natAbs (valueOf w) ≡ w / 2
-unfolding valueOf magnitudeWord
-value-magnitude w = signed-magnitude (negativeWord w) (w / 2)
-
-pub worded-zero : worded (pos 0) ≡ 0
-unfolding worded wordOf
-worded-zero = refl
 
 pub value-zero : valueOf 0 ≡ pos 0
 unfolding valueOf negativeWord magnitudeWord signed

@@ -1,13 +1,13 @@
-// Leaves over document 01's pyramid, what its coefficients are: sign and magnitude, read and written; the largest of them, the count of planes.
+// Leaves over document 01's pyramid, what its coefficients are: sign and magnitude, as a value and as a word; the largest of them, the count of planes.
 use rules::Plane;
 ghost use mathlib.Core.Path.{_≡_};
 ghost use mathlib.Core.Bool.{cond};
 ghost use Prim.Native.Nat.{_+_, _*_, _^_, _<_, max};
-ghost use lib.ListN.{getD, set};
+ghost use lib.ListN.{getD};
 ghost use lib.IntN.{pos, natAbs};
 ghost use Rattle.rules.specs.Document.Notation.{greatest};
-ghost use Rattle.rules.specs.Document.Pyramid.{magnitude, negative, below0, planesOf};
-ghost use Rattle.rules.specs.Document.Passes.{signed, grown};
+ghost use Rattle.rules.specs.Document.Pyramid.{magnitude, below0, planesOf};
+ghost use Rattle.rules.specs.Document.Passes.{signed};
 ghost use Rattle.rules.specs.Document.Calls.{firstOver};
 ghost use Rattle.coefficients.specs.Words.{wordOf, worded, valueOf};
 
@@ -55,63 +55,10 @@ pub fn coefficient_at(pyramid: &[i32], q: usize) -> i32
     if q < pyramid.len() { pyramid[q] } else { 0 }
 }
 
-pub fn magnitude_at(pyramid: &[i32], q: usize) -> u32
+fn magnitude_at(pyramid: &[i32], q: usize) -> u32
     ensures { λ r. ⌜ r ≡ magnitude (now (pyramid .entry)) q ⌝ }
 {
     magnitude_of(coefficient_at(pyramid, q))
-}
-
-pub fn negative_at(pyramid: &[i32], q: usize) -> bool
-    ensures { λ r. ⌜ r ≡ negative (now (pyramid .entry)) q ⌝ }
-{
-    is_negative(coefficient_at(pyramid, q))
-}
-
-// Nothing past the end.
-fn write_at(pyramid: &mut [i32], q: usize, value: i32)
-    ensures { λ r. ⌜ now (pyramid .exit) ≡ set (now (pyramid .entry)) q value ⌝ }
-{
-    if q < pyramid.len() {
-        pyramid[q] = value;
-    }
-}
-
-// "A newly significant coefficient has magnitude 2^n."
-pub fn write_found(pyramid: &mut [i32], q: usize, negative: bool, plane: Plane)
-    requires { ⌜ plane .0 < 31 ⌝ }
-    ensures { λ r. ⌜ now (pyramid .exit) ≡ set (now (pyramid .entry)) q (signed negative (2 ^ plane .0)) ⌝ }
-{
-    write_at(pyramid, q, signed_of(negative, threshold_of(plane)));
-}
-
-// "A refinement bit of 1 adds 2^n."
-fn added_by(bit: bool, plane: Plane) -> u32
-    requires { ⌜ plane .0 < 32 ⌝ }
-    ensures { λ r. ⌜ r ≡ cond bit (2 ^ plane .0) 0 ⌝ }
-{
-    if bit {
-        return threshold_of(plane);
-    }
-    0
-}
-
-fn grown_by(value: i32, bit: bool, plane: Plane) -> i32
-    requires { ⌜ (natAbs value < 2 ^ 30) × (plane .0 < 30) ⌝ }
-    ensures { λ r. ⌜ r ≡ grown bit (2 ^ plane .0) value ⌝ }
-{
-    signed_of(
-        is_negative(value),
-        magnitude_of(value) + added_by(bit, plane),
-    )
-}
-
-// Written whatever the bit is: bits can't be foretold, and a branch on each would cost more.
-pub fn write_refined(pyramid: &mut [i32], q: usize, bit: bool, plane: Plane)
-    requires { ⌜ (magnitude (now pyramid) q < 2 ^ 30) × (plane .0 < 30) ⌝ }
-    ensures { λ r. ⌜ now (pyramid .exit) ≡ set (now (pyramid .entry)) q (grown bit (2 ^ plane .0) (getD (now (pyramid .entry)) q (pos 0))) ⌝ }
-{
-    let v = coefficient_at(pyramid, q);
-    write_at(pyramid, q, grown_by(v, bit, plane));
 }
 
 // A coefficient as a word: magnitude x 2, and 1 more where it is negative. Sign and bit come in as numbers: neither can be foretold.

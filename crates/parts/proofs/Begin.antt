@@ -215,9 +215,6 @@ module _ (z : Size) where
     unfolding All
     one-top = A .band .0
 
-    pub one-room : f .lip < t .n
-    one-room = omega (arith, A .coefficients)
-
     one-slot : {x : ℕ} {s₁ : List ℕ} {f₁ : Fill} → 1 ≤ length (treeOffspring z (numberOf z p)) → LipPushed t s f x s₁ f₁
         → f₁ .visited + f₁ .left < setRoom (t .n)
     one-slot h P = omega (arith, A .sets, ap length (root-some p h), ap (λ g. g .visited) (P .fill), ap (λ g. g .left) (P .fill))

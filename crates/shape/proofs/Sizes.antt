@@ -1,19 +1,16 @@
--- What the code tests and computes of sizes, levels and offspring, against document 01's definitions.
+-- What the code tests and computes of sizes and levels, against document 01's definitions.
 use mathlib.Core.Path.{_≡_, sym, _∙_}
 use mathlib.Core.Bool.{Bool, true, false}
 use Prim.Native.Nat.{ℕ, _+_, _*_, _/_, _%_, _^_, _≤_, _<_}
-use native.Mathlib.Nat.{one-mul, mul-le-mul, mod-lt}
+use native.Mathlib.Nat.{one-mul, mul-le-mul}
 use native.Mathlib.Omega.{arith}
 use lib.Pow.{pow-pos, shl-exact, shr-le}
 use lib.Dec.{eqb}
-use borrow.Author.Tests.{le-leb, lt-leb, ne-eqb}
+use borrow.Author.Tests.{le-leb, lt-leb}
 use Rattle.rules.specs.declared.Size.{Size}
 use Rattle.rules.specs.Document.Pyramid.{area, leastSide, greatestSide, mostArea, mostDecompositions, legalSide, legalSize}
-use Rattle.rules.specs.Document.Pyramid.{levels, row, column, within, offspringOf}
-use Rattle.rules.specs.Laws.Family.Sizes.{span, levelStart, levelEnd, legal, area-bound, levelStart-top, levelSize-end, span-most}
-use Rattle.rules.specs.Laws.Offspring.Level.{within-true}
-use Rattle.shape.specs.declared.Offspring.the-variants.{Nothing, Block}
-use Rattle.shape.specs.Offspring.{offspringList, folded, block-first, offspring-band}
+use Rattle.rules.specs.Document.Pyramid.{levels}
+use Rattle.rules.specs.Laws.Family.Sizes.{levelStart, levelEnd, legal, area-bound, levelStart-top, levelSize-end}
 
 -- a shift of 1 that stays under the width
 pub shifted : (k w : ℕ) → k < w → 1 * 2 ^ k % 2 ^ w ≡ 2 ^ k
@@ -68,29 +65,3 @@ module _ (z : Size) (e : legalSize z ≡ true) where
 
   pub start-before : (k : ℕ) → 1 ≤ k → k ≤ levels z → levelStart z k ≤ levelEnd z k
   start-before k h l = omega (arith, levelSize-end z (legal z e) k h l)
-
-pub halved-small : (x n : ℕ) → x ≤ greatestSide → x / 2 ^ n ≤ greatestSide
-halved-small x n h = omega (arith, shr-le x n)
-
-pub first-small : (w top left : ℕ) → w ≤ greatestSide → top < 2 * greatestSide → left < 2 * greatestSide → top * w + left < 2 ^ 32
-first-small w top left h t l = let k : top ≤ 2 * greatestSide = omega arith in omega (arith, mul-le-mul k h)
-
-pub folded-small : (i side : ℕ) → i < greatestSide → side ≤ greatestSide → folded i side < 2 * greatestSide
-folded-small i side h l = let p : i % 2 ≤ 1 = omega arith in omega (arith, mul-le-mul p l)
-
-module _ (z : Size) (e : legalSize z ≡ true) (q : ℕ) where
-  pub band-row : within z (z .n) q ≡ true → row z q < greatestSide
-  band-row t = omega (arith, within-true z (z .n) q t .0, shr-le (z .h) (z .n), legal z e .height .most)
-
-  pub column-small : column z q < greatestSide
-  column-small = omega (arith, mod-lt q {m = z .w} (omega (arith, legal z e .width .least)), legal z e .width .most)
-
-  pub band-none : within z (z .n) q ≡ true → row z q % 2 + column z q % 2 ≡ 0 → offspringList z Nothing ≡ offspringOf z q
-  unfolding offspringList
-  band-none t s = sym (offspring-band z q t ∙ rw s)
-
-  pub band-block : within z (z .n) q ≡ true → (row z q % 2 + column z q % 2 ≡ 0 → ⊥) → (top left : ℕ)
-      → top ≡ folded (row z q) (z .h / 2 ^ z .n) → left ≡ folded (column z q) (z .w / 2 ^ z .n)
-      → offspringList z (Block (top * z .w + left)) ≡ offspringOf z q
-  band-block t s top left i j =
-      rw (i, j) (block-first z _ _ ∙ sym (offspring-band z q t ∙ rw (ne-eqb (row z q % 2 + column z q % 2) 0 s)))

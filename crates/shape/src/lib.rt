@@ -1,17 +1,15 @@
-// Leaves over document 01's pyramid, where its coefficients stand: legal sizes, levels and their stretches, offspring.
+// Leaves over document 01's pyramid, where its coefficients stand: legal sizes, levels and how many coefficients they have.
 use rules::GREATEST_SIDE;
 use rules::Level;
 use rules::Size;
 ghost use mathlib.Core.Path.{_≡_};
 ghost use mathlib.Core.Bool.{true};
-ghost use Prim.Native.Nat.{_+_, _*_, _≤_, _<_};
-ghost use Rattle.rules.specs.Document.Pyramid.{greatestSide, mostDecompositions, legalSide, legalSize};
-ghost use Rattle.rules.specs.Document.Pyramid.{within, levels, offspringOf};
+ghost use Prim.Native.Nat.{_+_, _≤_};
+ghost use Rattle.rules.specs.Document.Pyramid.{mostDecompositions, legalSide, legalSize};
+ghost use Rattle.rules.specs.Document.Pyramid.{levels};
 ghost use Rattle.rules.specs.Document.Numbers.{mostBits};
 ghost use Rattle.rules.specs.Document.Calls.{workFor};
 ghost use Rattle.rules.specs.Laws.Family.Sizes.{span, levelStart, levelEnd, levelSize};
-ghost use Rattle.shape.specs.Offspring.{offspringList, folded};
-ghost use Rattle.shape.specs.Nodes.{Node};
 
 const LEAST_SIDE: usize = 4;
 
@@ -19,12 +17,6 @@ const MOST_DECOMPOSITIONS: usize = 5;
 
 // How many times a stretch of the pyramid was halved: where a coefficient lies, whatever level its bits are coded with.
 pub struct Depth(pub usize);
-
-// The offspring of a coefficient: none, or the 2 x 2 block whose top left index is held.
-pub enum Offspring {
-    Nothing,
-    Block(usize),
-}
 
 fn legal_side(n: usize, side: usize) -> bool
     requires { ⌜ n ≤ mostDecompositions ⌝ }
@@ -103,41 +95,4 @@ pub fn level_size(z: Size, k: Level) -> usize
     ensures { λ r. ⌜ r ≡ levelSize z (k .0) ⌝ }
 {
     level_end(z, k) - level_start(z, k)
-}
-
-// i rounded down to even, and `band` more where i is odd.
-fn folded(i: usize, band: usize) -> usize
-    requires { ⌜ (i < greatestSide) × (band ≤ greatestSide) ⌝ }
-    ensures { λ r. ⌜ (r ≡ folded i band) × (r < 2 * greatestSide) ⌝ }
-{
-    i / 2 * 2 + i % 2 * band
-}
-
-fn offspring_in_band(z: Size, q: usize) -> Offspring
-    requires { ⌜ (legalSize z ≡ true) × (within z (z .n) q ≡ true) ⌝ }
-    ensures { λ r. ⌜ offspringList z r ≡ offspringOf z q ⌝ }
-{
-    let i = q / z.w;
-    let j = q % z.w;
-    if i % 2 + j % 2 == 0 {
-        return Offspring::Nothing;
-    }
-    let n = z.n;
-    let top = folded(i, z.h >> n);
-    let left = folded(j, z.w >> n);
-    Offspring::Block(top * z.w + left)
-}
-
-// The offspring of a coefficient whose depth is known. Outside the LL band the block at (2i, 2j) begins at index 2q.
-pub fn offspring_in(z: Size, q: usize, k: Depth) -> Offspring
-    requires { ⌜ Node z q (k .0) ⌝ }
-    ensures { λ r. ⌜ offspringList z r ≡ offspringOf z q ⌝ }
-{
-    if z.n < k.0 {
-        return offspring_in_band(z, q);
-    }
-    if 1 < k.0 {
-        return Offspring::Block(2 * q);
-    }
-    Offspring::Nothing
 }

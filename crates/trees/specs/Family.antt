@@ -322,7 +322,3 @@ module _ (z : Size) (Z : Legal z) where
     pub maxL-same : (g x : ℕ) → maxL z m g (coefficientOf z x) ≡ treeMaxL z (λ y. m (coefficientOf z y)) g x
     unfolding maxL treeMaxL
     maxL-same g x = under-same (maxD z m g) (treeMaxD z (λ y. m (coefficientOf z y)) g) (maxD-same g) x
-
-  -- Inside a level's own stretch: the nodes under node t of level k + 1, or under root t, are 4 t to 4 t + 3 of level k.
-  pub local-four : (k x f : ℕ) → k ≤ z .n → span z (suc k) ≤ x → 4 * x + f - span z k ≡ 4 * (x - span z (suc k)) + f
-  local-four k x f l h = omega (arith, span-quarter z Z k l)

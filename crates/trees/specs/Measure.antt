@@ -18,14 +18,13 @@ use borrow.Author.Tests.{le-leb, lt-leb, lt-ltb, le-ltb, ne-eqb}
 use Rattle.rules.specs.declared.Size.{Size}
 use Rattle.rules.specs.Document.Notation.{any, greatest}
 use Rattle.rules.specs.Document.Pyramid.{Family, levels, log2Down, planesOf}
-use Rattle.rules.specs.Document.Passes.{Entry, typeA, typeB, significant?, set?, members, truth}
+use Rattle.rules.specs.Document.Passes.{Entry, typeA, typeB, set?, members, truth}
 use Rattle.rules.specs.Laws.Counting.Sums.{every-all}
 use Rattle.rules.specs.Laws.Family.Sizes.{span, span-quarter, span-whole}
 use Rattle.rules.specs.Laws.Family.Maxima.{greatest-same, greatest-reaches, set-A, set-B}
 use Rattle.rules.specs.Laws.Rounding.Planes.{Counts, planesOf-counts}
 use Rattle.rules.specs.Promises.Vocabulary.{Legal}
 use Rattle.trees.specs.Family.{trees, treeLevel, treeOffspring, treeMaxD, treeMaxL, Lies, lies, span-falls, treeOffspring-some, treeOffspring-none}
-use Rattle.trees.specs.Family.{treeOffspring-group}
 use Rattle.trees.specs.Lawful.{trees-lawful, tree-offspring-level}
 
 unfoldable pub keptOf : ℕ → ℕ
@@ -84,9 +83,6 @@ any-same t u h [] = refl
 any-same t u h (x ∷ xs) = ap₂ _||_ (h x) (any-same t u h xs)
 
 module _ (n : ℕ) (h : n < 32) where
-  pub kept-tells-one : (m : ℕ) → ltb (n + 1) (keptOf m) ≡ leb (2 ^ n) m
-  kept-tells-one m = ltb-leb n (keptOf m) ∙ kept-tell n m h
-
   pub kept-tells : {X : Type 0} (mag : X → ℕ) (xs : List X) → ltb (n + 1) (greatest (λ x. keptOf (mag x)) xs) ≡ leb (2 ^ n) (greatest mag xs)
   kept-tells mag xs =
       ltb-leb n (greatest (λ x. keptOf (mag x)) xs)
@@ -96,10 +92,6 @@ module _ (n : ℕ) (h : n < 32) where
 
   -- so it answers the coder's questions
   module _ (F : Family) (mag : ℕ → ℕ) (neg : ℕ → Bool) where
-    pub kept-significant : (p : ℕ) → truth F mag neg n (significant? p) ≡ ltb (n + 1) (keptOf (mag p))
-    unfolding truth
-    kept-significant p = sym (kept-tells-one (mag p))
-
     pub kept-set : (e : Entry) → truth F mag neg n (set? e) ≡ ltb (n + 1) (greatest (λ x. keptOf (mag x)) (members F e))
     unfolding truth
     kept-set e = sym (kept-tells mag (members F e))
@@ -144,12 +136,6 @@ module _ (z : Size) (Z : Legal z) (m : ℕ → ℕ) where
   pub largestD-leaf : (x : ℕ) → span z 1 ≤ x → largestD z m x ≡ 0
   largestD-leaf x h = no-offspring x (treeOffspring-none z x h) .0
 
-  pub largestD-group : (x : ℕ) → x < span z (levels z) → largestD z m x ≡ 0
-  largestD-group x h = no-offspring x (treeOffspring-group z x h) .0
-
-  pub largestL-group : (x : ℕ) → x < span z (levels z) → largestL z m x ≡ 0
-  largestL-group x h = no-offspring x (treeOffspring-group z x h) .1
-
   -- nothing under the offspring of x
   pub largestL-none : (x : ℕ) → span z 2 ≤ x → largestL z m x ≡ 0
   largestL-none x h = by (decLt x (span z 1))
@@ -184,10 +170,3 @@ module _ (z : Size) (Z : Legal z) (m : ℕ → ℕ) where
       (every-all _ (treeOffspring z x) (λ r i. treeMaxD-members g r (omega (arith, tree-offspring-level z Z x r i))))
       ∙ sym (largestL-step x))
       ∙ sym (largestD-step x)
-
-  pub treeMaxL-members : (g x : ℕ) → treeLevel z x ≤ suc (suc g) → treeMaxL z m g x ≡ largestL z m x
-  unfolding treeMaxL
-  treeMaxL-members g x h =
-      greatest-same (treeMaxD z m g) (largestD z m) (treeOffspring z x)
-      (every-all _ (treeOffspring z x) (λ r i. treeMaxD-members g r (omega (arith, tree-offspring-level z Z x r i))))
-      ∙ sym (largestL-step x)

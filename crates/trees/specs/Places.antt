@@ -27,7 +27,7 @@ use Rattle.rules.specs.declared.Size.{Size}
 use Rattle.rules.specs.Document.Pyramid.{area, odd, index, row, column, levels, levelOf, block, offspringOf}
 use Rattle.rules.specs.Promises.Vocabulary.{Legal}
 use Rattle.rules.specs.Laws.Family.Sizes.{span, levelSize, span-quarter, levelSize-fine, levelSize-top, side-some}
-use Rattle.rules.specs.Laws.Offspring.Level.{Within, level-most, over-within, within-over, outside-level, level-least, level-area}
+use Rattle.rules.specs.Laws.Offspring.Level.{Within, level-most, over-within, within-over, outside-level, level-least}
 use Rattle.rules.specs.Laws.Offspring.Block.{apart, together, together-lt, together-odd, apart-together, apart-lt, apart-low, together-apart, row-index}
 use Rattle.rules.specs.Laws.Offspring.Block.{column-index, index-place, halfRows, halfColumns, blockLL, offspring-band, offspring-inner}
 use Rattle.rules.specs.Laws.Offspring.Kin.{rows-2, columns-2, band-row, band-column}
@@ -199,9 +199,6 @@ module _ (z : Size) (Z : Legal z) where
   raster-level (suc j) t l m h =
       let e : j + suc (z .n - suc j) ≡ z .n = omega arith in
       ap (levelOf z) (fine-depth (z .n - suc j) j t e) ∙ at-level (suc (z .n - suc j)) j t e (fine-count (z .n - suc j) j t e h) (omega arith)
-
-  pub raster-area : (k t : ℕ) → 1 ≤ k → k ≤ z .n → t < levelSize z k → rasterOf z k t < area z
-  raster-area k t l m h = level-area z Z (rasterOf z k t) (omega (arith, raster-level k t l m h))
 
   pub offspring-tree : (k t : ℕ) → 1 ≤ k → k < z .n → t < levelSize z (suc k)
       → offspringOf z (rasterOf z (suc k) t) ≡ fourOf (rasterOf z k) t

@@ -10,19 +10,18 @@ use native.Mathlib.Omega.{arith}
 use native.Mathlib.Decide.{decLt, ℕ-discrete}
 use lib.Dec.{eqb}
 use lib.ListN.{length, length-append}
-use lib.IntN.{ℤ}
 use borrow.Author.Tests.{lt-ltb, eq-eqb, ne-eqb}
 use Rattle.rules.specs.declared.Size.{Size}
 use Rattle.rules.specs.declared.Part.{Part}
 use Rattle.rules.specs.declared.Header.{Header}
 use Rattle.rules.specs.Document.Pyramid.{family, area, levels, levelOf}
 use Rattle.rules.specs.Document.Passes.{Entry, typeA, typeB, Side, Course, members, passed, State, after, from, bandLL, PartName}
-use Rattle.rules.specs.Document.Passes.{coder, coded, Reader, decoder, decoded}
+use Rattle.rules.specs.Document.Passes.{Reader, decoded}
 use Rattle.rules.specs.Document.Layout.{bitAt, bodyOf, nameOf, usable}
 use Rattle.rules.specs.Document.Calls.{Progress, going, unfit, used}
 use Rattle.rules.specs.Laws.Counting.Sums.{sum, one, is, All, Every, sum-map, sum-same, sum-pointwise, is-yes, is-no, all-then, all-map}
 use Rattle.rules.specs.Laws.Counting.Sums.{every-all, from-all, from-once, sum-once}
-use Rattle.rules.specs.Laws.Family.Sizes.{span, span-whole, levelSize, levelSize-fine}
+use Rattle.rules.specs.Laws.Family.Sizes.{span, levelSize, levelSize-fine}
 use Rattle.rules.specs.Laws.Family.Lawful.{grandchild}
 use Rattle.rules.specs.Promises.Vocabulary.{Legal}
 use Rattle.rules.specs.Laws.Offspring.Level.{level-most, level-area}
@@ -35,10 +34,10 @@ use Rattle.rules.specs.Laws.Pass.Slots.{Room, room-slots}
 use Rattle.rules.specs.Laws.Pass.Bounds.{Taking, passed-bounded}
 use Rattle.rules.specs.Laws.State.Weight.{after-next}
 use Rattle.rules.specs.Laws.State.Sound.{Sound, sound-room, sound-after}
-use Rattle.rules.specs.Laws.State.Parts.{OfLevel, coded-sound, coder-takes, decoded-sound}
+use Rattle.rules.specs.Laws.State.Parts.{OfLevel, decoded-sound}
 use Rattle.rules.specs.Laws.State.Start.{rootsOf, Begins, roots-paid, begins-sound}
 use Rattle.trees.specs.Renamed.{nameEntry, map-length, members-renamed}
-use Rattle.trees.specs.Family.{trees, treeLevel, treeOffspring, coefficientOf, span-falls, level-same, trees-rename}
+use Rattle.trees.specs.Family.{trees, treeLevel, treeOffspring, coefficientOf, level-same, trees-rename}
 use Rattle.trees.specs.Family.{treeOffspring-none, treeOffspring-group}
 use Rattle.trees.specs.Run.{numberOf, treeBand, treeRoot, treeStart, number-level, number-area, coefficient-number, number-coefficient}
 use Rattle.trees.specs.Run.{coefficient-under, roots-renamed}
@@ -154,13 +153,6 @@ module _ (z : Size) (Z : Legal z) where
         subst (λ (n : ℕ). Room (trees z) k n (length (s k .lsp)) 0 (s k .lip) (s k .lis)) (tree-level-count k a b)
         (sound-room h (trees-lawful z Z) k b)
 
-    -- What its lists hold is in the pyramid.
-    pub tree-lip-area : (k : ℕ) → 1 ≤ k → All (λ x. x < area z) (s k .lip)
-    tree-lip-area k a = all-then _ _ (s k .lip) (λ x e. tree-level-area x (omega arith)) (h .placed k .lips)
-
-    pub tree-lsp-area : (k : ℕ) → 1 ≤ k → All (λ x. x < area z) (s k .lsp)
-    tree-lsp-area k a = all-then _ _ (s k .lsp) (λ x e. tree-level-area x (omega arith)) (h .placed k .lsps)
-
     -- Whatever its side, a part leaves sound lists.
     pub tree-after-sound : (k : ℕ) → 1 ≤ k → k ≤ levels z → {S : Type 0} (C : Side S) (x : S) → TreeSound z (after k (passed (trees z) k C (s k) x) s)
     tree-after-sound k a b C x = sound-after (trees-lawful z Z) h k a b C x
@@ -171,21 +163,6 @@ module _ (z : Size) (Z : Legal z) where
           → 4 * bits (passed (trees z) (p .level) C (s (p .level)) x .side) ≤ 11 * levelSize z (p .level)
       taken C bits T x e =
           omega (arith, passed-bounded (trees-lawful z Z) T (s (p .level)) x (tree-part-room (p .level) (o .from1) (o .upTo)) .taken)
-
-      pub tree-coded-sound : (mag : ℕ → ℕ) (neg : ℕ → Bool) → TreeSound z (after (p .level) (coded (trees z) mag neg p s) s)
-      tree-coded-sound mag neg = coded-sound (trees-lawful z Z) h o mag neg
-
-      pub tree-coded-taken : (mag : ℕ → ℕ) (neg : ℕ → Bool) → 4 * length (coded (trees z) mag neg p s .side) ≤ 11 * levelSize z (p .level)
-      unfolding coded
-      tree-coded-taken mag neg = taken (coder (trees z) mag neg (p .plane)) length (coder-takes (trees z) mag neg (p .plane)) _ refl
-
-      pub tree-decoded-sound : (bit : ℕ → Bool) (v : List ℤ) → TreeSound z (after (p .level) (decoded (trees z) p bit s v) s)
-      tree-decoded-sound bit v = decoded-sound (trees-lawful z Z) h o bit v
-
-      pub tree-decoded-taken : (bit : ℕ → Bool) (v : List ℤ) → 4 * decoded (trees z) p bit s v .side .taken ≤ 11 * levelSize z (p .level)
-      unfolding decoded
-      tree-decoded-taken bit v =
-          taken (decoder bit (p .plane)) (λ r. r .taken) (record { asked = λ q r. omega arith; noted = λ e r. omega arith }) _ refl
 
   -- What moves out of a level has room in the next.
   pub tree-moved-room : {s : State} → TreeSound z s → (j : ℕ) → 1 ≤ j → suc j ≤ levels z → {S : Type 0} (C : Side S) (x : S)
@@ -213,9 +190,6 @@ module _ (z : Size) (Z : Legal z) where
       under : Dec (nodeOf e < span z 1) → nodeOf e < span z 1
       under (yes l) = l
       under (no d) = absurd (none (treeOffspring-none z (nodeOf e) (omega arith)))
-
-  pub tree-node-bound : {k : ℕ} (e : Entry) → Settled (trees z) k e → nodeOf e < area z
-  tree-node-bound e s = omega (arith, tree-node e s .1, span-falls z 0 1 (omega arith), span-whole z)
 
 -- Decoding, too, goes from sound lists to sound lists.
 module _ (h : Header) (Z : Legal (h .size)) (bytes : List ℕ) (there : List PartName) where

@@ -1,7 +1,7 @@
 -- What a set of document 01's family has, told by the level of its coefficient: the tests that the code makes.
 use mathlib.Core.Path.{_≡_, refl, sym, _∙_}
-use mathlib.Core.List.{[], _∷_}
-use mathlib.Core.Bool.{Bool, true, false, cond}
+use mathlib.Core.List.{[]}
+use mathlib.Core.Bool.{Bool, true, false}
 use Prim.Native.Nat.{ℕ, zero, suc, _+_, _-_, _≤_, _<_}
 use native.Mathlib.Omega.{arith}
 use native.Mathlib.Decide.{decLt}
@@ -9,10 +9,9 @@ use lib.Dec.{ltb}
 use lib.ListN.{length}
 use borrow.Author.Tests.{lt-ltb, le-ltb}
 use Rattle.rules.specs.declared.Size.{Size}
-use Rattle.rules.specs.Document.Notation.{ifAny}
 use Rattle.rules.specs.Document.Pyramid.{family, levelOf, offspringOf, descendantsOf}
-use Rattle.rules.specs.Document.Passes.{typeA, typeB, members, inLevel, added}
-use Rattle.rules.specs.Laws.Counting.Sums.{_∈_, in-flat, in-some, some-in, none-in, ifAny-some}
+use Rattle.rules.specs.Document.Passes.{typeB, members, inLevel}
+use Rattle.rules.specs.Laws.Counting.Sums.{_∈_, in-flat, in-some, some-in, none-in}
 use Rattle.rules.specs.Laws.Family.Lawful.{level-test, level-some, offspring-descend, further-descend, grandchild}
 use Rattle.rules.specs.Promises.Vocabulary.{Legal}
 use Rattle.rules.specs.Laws.Offspring.Kin.{offspring-level}
@@ -40,21 +39,6 @@ module _ (z : Size) (Z : Legal z) where
       (t .0, further-descend (family z) (lawful z Z) p (r .0) (t .0) (r .1) (t .1), t .2)
 
   module _ (p : ℕ) (some : 1 ≤ length (offspringOf z p)) where
-    -- D has members of the levels under that of the coefficient, down to 1.
-    pub inLevel-A : (k : ℕ) → 1 ≤ k → inLevel (family z) k (typeA p) ≡ ltb k (levelOf z p)
-    unfolding members
-    inLevel-A k h = test-is (inLevel (family z) k (typeA p)) k (levelOf z p) up down
-      where
-        up : inLevel (family z) k (typeA p) ≡ true → k < levelOf z p
-        up e =
-            let q : _ = level-some (family z) k (typeA p) e in
-            omega (arith, descendants-level z Z p (q .0) (q .1), q .2)
-
-        down : k < levelOf z p → inLevel (family z) k (typeA p) ≡ true
-        down l =
-            let t : _ = descendant-at (levelOf z p - suc k) k p h (omega arith) some in
-            level-test (family z) k (t .0) (typeA p) (t .1) (t .2)
-
     members-B-level : (q : ℕ) → q ∈ members (family z) (typeB p) → suc (levelOf z q) < levelOf z p
     members-B-level q i =
         let g : _ = grandchild (family z) (lawful z Z) p q i in
@@ -88,11 +72,3 @@ module _ (z : Size) (Z : Legal z) where
         none-in (members (family z) (typeB p)) (λ q i.
         let g : _ = grandchild (family z) (lawful z Z) p q i in
         omega (arith, members-B-level q i, lawful z Z .from1 (g .0) q (g .2)))
-
-    pub added-A : added (family z) (typeA p) ≡ cond (ltb 2 (levelOf z p)) (typeB p ∷ []) []
-    unfolding added ifAny
-    added-A = go (decLt 2 (levelOf z p))
-      where
-        go : Dec (2 < levelOf z p) → ifAny (members (family z) (typeB p)) (typeB p ∷ []) ≡ cond (ltb 2 (levelOf z p)) (typeB p ∷ []) []
-        go (yes h) = rw (lt-ltb 2 (levelOf z p) h) (ifAny-some (members (family z) (typeB p)) (typeB p ∷ []) (members-B-some h))
-        go (no h) = rw (le-ltb 2 (levelOf z p) (omega arith), members-B-none (omega arith))

@@ -1,2 +1,0 @@
-pub mod Offspring
-pub mod Nodes
