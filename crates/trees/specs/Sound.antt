@@ -31,7 +31,6 @@ use Rattle.rules.specs.Laws.Offspring.Counts.{level-count}
 use Rattle.rules.specs.Laws.Pass.Lists.{setWeight}
 use Rattle.rules.specs.Laws.Pass.Levels.{Settled, nodeOf, settled-offspring}
 use Rattle.rules.specs.Laws.Pass.Slots.{Room, room-slots}
-use Rattle.rules.specs.Laws.Pass.Bounds.{Taking, passed-bounded}
 use Rattle.rules.specs.Laws.State.Weight.{after-next}
 use Rattle.rules.specs.Laws.State.Sound.{Sound, sound-room, sound-after}
 use Rattle.rules.specs.Laws.State.Parts.{OfLevel, decoded-sound}
@@ -156,13 +155,6 @@ module _ (z : Size) (Z : Legal z) where
     -- Whatever its side, a part leaves sound lists.
     pub tree-after-sound : (k : ℕ) → 1 ≤ k → k ≤ levels z → {S : Type 0} (C : Side S) (x : S) → TreeSound z (after k (passed (trees z) k C (s k) x) s)
     tree-after-sound k a b C x = sound-after (trees-lawful z Z) h k a b C x
-
-    -- The coder's and the decoder's part: at most eleven bits for every four coefficients of its level.
-    module _ (p : PartName) (o : OfLevel (levels z) p) where
-      taken : {S : Type 0} (C : Side S) (bits : S → ℕ) → Taking C bits → (x : S) → bits x ≡ 0
-          → 4 * bits (passed (trees z) (p .level) C (s (p .level)) x .side) ≤ 11 * levelSize z (p .level)
-      taken C bits T x e =
-          omega (arith, passed-bounded (trees-lawful z Z) T (s (p .level)) x (tree-part-room (p .level) (o .from1) (o .upTo)) .taken)
 
   -- What moves out of a level has room in the next.
   pub tree-moved-room : {s : State} → TreeSound z s → (j : ℕ) → 1 ≤ j → suc j ≤ levels z → {S : Type 0} (C : Side S) (x : S)
