@@ -1,5 +1,7 @@
 -- What a store at the end of a list makes of all that the stretch holds.
-use mathlib.Core.Path.{_≡_, refl, ap, _∙_}
+use mathlib.Core.Path.{_≡_, refl, ap, ap₂, _∙_, subst}
+use mathlib.Core.Bool.{Bool, true, false, cond}
+use mir.Val.{boolByte}
 use mathlib.Core.List.{List, [], _∷_, _++_, map, map-append}
 use Prim.Native.Nat.{ℕ, _+_, _-_, _*_, _/_, _%_, _≤_, _<_}
 use native.Mathlib.Omega.{arith}
@@ -11,7 +13,7 @@ use Rattle.stretches.specs.Seg.{seg, seg-none, seg-cons, seg-below, seg-above, 
 use Rattle.stretches.specs.Cut.{setRoom, lipFrom, lspFrom, lisFrom, maximaFrom}
 use Rattle.lists.specs.declared.Stretch.{Stretch}
 use Rattle.lists.specs.declared.Fill.{Fill}
-use Rattle.lists.specs.Lists.{entry, sets, waiting, known, held, Fits, Beside, LipPushed, LspPushed, NextSet, SetAdded, SetKept, SetMoved}
+use Rattle.lists.specs.Lists.{entry, sets, waiting, known, held, Fits, Beside, LipPushed, LspPushed, PushedBy, NextSet, SetAdded, SetKept, SetMoved}
 use Rattle.lists.specs.Besides.{held-same}
 
 -- entry
@@ -135,6 +137,32 @@ module _ (t : Stretch) (s : List ℕ) (f : Fill) (h : Fits t s f) where
         ahead = λ b m a e. seg-above (n + b) m s i p (omega arith);
         known = λ m a. seg-above (n + n) m s i p (omega arith);
       }
+
+  -- the end of the one list or the other, by a bit
+  module _ (b : Bool) (i : ℕ) {lsp lip : ℕ} (e : i ≡ cond b lsp lip) (at-lsp : lsp ≡ lspFrom (t .n) + f .lsp) (at-lip : lip ≡ lipFrom (t .n) + f .lip)
+      (l : f .lip + f .lsp < t .n) where
+    pub end-inside : i < length s
+    unfolding lipFrom lspFrom
+    end-inside = by b e
+      where
+        by : (b : Bool) → i ≡ cond b lsp lip → i < length s
+        by true d = omega (arith, h .room)
+        by false d = omega (arith, h .room)
+
+    pub push-by-law : (p : ℕ) → PushedBy b t s f p (set s i p)
+        (record { lip = f .lip + 1 - boolByte b; lsp = f .lsp + boolByte b; kept = f .kept; visited = f .visited; left = f .left; moved = f .moved })
+    push-by-law p =
+        record {
+          to-lsp =
+              λ x. subst (λ r. LspPushed t s f p (set s i p) r) (ap₂ filled (omega (arith, ap boolByte x)) (omega (arith, ap boolByte x)))
+              (push-lsp-law p i (e ∙ ap (λ c. cond c lsp lip) x ∙ at-lsp) (omega arith));
+          to-lip =
+              λ x. subst (λ r. LipPushed t s f p (set s i p) r) (ap₂ filled (omega (arith, ap boolByte x)) (omega (arith, ap boolByte x)))
+              (push-lip-law p i (e ∙ ap (λ c. cond c lsp lip) x ∙ at-lip) (omega arith));
+        }
+      where
+        filled : ℕ → ℕ → Fill
+        filled x y = record { lip = x; lsp = y; kept = f .kept; visited = f .visited; left = f .left; moved = f .moved }
 
   pub next-set-law : (e : Entry) (i : ℕ) → i ≡ lisFrom (t .n) + f .visited → entry (getD s i 0) ≡ e → 0 < f .left → NextSet t s f e
   unfolding held lisFrom setRoom

@@ -1,13 +1,14 @@
 -- What the list operations leave alone, and what a value that is set leaves of the lists.
 use mathlib.Core.Path.{_≡_, refl, ap, _∙_}
-use mathlib.Core.List.{List, map}
-use Prim.Native.Nat.{ℕ, _+_, _*_, _≤_}
+use mathlib.Core.List.{List, [], _∷_, _++_, map}
+use Prim.Native.Nat.{ℕ, _+_, _*_, _≤_, _<_}
 use native.Mathlib.Omega.{arith}
 use Rattle.rules.specs.Document.Passes.{Entry, Lists}
-use Rattle.stretches.specs.Cut.{lipFrom, lspFrom, lisFrom, valuesIn, maximaIn, ValueSet, values-same, maxima-same, valued-seg}
+use Rattle.stretches.specs.Seg.{seg, seg-same}
+use Rattle.stretches.specs.Cut.{lipFrom, lspFrom, lisFrom, maximaFrom, valuesIn, maximaIn, ValueSet, ButAt, values-same, maxima-same, valued-seg}
 use Rattle.lists.specs.declared.Stretch.{Stretch}
 use Rattle.lists.specs.declared.Fill.{Fill}
-use Rattle.lists.specs.Lists.{entry, sets, waiting, known, Held, held, listsIn, Fits, Beside}
+use Rattle.lists.specs.Lists.{entry, sets, waiting, known, Held, held, listsIn, Fits, Beside, LipPushed, Spared}
 
 pub beside-none : (t : Stretch) (m : ℕ) (s : List ℕ) → Beside t m s s
 beside-none t m s = record { long = refl; values = λ i h. refl; others = λ i h k. refl; rest = λ i h. refl }
@@ -71,3 +72,63 @@ module _ {t : Stretch} {s : List ℕ} {i v : ℕ} {s′ : List ℕ} {f : Fill} (
         behind = g .behind;
         moved = rw (h .long) (g .moved);
       }
+
+-- a number behind LIP, and an entry of LIP over it
+pub spared-none : (t : Stretch) (s : List ℕ) (f : Fill) → Fits t s f → Spared t s f s
+spared-none t s f g =
+    record { holds = refl; fits = g; beside = beside-none t (f .moved) s; ahead = λ i m a b. refl; known = λ m a. refl }
+
+module _ {t : Stretch} {s s′ : List ℕ} {f : Fill} (g : Fits t s f) (room : f .lip < t .n) (h : ButAt (lipFrom (t .n) + f .lip) s s′) where
+  spared-before : (b m : ℕ) → b + m ≤ t .n + f .lip → seg b m s′ ≡ seg b m s
+  unfolding lipFrom
+  spared-before b m l = seg-same b m s s′ (h .long) (λ j k e. h .others j (λ x. omega arith))
+
+  spared-behind : (b m : ℕ) → t .n + f .lip < b → seg b m s′ ≡ seg b m s
+  unfolding lipFrom
+  spared-behind b m l = seg-same b m s s′ (h .long) (λ j k e. h .others j (λ x. omega arith))
+
+  spared-sets : (b m : ℕ) → t .n + f .lip < b → sets b m s′ ≡ sets b m s
+  unfolding sets
+  spared-sets b m l = ap (map entry) (spared-behind b m l)
+
+  pub spared-at : Spared t s f s′
+  unfolding held waiting known lipFrom lspFrom lisFrom maximaFrom
+  spared-at =
+      let n : ℕ = t .n in
+      let out = g .behind in
+      record {
+        holds =
+            held-same (spared-before (n + 0) (f .lip) (omega arith)) (spared-behind (n + n) (f .lsp) (omega arith))
+            (spared-sets (n + n + n) (f .kept) (omega arith)) (spared-sets (n + n + n + f .visited) (f .left) (omega arith))
+            (spared-sets (t .away) (f .moved) (omega arith));
+        fits = record {
+          room = rw (h .long) (g .room);
+          lip = g .lip;
+          lsp = g .lsp;
+          kept = g .kept;
+          visits = g .visits;
+          behind = out;
+          moved = rw (h .long) (g .moved);
+        };
+        beside = record {
+          long = h .long;
+          values = λ i k. h .others i (λ x. omega arith);
+          others = λ i k l. h .others i (λ x. omega arith);
+          rest = λ i k. h .others i (λ x. omega arith);
+        };
+        ahead = λ i m a b. spared-behind (n + i) m (omega arith);
+        known = λ m a. spared-behind (n + n) m (omega arith);
+      }
+
+pub spared-pushed : {t : Stretch} {s s₁ s′ : List ℕ} {f r : Fill} {x : ℕ} → Spared t s f s₁ → LipPushed t s₁ f x s′ r → LipPushed t s f x s′ r
+spared-pushed {x = x} S L =
+    let pushed : Held → Held =
+    λ h. record { lip = h .lip ++ (x ∷ []); lsp = h .lsp; kept = h .kept; todo = h .todo; moved = h .moved } in
+    record {
+      fill = L .fill;
+      holds = L .holds ∙ ap pushed (S .holds);
+      fits = L .fits;
+      beside = beside-then (S .beside) (L .beside) (omega (arith, ap (λ h. h .moved) (L .fill)));
+      ahead = λ i m a b. L .ahead i m a b ∙ S .ahead i m a b;
+      known = λ m a. L .known m a ∙ S .known m a;
+    }

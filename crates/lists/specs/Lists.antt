@@ -8,7 +8,8 @@
 --   Beside t m s s′     what is no list is as it was: values, maxima, and all behind the stretch but m sets that moved out
 use mathlib.Core.Path.{_≡_, refl, ap, ap₂, _∙_}
 use mathlib.Core.List.{List, [], _∷_, _++_, map}
-use mathlib.Core.Bool.{Bool, cond}
+use mathlib.Core.Bool.{Bool, true, false, cond}
+use mir.Val.{boolByte}
 use Prim.Native.Nat.{ℕ, _+_, _-_, _*_, _/_, _%_, _≤_, _<_}
 use lib.Dec.{eqb}
 use native.Mathlib.Omega.{arith}
@@ -111,6 +112,19 @@ pub record LspPushed (t : Stretch) (s : List ℕ) (f : Fill) (p : ℕ) (s′ : L
   pub ahead : (i m : ℕ) → f .lip < i → i + m ≤ t .n → waiting (t .n) i m s′ ≡ waiting (t .n) i m s
   pub known : (m : ℕ) → m ≤ f .lsp → known (t .n) m s′ ≡ known (t .n) m s
 
+-- A tested coefficient was put at the end of LSP where it was found, else at the end of LIP.
+pub record PushedBy (found : Bool) (t : Stretch) (s : List ℕ) (f : Fill) (p : ℕ) (s′ : List ℕ) (r : Fill) : Type 0 where
+  pub to-lsp : found ≡ true → LspPushed t s f p s′ r
+  pub to-lip : found ≡ false → LipPushed t s f p s′ r
+
+-- All that counts is as it was: at most the place behind LIP holds another number.
+pub record Spared (t : Stretch) (s : List ℕ) (f : Fill) (s′ : List ℕ) : Type 0 where
+  pub holds : held t s′ f ≡ held t s f
+  pub fits : Fits t s′ f
+  pub beside : Beside t (f .moved) s s′
+  pub ahead : (i m : ℕ) → f .lip < i → i + m ≤ t .n → waiting (t .n) i m s′ ≡ waiting (t .n) i m s
+  pub known : (m : ℕ) → m ≤ f .lsp → known (t .n) m s′ ≡ known (t .n) m s
+
 -- The next set of LIS: what is held once it counts as visited.
 abbrev pub past : Fill → Fill
 past f = record { lip = f .lip; lsp = f .lsp; kept = f .kept; visited = f .visited + 1; left = f .left - 1; moved = f .moved }
@@ -164,6 +178,11 @@ pub record SetMoved (t : Stretch) (s : List ℕ) (f : Fill) (e : Entry) (s′ : 
   pub fits : Fits t s′ r
   pub beside : Beside t (r .moved) s s′
   pub known : (m : ℕ) → m ≤ f .lsp → known (t .n) m s′ ≡ known (t .n) m s
+
+-- a bit as a number
+pub bit-small : (b : Bool) → boolByte b < 2
+bit-small true = omega arith
+bit-small false = omega arith
 
 -- laws for those who don't open the layout
 pub sets-fit : (n x : ℕ) → 4 * x ≤ 3 * n → x ≤ setRoom n

@@ -6,7 +6,7 @@ ghost use Prim.Native.Nat.{_+_, _*_, _^_, _≤_, _<_};
 ghost use lib.ListN.{length};
 ghost use Rattle.stretches.specs.Cut.{setRoom, lipFrom, lspFrom, lisFrom};
 ghost use Rattle.lists.specs.Lists.{entry, entryOf, indexOf, waiting, known, past, emptied};
-ghost use Rattle.lists.specs.Lists.{Fits, LipPushed, LspPushed, NextSet, SetAdded, SetKept, SetMoved};
+ghost use Rattle.lists.specs.Lists.{Fits, LipPushed, PushedBy, NextSet, SetAdded, SetKept, SetMoved};
 
 // A level's stretch: for how many coefficients, and the place behind it where the sets go that move out of the level.
 pub struct Stretch {
@@ -111,15 +111,26 @@ pub fn push_lip(s: &mut [u32], stretch: Stretch, f: Fill, x: usize) -> Fill
     r
 }
 
-// A coefficient to the end of LSP.
-pub fn push_lsp(s: &mut [u32], stretch: Stretch, f: Fill, x: usize) -> Fill
-    requires { ⌜ Fits stretch (now s) f × (stretch .n < 2 ^ 32) × (f .lsp < stretch .n) × (x < 2 ^ 32) ⌝ }
-    ensures { λ r. ⌜ LspPushed stretch (now (s .entry)) f x (now (s .exit)) r ⌝ }
+// The place behind LIP.
+pub fn lip_end(stretch: Stretch, f: Fill) -> usize
+    requires { ⌜ (stretch .n < 2 ^ 32) × (f .lip < stretch .n) ⌝ }
+    ensures { λ r. ⌜ r ≡ lipFrom (stretch .n) + f .lip ⌝ }
 {
-    let at = lsp_from(stretch.n) + f.lsp;
+    lip_from(stretch.n) + f.lip
+}
+
+// A tested coefficient to the end of LSP if it was found, else to the end of LIP. List and counts are chosen as numbers: no branch waits for the bit.
+pub fn push_tested(s: &mut [u32], stretch: Stretch, f: Fill, x: usize, found: bool) -> Fill
+    requires { ⌜ Fits stretch (now s) f × (stretch .n < 2 ^ 32) × (f .lip + f .lsp < stretch .n) × (x < 2 ^ 32) ⌝ }
+    ensures { λ r. ⌜ PushedBy found stretch (now (s .entry)) f x (now (s .exit)) r ⌝ }
+{
+    let lsp_end = lsp_from(stretch.n) + f.lsp;
+    let at = stretches::either(found, lsp_end, lip_end(stretch, f));
     s[at] = x as u32;
+    let bit = found as usize;
     let mut r = f;
-    r.lsp = f.lsp + 1;
+    r.lip = f.lip + 1 - bit;
+    r.lsp = f.lsp + bit;
     r
 }
 

@@ -1,6 +1,6 @@
 -- What a store makes of the values and the maxima; where a stretch ends.
-use mathlib.Core.Path.{_≡_, refl, sym, ap, _∙_}
-use mathlib.Core.Bool.{true}
+use mathlib.Core.Path.{_≡_, refl, sym, ap, _∙_, subst}
+use mathlib.Core.Bool.{Bool, true, false, cond}
 use mathlib.Core.List.{List}
 use Prim.Native.Nat.{ℕ, _+_, _*_, _/_, _^_, _≤_, _<_}
 use native.Mathlib.Nat.{zero-add}
@@ -13,7 +13,7 @@ use Rattle.rules.specs.Document.Calls.{workFor}
 use Rattle.rules.specs.Laws.Family.Sizes.{levelStart, levelSize, levelEnd, legal, area-bound, levelSize-end}
 use Rattle.stretches.specs.Seg.{seg, seg-set}
 use Rattle.stretches.specs.Levels.{level-ends}
-use Rattle.stretches.specs.Cut.{maximaFrom, valuesIn, maximaIn, ValueSet, MaximumSet, values-length, maxima-length, maxima-at}
+use Rattle.stretches.specs.Cut.{maximaFrom, valuesIn, maximaIn, ValueSet, SetOr, MaximumSet, values-length, maxima-length, maxima-at}
 
 -- a read
 pub value-past : (n : ℕ) (s : List ℕ) (i : ℕ) → 4 * n ≤ length s → n ≤ i → 0 ≡ getD (valuesIn n s) i 0
@@ -38,6 +38,25 @@ value-stored n s i v h =
 pub value-kept : (n : ℕ) (s : List ℕ) (i v : ℕ) → 4 * n ≤ length s → n ≤ i → ValueSet n s i v s
 value-kept n s i v h l =
     record { long = refl; values = sym (set-out (valuesIn n s) i v (omega (arith, values-length n s h))); others = λ j k. refl }
+
+-- a store by a bit, and none past the end
+pub either-stored : (b : Bool) (n : ℕ) (s : List ℕ) (i v p at : ℕ) → at ≡ cond b i p → i < n → SetOr b n s i v p (set s at v)
+either-stored b n s i v p at e h =
+    record {
+      written = λ x. subst (λ (j : ℕ). ValueSet n s i v (set s j v)) (sym (e ∙ ap (λ c. cond c i p) x)) (value-stored n s i v h);
+      spared =
+          λ x. record {
+            long = length-set s at v;
+            others = λ j k. getD-set-other s at j v 0 (λ y. k (omega (arith, e ∙ ap (λ c. cond c i p) x)));
+          };
+    }
+
+pub either-inside : (b : Bool) (i p at m : ℕ) → at ≡ cond b i p → i < m → p < m → at < m
+either-inside true i p at m e h k = omega arith
+either-inside false i p at m e h k = omega arith
+
+pub either-kept : (b : Bool) (n : ℕ) (s : List ℕ) (i v p : ℕ) → 4 * n ≤ length s → n ≤ i → SetOr b n s i v p s
+either-kept b n s i v p h l = record { written = λ x. value-kept n s i v h l; spared = λ x. record { long = refl; others = λ j k. refl } }
 
 pub maximum-stored : (n : ℕ) (s : List ℕ) (i v from : ℕ) → from ≡ maximaFrom n → i < n / 4 → MaximumSet n s i v (set s (from + i) v)
 unfolding maximaIn maximaFrom

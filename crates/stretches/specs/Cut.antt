@@ -9,6 +9,7 @@
 --
 -- The sets that move out of the level go straight to the end of the next level's LIS.
 use mathlib.Core.Path.{_≡_, ap, _∙_}
+use mathlib.Core.Bool.{Bool, true, false}
 use mathlib.Core.List.{List}
 use Prim.Native.Nat.{ℕ, _+_, _*_, _/_, _%_, _≤_, _<_}
 use native.Mathlib.Nat.{zero-add}
@@ -56,6 +57,16 @@ pub record ValueSet (n : ℕ) (s : List ℕ) (i v : ℕ) (s′ : List ℕ) : Typ
   pub long : length s′ ≡ length s
   pub values : valuesIn n s′ ≡ set (valuesIn n s) i v
   pub others : (j : ℕ) → n ≤ j → getD s′ j 0 ≡ getD s j 0
+
+-- At most the number at one place is another.
+pub record ButAt (p : ℕ) (s s′ : List ℕ) : Type 0 where
+  pub long : length s′ ≡ length s
+  pub others : (j : ℕ) → (j ≡ p → ⊥) → getD s′ j 0 ≡ getD s j 0
+
+-- A value was set where a bit is 1; where it is 0, at most the number at place p is another.
+pub record SetOr (bit : Bool) (n : ℕ) (s : List ℕ) (i v p : ℕ) (s′ : List ℕ) : Type 0 where
+  pub written : bit ≡ true → ValueSet n s i v s′
+  pub spared : bit ≡ false → ButAt p s s′
 
 -- A maximum was set; all else is as it was.
 pub record MaximumSet (n : ℕ) (s : List ℕ) (i v : ℕ) (s′ : List ℕ) : Type 0 where

@@ -1,12 +1,12 @@
 // A level's stretch of the workspace: where it lies, and what stands in it beside the lists: the level's values as words, and the maxima of sets.
 ghost use mathlib.Core.Path.{_≡_};
-ghost use mathlib.Core.Bool.{true};
+ghost use mathlib.Core.Bool.{true, cond};
 ghost use Prim.Native.Nat.{_+_, _*_, _^_, _≤_, _<_};
 ghost use lib.ListN.{length, getD};
 ghost use Rattle.rules.specs.Document.Pyramid.{legalSize, levels};
 ghost use Rattle.rules.specs.Document.Calls.{workFor};
 ghost use Rattle.rules.specs.Laws.Family.Sizes.{levelStart, levelSize};
-ghost use Rattle.stretches.specs.Cut.{maximaFrom, valuesIn, maximaIn, ValueSet, MaximumSet};
+ghost use Rattle.stretches.specs.Cut.{maximaFrom, valuesIn, maximaIn, ValueSet, SetOr, MaximumSet};
 use rules::Level;
 use rules::Size;
 
@@ -41,6 +41,29 @@ pub fn set_value(s: &mut [u32], n: usize, i: usize, word: u32)
     if i < n {
         s[i] = word;
     }
+}
+
+// One of two numbers by a bit.
+pub fn either(bit: bool, a: usize, b: usize) -> usize
+    ensures { λ r. ⌜ r ≡ cond bit a b ⌝ }
+{
+    if bit {
+        return a;
+    }
+    b
+}
+
+// The i-th value is set if a bit is 1; if it is 0, the word goes to a place where it doesn't matter. Nothing past the values' end. The place is
+// chosen as a number: the bits of a body are hard to foresee, and no branch waits for this one.
+pub fn set_value_or(s: &mut [u32], n: usize, i: usize, word: u32, bit: bool, spare: usize)
+    requires { ⌜ (4 * n ≤ length (now s)) × (spare < length (now s)) ⌝ }
+    ensures { λ _. ⌜ SetOr bit n (now (s .entry)) i word spare (now (s .exit)) ⌝ }
+{
+    if n <= i {
+        return;
+    }
+    let at = either(bit, i, spare);
+    s[at] = word;
 }
 
 pub fn maxima_from(n: usize) -> usize

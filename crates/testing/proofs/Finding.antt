@@ -1,6 +1,6 @@
 -- Step 1, and the offspring of an opened set: what the test of a coefficient makes of lists and side, and several tests in order.
 use mathlib.Core.Path.{_≡_, refl, sym, ap, ap₂, _∙_, subst}
-use mathlib.Core.Bool.{true, false}
+use mathlib.Core.Bool.{Bool, true, false}
 use mathlib.Core.List.{List, [], _∷_, _++_, map}
 use Prim.Native.Nat.{ℕ, zero, suc, _+_, _*_, _≤_, _<_, _^_}
 use native.Mathlib.Omega.{arith}
@@ -12,14 +12,16 @@ use Rattle.stretches.specs.Seg.{seg, seg-length, seg-add, seg-none, seg-same}
 use Rattle.stretches.specs.Cut.{lipFrom, lspFrom, lisFrom, valuesIn}
 use Rattle.lists.specs.declared.Stretch.{Stretch}
 use Rattle.lists.specs.declared.Fill.{Fill}
-use Rattle.lists.specs.Lists.{entry, sets, waiting, known, Held, held, Fits, LipPushed, LspPushed, waiting-add, waiting-none, waiting-length}
-use Rattle.lists.specs.Besides.{beside-values, held-same}
+use Rattle.lists.specs.Lists.{entry, sets, waiting, known, Held, held, Fits, LipPushed, LspPushed, PushedBy, waiting-add, waiting-none, waiting-length}
+use Rattle.lists.specs.Besides.{beside-values, held-same, spared-pushed}
 use Rattle.testing.specs.declared.Run.{Run}
 use Rattle.testing.specs.declared.Stand.{Stand}
+use Rattle.testing.specs.declared.Told.{Told}
 use Rattle.testing.specs.declared.Candidates.{Candidates}
 use Rattle.testing.specs.declared.Candidates.the-variants.{Waiting, Four}
 use Rattle.testing.specs.Exchange.{Chan, chan, side, notes, Replied, Noted, Around, quiet-toLip}
 use Rattle.testing.specs.Exchange.{around-then, around-beside, around-noted, side-same}
+use Rattle.testing.specs.Telling.{Answered, NotedBy}
 use Rattle.testing.specs.Finding.{courseOf, course, fourFrom, chosen, Choosing, Testing, Tested, tested-none}
 
 one-tried : {S : Type 0} (C : Side S) (p : ℕ) (s : S) → triedAll C (p ∷ []) s ≡ tried C p s
@@ -53,7 +55,7 @@ module _ {run : Run} {e : Event} {s s′ : List ℕ} (N : Noted run e s s′) wh
         held-same (noted-waiting 0 (f .lip)) (noted-known (f .lsp)) (noted-sets (n + n + n) (f .kept) (omega arith))
         (noted-sets (n + n + n + f .visited) (f .left) (omega arith)) (noted-sets (run .stretch .away) (f .moved) (omega (arith, g .behind)))
 
-    pub noted-fits : Fits (run .stretch) s′ f
+    noted-fits : Fits (run .stretch) s′ f
     noted-fits =
         record {
           room = rw (N .long) (g .room);
@@ -84,7 +86,7 @@ module _ (run : Run) (body : List ℕ) (x : ℕ) (s out : List ℕ) (w : Stand) 
       tried-insignificant C x y (R .bit vs ∙ h) ∙ ap (C .note (toLip x)) (R .next vs) ∙ notes run s body (toLip x) out₁ vs (found .next .at)
       ∙ ap (λ v. chan out₁ v (found .next .at)) (quiet-toLip run x vs)
 
-  pub tested-insignificant : {s′ : List ℕ} {f : Fill} → found .bit ≡ false → LipPushed (run .stretch) s (w .fill) x s′ f
+  tested-insignificant : {s′ : List ℕ} {f : Fill} → found .bit ≡ false → LipPushed (run .stretch) s (w .fill) x s′ f
       → Tested run body (x ∷ []) s out w s′ out₁ (record { fill = f; at = found .next })
   tested-insignificant {s′} h L =
       record {
@@ -117,7 +119,7 @@ module _ (run : Run) (body : List ℕ) (x : ℕ) (s out : List ℕ) (w : Stand) 
         ∙ notes run s body (toLsp x (sign .bit)) out₂ vs (sign .next .at)
         ∙ ap (λ v. chan out₂ v (sign .next .at)) (sym (N .values))
 
-    pub tested-significant : {s′ : List ℕ} {f : Fill} → Fits (run .stretch) s (w .fill) → LspPushed (run .stretch) s₁ (w .fill) x s′ f
+    tested-significant : {s′ : List ℕ} {f : Fill} → Fits (run .stretch) s (w .fill) → LspPushed (run .stretch) s₁ (w .fill) x s′ f
         → Tested run body (x ∷ []) s out w s′ out₂ (record { fill = f; at = sign .next })
     tested-significant {s′} F L =
         let e : held t s₁ (w .fill) ≡ held t s (w .fill) = noted-held N F in
@@ -143,6 +145,30 @@ module _ (run : Run) (body : List ℕ) (x : ℕ) (s out : List ℕ) (w : Stand) 
           lsp = omega (arith, ap (λ h. h .lsp) (L .fill));
           place = omega (arith, R .place, Q .place);
         }
+
+-- a coefficient, found or not
+pub noted-by-fits : {bit : Bool} {run : Run} {x : ℕ} {negative : Bool} {f : Fill} {s s′ : List ℕ} → NotedBy bit run x negative f s s′
+    → Fits (run .stretch) s f → Fits (run .stretch) s′ f
+noted-by-fits {bit} {run} {f = f} {s′ = s′} N g = by bit refl
+  where
+    by : (b : Bool) → bit ≡ b → Fits (run .stretch) s′ f
+    by true e = noted-fits (N .found e) g
+    by false e = N .missed e .fits
+
+pub tested-by : {run : Run} {body : List ℕ} {x : ℕ} {s out : List ℕ} {w : Stand} {r : Told} {s₁ out′ s′ : List ℕ} {f : Fill}
+    → Answered (side run s body) x out (w .at) r out′ → NotedBy (r .found) run x (r .negative) (w .fill) s s₁
+    → PushedBy (r .found) (run .stretch) s₁ (w .fill) x s′ f → Fits (run .stretch) s (w .fill)
+    → Tested run body (x ∷ []) s out w s′ out′ (record { fill = f; at = r .next })
+tested-by {run} {body} {x} {s} {out} {w} {r} {s₁} {out′} {s′} {f} A N P g = by (r .found) refl
+  where
+    by : (b : Bool) → r .found ≡ b → Tested run body (x ∷ []) s out w s′ out′ (record { fill = f; at = r .next })
+    by true e =
+        let told = A .found e in
+        tested-significant run body x s out w (told .first) (told .between) (told .significant) (record { bit = r .negative; next = r .next }) out′ s₁
+        (told .negative) (told .found) (N .found e) g (P .to-lsp e)
+    by false e =
+        tested-insignificant run body x s out w (record { bit = false; next = r .next }) out′ (A .missed e) refl
+        (spared-pushed (N .missed e) (P .to-lip e))
 
 -- one after another
 pub tested-on : {run : Run} {body ps qs s out s₁ out₁ s₂ out₂ : List ℕ} {w w₁ w₂ : Stand}

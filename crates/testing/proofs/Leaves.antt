@@ -1,21 +1,25 @@
 -- The leaves that branch on the side: a word read, the coder's answers, and a word drawn or not.
-use mathlib.Core.Path.{_≡_, refl, ap, _∙_}
-use mathlib.Core.Bool.{Bool, cond, true}
+use mathlib.Core.Path.{_≡_, refl, ap, _∙_, subst}
+use mathlib.Core.Bool.{Bool, cond, true, false}
 use mathlib.Core.List.{List}
 use Prim.Native.Nat.{ℕ, _+_, _-_, _*_, _/_, _%_, _≤_, _<_, _^_}
 use native.Mathlib.Omega.{arith}
 use lib.Dec.{leb, ltb, eqb}
-use lib.ListN.{getD, set}
+use lib.ListN.{length, getD, set}
 use borrow.Author.Tests.{le-leb, lt-leb}
 use Rattle.rules.specs.Document.Passes.{Entry, significant?, negative?, bit?, set?, Event, toLsp, refined}
 use Rattle.coefficients.specs.Words.{wordOf}
-use Rattle.stretches.specs.Cut.{valuesIn, maximaIn, ValueSet}
+use Rattle.stretches.specs.Cut.{lipFrom, valuesIn, maximaIn, ValueSet, ButAt, SetOr}
 use Rattle.lists.specs.declared.Set.{Set}
 use Rattle.lists.specs.declared.Set.the-variants.{TypeA, TypeB}
-use Rattle.lists.specs.Lists.{entryOf, indexOf}
+use Rattle.lists.specs.declared.Fill.{Fill}
+use Rattle.lists.specs.declared.Stretch.{Stretch}
+use Rattle.lists.specs.Lists.{entryOf, indexOf, Fits}
+use Rattle.lists.specs.Besides.{spared-none, spared-at}
 use Rattle.testing.specs.declared.Role.the-variants.{Codes, Reads}
 use Rattle.testing.specs.declared.Run.{Run}
 use Rattle.testing.specs.Exchange.{localWord, wordAt, largestAt, wordsTell, answer, drawn, noted, Noted, reading, reads}
+use Rattle.testing.specs.Telling.{NotedBy}
 use Rattle.testing.specs.Growing.{word-local}
 
 pub word-outside : (first : ℕ) (vs : List ℕ) (x : ℕ) → x < first → 0 ≡ localWord first vs x
@@ -77,7 +81,7 @@ module _ (run : Run) (s : List ℕ) where
   noted-coder e h = unchanged e (rw h)
 
   module _ (x : ℕ) (b : Bool) (r : run .role ≡ Reads) where
-    pub found-outside : x < run .first → Noted run (toLsp x b) s s
+    found-outside : x < run .first → Noted run (toLsp x b) s s
     unfolding noted drawn
     found-outside l = unchanged (toLsp x b) (rw (r, lt-leb (run .first) x l))
 
@@ -86,7 +90,7 @@ module _ (run : Run) (s : List ℕ) where
     refined-outside l = unchanged (refined x b) (rw (r, lt-leb (run .first) x l))
 
     module _ {w : ℕ} {s′ : List ℕ} (l : run .first ≤ x) (drew : ValueSet (run .stretch .n) s (x - run .first) w s′) where
-      pub found-drawn : w ≡ wordOf b (2 ^ run .plane .0) → Noted run (toLsp x b) s s′
+      found-drawn : w ≡ wordOf b (2 ^ run .plane .0) → Noted run (toLsp x b) s s′
       unfolding noted drawn
       found-drawn e =
           record {
@@ -104,6 +108,27 @@ module _ (run : Run) (s : List ℕ) where
             values = drew .values ∙ ap (λ (y : ℕ). set (valuesIn (run .stretch .n) s) (x - run .first) y) e ∙ rw (r, o, le-leb (run .first) x l);
             others = drew .others;
           }
+
+-- what is noted of a coefficient, found or not
+module _ (run : Run) (f : Fill) (s : List ℕ) (x : ℕ) (bit negative : Bool) (g : Fits (run .stretch) s f) where
+  pub tested-coder : run .role ≡ Codes → NotedBy bit run x negative f s s
+  tested-coder h = record { found = λ e. noted-coder run s (toLsp x negative) h; missed = λ e. spared-none (run .stretch) s f g }
+
+  pub tested-outside : run .role ≡ Reads → x < run .first → NotedBy bit run x negative f s s
+  tested-outside h l = record { found = λ e. found-outside run s x negative h l; missed = λ e. spared-none (run .stretch) s f g }
+
+  pub tested-drawn : {w spare : ℕ} {s′ : List ℕ} → run .role ≡ Reads → run .first ≤ x → f .lip < run .stretch .n
+      → w ≡ wordOf negative (2 ^ run .plane .0) → spare ≡ lipFrom (run .stretch .n) + f .lip
+      → SetOr bit (run .stretch .n) s (x - run .first) w spare s′ → NotedBy bit run x negative f s s′
+  tested-drawn {s′ = s′} h l room e p drew =
+      record {
+        found = λ d. found-drawn run s x negative h l (drew .written d) e;
+        missed = λ d. spared-at g room (subst (λ (i : ℕ). ButAt i s s′) p (drew .spared d));
+      }
+
+pub spare-inside : {t : Stretch} {s : List ℕ} {f : Fill} {spare : ℕ} → Fits t s f → f .lip < t .n → spare ≡ lipFrom (t .n) + f .lip → spare < length s
+unfolding lipFrom
+spare-inside g room e = omega (arith, g .room)
 
 pub word-small : (run : Run) (vs : List ℕ) (x : ℕ) {old : ℕ} → run .role ≡ Reads → run .first ≤ x → old ≡ getD vs (x - run .first) 0
     → (reads run ≡ true → localWord (run .first) vs x < 2 ^ 30) → old < 2 ^ 31

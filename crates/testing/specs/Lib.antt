@@ -1,3 +1,4 @@
 pub mod Exchange
 pub mod Growing
+pub mod Telling
 pub mod Finding

@@ -1,15 +1,16 @@
 // Single coefficients, for coder and decoder alike, in the level's stretch that is lent to a pass: those of LIP and the offspring of an opened set
 // tested, those of LSP refined, and the leaves that ask of them and take note for either side.
-ghost use mathlib.Core.Bool.{true};
+ghost use mathlib.Core.Bool.{true, false, cond};
 ghost use mathlib.Core.Path.{_≡_};
 ghost use mathlib.Core.List.{[], _∷_};
 ghost use Prim.Native.Nat.{_+_, _*_, _^_, _≤_, _<_};
 ghost use lib.ListN.{length};
 ghost use Rattle.rules.specs.Document.Pyramid.{mostPlanes};
-ghost use Rattle.rules.specs.Document.Passes.{significant?, negative?, bit?, set?, toLsp, refined};
+ghost use Rattle.rules.specs.Document.Passes.{bit?, set?, refined};
 ghost use Rattle.bits.specs.Bits.{setBit};
 ghost use Rattle.lists.specs.Lists.{entryOf, indexOf, known, Fits};
 ghost use Rattle.testing.specs.Exchange.{wordAt, largestAt, side, Replied, Noted, reads};
+ghost use Rattle.testing.specs.Telling.{SaidFound, ReadFound, Answered, NotedBy};
 ghost use Rattle.testing.specs.Finding.{chosen, Choosing, Testing, Tested, Refining, Refined};
 use bits::BitPosition;
 use bits::BitRead;
@@ -47,6 +48,13 @@ pub struct Stand {
     pub at: BitPosition,
 }
 
+// What was told of a coefficient: whether it is found and, if so, whether it is negative; and the place of the next bit.
+pub struct Told {
+    pub found: bool,
+    pub negative: bool,
+    pub next: BitPosition,
+}
+
 // Coefficients to test: those at the front of LIP, or the four from a tree number on.
 pub enum Candidates {
     Waiting,
@@ -73,43 +81,60 @@ fn word_at(run: Run, s: &[u32], x: usize) -> u32
     stretches::value_at(s, run.stretch.n, x - run.first)
 }
 
-fn ask_significant(
-    run: Run,
-    body: &[u8],
-    s: &[u32],
-    out: &mut [u8],
-    at: BitPosition,
-    x: usize,
-) -> BitRead
-    requires { ⌜ (at .at < 2 ^ 62) × (run .plane .0 < mostPlanes) × (4 * run .stretch .n ≤ length (now s)) ⌝ }
-    ensures { λ r. ⌜ Replied (side run (now (s .entry)) (now (body .entry))) (significant? x) (now (out .entry)) at r (now (out .exit)) ⌝ }
+// The sign's bit, 0 where none is asked for.
+fn sign_bit(found: bool, negative: bool) -> bool
+    ensures { λ r. ⌜ r ≡ cond found negative false ⌝ }
 {
-    let role = run.role;
-    match role {
-        Role::Reads => at.read(body),
-        Role::Codes => say(
-            out,
-            at,
-            coefficients::threshold_of(run.plane) <= word_at(run, s, x) / 2,
-        ),
+    found && negative
+}
+
+// The coder's answers, written: the sign's bit of a coefficient that isn't found is written as 0 and counts for nothing, so that no branch waits for
+// the bit before it.
+fn say_found(out: &mut [u8], at: BitPosition, found: bool, negative: bool) -> Told
+    requires { ⌜ at .at + 2 < 2 ^ 62 ⌝ }
+    ensures { λ r. ⌜ SaidFound found negative (now (out .entry)) at r (now (out .exit)) ⌝ }
+{
+    let second = at.write(out, found);
+    second.write(out, sign_bit(found, negative));
+    Told {
+        found,
+        negative,
+        next: BitPosition {
+            at: second.at + (found as usize),
+        },
     }
 }
 
-fn ask_negative(
-    run: Run,
-    body: &[u8],
-    s: &[u32],
-    out: &mut [u8],
-    at: BitPosition,
-    x: usize,
-) -> BitRead
-    requires { ⌜ (at .at < 2 ^ 62) × (4 * run .stretch .n ≤ length (now s)) ⌝ }
-    ensures { λ r. ⌜ Replied (side run (now (s .entry)) (now (body .entry))) (negative? x) (now (out .entry)) at r (now (out .exit)) ⌝ }
+// The decoder reads the bit behind in any case.
+fn read_found(body: &[u8], at: BitPosition) -> Told
+    requires { ⌜ at .at + 2 < 2 ^ 62 ⌝ }
+    ensures { λ r. ⌜ ReadFound (now (body .entry)) at r ⌝ }
+{
+    let first = at.read(body);
+    let second = first.next;
+    let sign = second.read(body);
+    Told {
+        found: first.bit,
+        negative: sign.bit,
+        next: BitPosition {
+            at: second.at + (first.bit as usize),
+        },
+    }
+}
+
+// Whether a coefficient is significant and, if so, negative.
+fn ask_found(run: Run, body: &[u8], s: &[u32], out: &mut [u8], at: BitPosition, x: usize) -> Told
+    requires { ⌜ (at .at + 2 < 2 ^ 62) × (run .plane .0 < mostPlanes) × (4 * run .stretch .n ≤ length (now s)) ⌝ }
+    ensures { λ r. ⌜ Answered (side run (now (s .entry)) (now (body .entry))) x (now (out .entry)) at r (now (out .exit)) ⌝ }
 {
     let role = run.role;
     match role {
-        Role::Reads => at.read(body),
-        Role::Codes => say(out, at, word_at(run, s, x) % 2 == 1),
+        Role::Reads => read_found(body, at),
+        Role::Codes => {
+            let word = word_at(run, s, x);
+            let found = coefficients::threshold_of(run.plane) <= word / 2;
+            say_found(out, at, found, word % 2 == 1)
+        }
     }
 }
 
@@ -165,10 +190,10 @@ pub fn ask_set(run: Run, body: &[u8], s: &[u32], out: &mut [u8], at: BitPosition
     }
 }
 
-// The decoder draws a coefficient that was found; the coder draws none.
-fn note_found(run: Run, s: &mut [u32], x: usize, negative: bool)
-    requires { ⌜ (run .plane .0 < mostPlanes) × (4 * run .stretch .n ≤ length (now s)) ⌝ }
-    ensures { λ _. ⌜ Noted run (toLsp x negative) (now (s .entry)) (now (s .exit)) ⌝ }
+// The decoder draws a coefficient that is found; the coder draws none. The word of one that isn't goes to the place behind LIP.
+fn note_tested(run: Run, s: &mut [u32], f: Fill, x: usize, found: bool, negative: bool)
+    requires { ⌜ (run .plane .0 < mostPlanes) × Fits (run .stretch) (now s) f × (run .stretch .n < 2 ^ 32) × (f .lip < run .stretch .n) ⌝ }
+    ensures { λ _. ⌜ NotedBy found run x negative f (now (s .entry)) (now (s .exit)) ⌝ }
 {
     let role = run.role;
     match role {
@@ -176,7 +201,8 @@ fn note_found(run: Run, s: &mut [u32], x: usize, negative: bool)
         Role::Reads => {
             if run.first <= x {
                 let word = coefficients::found_word(negative, run.plane);
-                stretches::set_value(s, run.stretch.n, x - run.first, word);
+                let spare = lists::lip_end(run.stretch, f);
+                stretches::set_value_or(s, run.stretch.n, x - run.first, word, found, spare);
             }
         }
     }
@@ -207,16 +233,10 @@ fn test(run: Run, body: &[u8], s: &mut [u32], w: Stand, out: &mut [u8], x: usize
         × (w .fill .lip + w .fill .lsp < run .stretch .n) × (w .at .at + 2 < 2 ^ 62) × (x < 2 ^ 32) ⌝ }
     ensures { λ r. ⌜ Tested run (now (body .entry)) (x ∷ []) (now (s .entry)) (now (out .entry)) w (now (s .exit)) (now (out .exit)) r ⌝ }
 {
-    let found = ask_significant(run, body, s, out, w.at, x);
-    if found.bit {
-        let sign = ask_negative(run, body, s, out, found.next, x);
-        note_found(run, s, x, sign.bit);
-        let fill = lists::push_lsp(s, run.stretch, w.fill, x);
-        let at = sign.next;
-        return Stand { fill, at };
-    }
-    let fill = lists::push_lip(s, run.stretch, w.fill, x);
-    let at = found.next;
+    let told = ask_found(run, body, s, out, w.at, x);
+    note_tested(run, s, w.fill, x, told.found, told.negative);
+    let fill = lists::push_tested(s, run.stretch, w.fill, x, told.found);
+    let at = told.next;
     Stand { fill, at }
 }
 
