@@ -32,7 +32,8 @@ fn open_a(run: Run, body: &[u8], s: &mut [u32], w: Stand, out: &mut [u8], x: usi
     requires { ⌜ Opening run (typeA x) (now s) w ⌝ }
     ensures { λ r. ⌜ Opened run (now (body .entry)) (typeA x) (now (s .entry)) (now (out .entry)) w (now (s .exit)) (now (out .exit)) r ⌝ }
 {
-    let r = testing::test_each(run, body, s, w, out, Candidates::Four(4 * x), 4);
+    let ends = testing::test_each(run, body, s, w, out, Candidates::Four(4 * x), 4);
+    let r = testing::moved_to(w, ends);
     if 1 < run.level.0 {
         let fill = lists::add_set(s, run.stretch, r.fill, Set::TypeB(x));
         let at = r.at;
@@ -128,15 +129,9 @@ pub fn run_pass(run: Run, body: &[u8], s: &mut [u32], w: Stand, out: &mut [u8]) 
     let known = w.fill.lsp;
     let at = w.at;
     let fill = lists::empty_lip(w.fill);
-    let tested = testing::test_each(
-        run,
-        body,
-        s,
-        Stand { fill, at },
-        out,
-        Candidates::Waiting,
-        waiting,
-    );
+    let begin = Stand { fill, at };
+    let ends = testing::test_each(run, body, s, begin, out, Candidates::Waiting, waiting);
+    let tested = testing::moved_to(begin, ends);
     let visited = visit_lis(run, body, s, tested, out);
     let next = testing::refine_lsp(run, body, s, known, out, visited.at);
     let left = visited.fill;

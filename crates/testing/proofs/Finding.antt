@@ -5,6 +5,7 @@ use mathlib.Core.List.{List, [], _∷_, _++_, map}
 use Prim.Native.Nat.{ℕ, zero, suc, _+_, _*_, _≤_, _<_, _^_}
 use native.Mathlib.Omega.{arith}
 use lib.ListN.{length, length-append}
+use Rattle.bits.specs.declared.BitPosition.{BitPosition}
 use Rattle.bits.specs.declared.BitRead.{BitRead}
 use Rattle.rules.specs.Document.Passes.{Event, significant?, negative?, toLip, toLsp, Side, listing}
 use Rattle.rules.specs.Laws.Pass.Steps.{signNoted, tried, triedAll, tried-insignificant, tried-significant, tried-toLip, tried-toLsp, triedAll-append}
@@ -17,12 +18,13 @@ use Rattle.lists.specs.Besides.{beside-values, held-same, spared-pushed}
 use Rattle.testing.specs.declared.Run.{Run}
 use Rattle.testing.specs.declared.Stand.{Stand}
 use Rattle.testing.specs.declared.Told.{Told}
+use Rattle.testing.specs.declared.Ends.{Ends}
 use Rattle.testing.specs.declared.Candidates.{Candidates}
 use Rattle.testing.specs.declared.Candidates.the-variants.{Waiting, Four}
 use Rattle.testing.specs.Exchange.{Chan, chan, side, notes, Replied, Noted, Around, quiet-toLip}
 use Rattle.testing.specs.Exchange.{around-then, around-beside, around-noted, side-same}
 use Rattle.testing.specs.Telling.{Answered, NotedBy}
-use Rattle.testing.specs.Finding.{courseOf, course, fourFrom, chosen, Choosing, Testing, Tested, tested-none}
+use Rattle.testing.specs.Finding.{courseOf, course, endsOf, movedTo, fourFrom, chosen, Choosing, Testing, Tested, stood, tested-none}
 
 one-tried : {S : Type 0} (C : Side S) (p : ℕ) (s : S) → triedAll C (p ∷ []) s ≡ tried C p s
 unfolding triedAll
@@ -169,6 +171,21 @@ tested-by {run} {body} {x} {s} {out} {w} {r} {s₁} {out′} {s′} {f} A N P g 
     by false e =
         tested-insignificant run body x s out w (record { bit = false; next = r .next }) out′ (A .missed e) refl
         (spared-pushed (N .missed e) (P .to-lip e))
+
+-- nothing but the ends has moved
+stand-same : {k k′ v v′ l l′ m m′ : ℕ} (x y : ℕ) (a : BitPosition) → k ≡ k′ → v ≡ v′ → l ≡ l′ → m ≡ m′
+    → _≡_ {A = Stand} (record { fill = record { lip = x; lsp = y; kept = k; visited = v; left = l; moved = m }; at = a })
+    (record { fill = record { lip = x; lsp = y; kept = k′; visited = v′; left = l′; moved = m′ }; at = a })
+stand-same x y a k v l m = cc
+
+pub ends-moved : {run : Run} {body ps s out s′ out′ : List ℕ} {w r : Stand} {e : Ends} → Tested run body ps s out w s′ out′ r → e ≡ endsOf r
+    → Tested run body ps s out w s′ out′ (movedTo w e)
+ends-moved {w = w} {r} T q =
+    stood (ap (movedTo w) q ∙ stand-same (r .fill .lip) (r .fill .lsp) (r .at) (sym (T .kept)) (sym (T .visited)) (sym (T .left)) (sym (T .moved))) T
+
+pub moved-from : {run : Run} {body ps s out s′ out′ : List ℕ} {w v : Stand} {e : Ends} → w ≡ v → Tested run body ps s out w s′ out′ (movedTo w e)
+    → Tested run body ps s out v s′ out′ (movedTo v e)
+moved-from {run} {body} {ps} {s} {out} {s′} {out′} {e = e} q T = subst (λ x. Tested run body ps s out x s′ out′ (movedTo x e)) q T
 
 -- one after another
 pub tested-on : {run : Run} {body ps qs s out s₁ out₁ s₂ out₂ : List ℕ} {w w₁ w₂ : Stand}

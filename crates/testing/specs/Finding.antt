@@ -1,5 +1,5 @@
 -- What the tests of single coefficients and their refinement ask for, and what they leave, in a level's stretch and in the output.
-use mathlib.Core.Path.{_≡_, refl}
+use mathlib.Core.Path.{_≡_, refl, sym, subst}
 use mathlib.Core.List.{List, [], _∷_}
 use mathlib.Core.Bool.{true, false}
 use Prim.Native.Nat.{ℕ, _+_, _*_, _≤_, _<_, _^_}
@@ -15,6 +15,7 @@ use Rattle.lists.specs.declared.Stretch.{Stretch}
 use Rattle.lists.specs.Lists.{waiting, known, Held, held, Fits}
 use Rattle.testing.specs.declared.Run.{Run}
 use Rattle.testing.specs.declared.Stand.{Stand}
+use Rattle.testing.specs.declared.Ends.{Ends}
 use Rattle.testing.specs.declared.Candidates.{Candidates}
 use Rattle.testing.specs.declared.Candidates.the-variants.{Waiting, Four}
 use Rattle.testing.specs.Exchange.{Chan, chan, side, reads, Around, around-none}
@@ -26,6 +27,24 @@ courseOf h x = record { lip = h .lip; lsp = h .lsp; lis = h .kept; moved = h .mo
 
 abbrev pub course : Stretch → List ℕ → List ℕ → Stand → Course Chan
 course t s out w = courseOf (held t s (w .fill)) (chan out (valuesIn (t .n) s) (w .at .at))
+
+-- the ends that a test moves, and where a pass stands once they are moved
+abbrev pub endsOf : Stand → Ends
+endsOf w = record { lip = w .fill .lip; lsp = w .fill .lsp; at = w .at }
+
+abbrev pub movedTo : Stand → Ends → Stand
+movedTo w e =
+    record {
+      fill = record {
+        lip = e .lip;
+        lsp = e .lsp;
+        kept = w .fill .kept;
+        visited = w .fill .visited;
+        left = w .fill .left;
+        moved = w .fill .moved;
+      };
+      at = e .at;
+    }
 
 -- the coefficients to test, m of them from the i-th on
 abbrev pub fourFrom : ℕ → List ℕ
@@ -68,6 +87,10 @@ pub record Tested (run : Run) (body : List ℕ) (ps s out : List ℕ) (w : Stand
   pub lip : w .fill .lip ≤ r .fill .lip
   pub lsp : w .fill .lsp ≤ r .fill .lsp
   pub place : r .at .at ≤ w .at .at + 2 * length ps
+
+-- the same stand, by another name
+pub stood : {run : Run} {body ps s out s′ out′ : List ℕ} {w r v : Stand} → r ≡ v → Tested run body ps s out w s′ out′ v → Tested run body ps s out w s′ out′ r
+stood {run} {body} {ps} {s} {out} {s′} {out′} {w} e T = subst (λ x. Tested run body ps s out w s′ out′ x) (sym e) T
 
 -- none tested
 pub tested-none : (run : Run) (body s out : List ℕ) (w : Stand) → Fits (run .stretch) s (w .fill) → Tested run body [] s out w s out w

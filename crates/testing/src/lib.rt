@@ -11,7 +11,7 @@ ghost use Rattle.bits.specs.Bits.{setBit};
 ghost use Rattle.lists.specs.Lists.{entryOf, indexOf, known, Fits};
 ghost use Rattle.testing.specs.Exchange.{wordAt, largestAt, side, Replied, Noted, reads};
 ghost use Rattle.testing.specs.Telling.{SaidFound, ReadFound, Answered, NotedBy};
-ghost use Rattle.testing.specs.Finding.{chosen, Choosing, Testing, Tested, Refining, Refined};
+ghost use Rattle.testing.specs.Finding.{endsOf, movedTo, chosen, Choosing, Testing, Tested, Refining, Refined};
 use bits::BitPosition;
 use bits::BitRead;
 use lists::Fill;
@@ -45,6 +45,14 @@ pub struct Run {
 // Where a pass stands: how full the lists are, and the place of the next bit.
 pub struct Stand {
     pub fill: Fill,
+    pub at: BitPosition,
+}
+
+// What a test moves of where a pass stands: the ends of LIP and LSP, and the place of the next bit. A small answer: the rest of a stand is not
+// carried through memory for each block of four.
+pub struct Ends {
+    pub lip: usize,
+    pub lsp: usize,
     pub at: BitPosition,
 }
 
@@ -227,17 +235,40 @@ fn note_refined(run: Run, s: &mut [u32], x: usize, bit: bool)
     }
 }
 
+fn ends_of(w: Stand) -> Ends
+    ensures { λ r. ⌜ r ≡ endsOf w ⌝ }
+{
+    let fill = w.fill;
+    let at = w.at;
+    Ends {
+        lip: fill.lip,
+        lsp: fill.lsp,
+        at,
+    }
+}
+
+// Where a pass stands, with the ends that a test left.
+pub fn moved_to(w: Stand, e: Ends) -> Stand
+    ensures { λ r. ⌜ r ≡ movedTo w e ⌝ }
+{
+    let mut fill = w.fill;
+    fill.lip = e.lip;
+    fill.lsp = e.lsp;
+    let at = e.at;
+    Stand { fill, at }
+}
+
 // A coefficient is tested: its bits, and its place at the end of LSP or of LIP.
-fn test(run: Run, body: &[u8], s: &mut [u32], w: Stand, out: &mut [u8], x: usize) -> Stand
+fn test(run: Run, body: &[u8], s: &mut [u32], w: Stand, out: &mut [u8], x: usize) -> Ends
     requires { ⌜ (run .plane .0 < mostPlanes) × Fits (run .stretch) (now s) (w .fill) × (run .stretch .n < 2 ^ 32)
         × (w .fill .lip + w .fill .lsp < run .stretch .n) × (w .at .at + 2 < 2 ^ 62) × (x < 2 ^ 32) ⌝ }
-    ensures { λ r. ⌜ Tested run (now (body .entry)) (x ∷ []) (now (s .entry)) (now (out .entry)) w (now (s .exit)) (now (out .exit)) r ⌝ }
+    ensures { λ r. ⌜ Tested run (now (body .entry)) (x ∷ []) (now (s .entry)) (now (out .entry)) w (now (s .exit)) (now (out .exit)) (movedTo w r) ⌝ }
 {
     let told = ask_found(run, body, s, out, w.at, x);
     note_tested(run, s, w.fill, x, told.found, told.negative);
     let fill = lists::push_tested(s, run.stretch, w.fill, x, told.found);
     let at = told.next;
-    Stand { fill, at }
+    ends_of(Stand { fill, at })
 }
 
 // The i-th of the coefficients to test.
@@ -260,17 +291,17 @@ pub fn test_each(
     out: &mut [u8],
     from: Candidates,
     m: usize,
-) -> Stand
+) -> Ends
     requires { ⌜ Testing run from m (now s) w ⌝ }
     ensures { λ r. ⌜ Tested run (now (body .entry)) (chosen (run .stretch .n) from 0 m (now (s .entry))) (now (s .entry)) (now (out .entry)) w
-        (now (s .exit)) (now (out .exit)) r ⌝ }
+        (now (s .exit)) (now (out .exit)) (movedTo w r) ⌝ }
 {
-    let mut r = w;
+    let mut r = ends_of(w);
     let mut i = 0;
     while i < m {
         let x = candidate(run, s, from, i);
         i += 1;
-        r = test(run, body, s, r, out, x);
+        r = test(run, body, s, moved_to(w, r), out, x);
     }
     r
 }

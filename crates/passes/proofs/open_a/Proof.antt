@@ -1,17 +1,26 @@
 -- `passes::open_a` meets its contract.
 use Rattle.passes.proofs.Sets.{scaled-A, index-A, testing-A, room-A, opened-A-more, opened-A-less}
+use Rattle.testing.specs.Finding.{stood}
 use borrow.Author.Needs.{needs}
 use Rattle.passes.proofs.open_a.Statement.{statement}
 use Rattle.passes.proofs.open_a.Tie as tie
 
-mul-t14 : tie.Need-mul-t14
-mul-t14 c = search (needs, scaled-A)
+mul-t15 : tie.Need-mul-t15
+mul-t15 c = search (needs, scaled-A)
 
 test-each-requires : tie.Need-test-each-requires
 test-each-requires c κs = search (needs, testing-A)
 
+moved-to-requires : tie.Need-moved-to-requires
+moved-to-requires c κs = search needs
+
 add-set-requires : tie.Need-add-set-requires
-add-set-requires c κs = search (needs, room-A, index-A)
+add-set-requires c κs =
+    let moving = c .before .before .before in
+    let tested = moving .before .before .before .before .before in
+    let start = tested .before .before .before .before .before .before in
+    let standing = stood (moving .moved-to .ensures) (tested .test-each .ensures) in
+    (standing .fits, start .pre .proper .size, room-A (start .pre) standing (c .before .if1 .taken), index-A (start .pre))
 
 same-length : tie.Need-same-length
 same-length c = search needs
@@ -20,7 +29,13 @@ same-length-2 : tie.Need-same-length-2
 same-length-2 c = search needs
 
 returns : tie.Need-returns
-returns c = search (needs, opened-A-more)
+returns c =
+    let adding = c .before .before .before in
+    let moving = adding .before .before .before .before in
+    let tested = moving .before .before .before .before .before in
+    let start = tested .before .before .before .before .before .before in
+    let standing = stood (moving .moved-to .ensures) (tested .test-each .ensures) in
+    opened-A-more (start .pre) standing (adding .before .before .if1 .taken) (adding .add-set .ensures)
 
 same-length-3 : tie.Need-same-length-3
 same-length-3 c = search needs
@@ -29,14 +44,15 @@ same-length-4 : tie.Need-same-length-4
 same-length-4 c = search needs
 
 returns-2 : tie.Need-returns-2
-returns-2 c = search (needs, opened-A-less)
+returns-2 c = search (needs, stood, opened-A-less)
 
 pub open-a-spec : {M : Type 1} → statement M
 open-a-spec =
     tie.close
     (tie.spec
-    mul-t14
+    mul-t15
     test-each-requires
+    moved-to-requires
     add-set-requires
     same-length
     same-length-2

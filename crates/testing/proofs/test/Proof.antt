@@ -1,5 +1,5 @@
 -- `testing::test` meets its contract.
-use Rattle.testing.proofs.Finding.{noted-by-fits, tested-by}
+use Rattle.testing.proofs.Finding.{noted-by-fits, tested-by, ends-moved}
 use borrow.Author.Needs.{needs}
 use Rattle.testing.proofs.test.Statement.{statement}
 use Rattle.testing.proofs.test.Tie as tie
@@ -13,6 +13,9 @@ note-tested-requires c κs = search needs
 push-tested-requires : tie.Need-push-tested-requires
 push-tested-requires c κs = search (needs, noted-by-fits)
 
+ends-of-requires : tie.Need-ends-of-requires
+ends-of-requires c κs = search needs
+
 same-length : tie.Need-same-length
 same-length c = search needs
 
@@ -20,7 +23,13 @@ same-length-2 : tie.Need-same-length-2
 same-length-2 c = search needs
 
 returns : tie.Need-returns
-returns c = search (needs, tested-by)
+returns c =
+    let pushing = c .before .before .before .before in
+    let noting = pushing .before .before .before .before in
+    let asking = noting .before .before .before .before in
+    let start = asking .before .before .before .before .before .before in
+    let tested = tested-by (asking .ask-found .ensures) (noting .note-tested .ensures) (pushing .push-tested .ensures) (start .pre .1) in
+    ends-moved tested (c .ends-of .ensures)
 
 pub test-spec : {M : Type 1} → statement M
 test-spec =
@@ -29,6 +38,7 @@ test-spec =
     ask-found-requires
     note-tested-requires
     push-tested-requires
+    ends-of-requires
     same-length
     same-length-2
     returns)

@@ -3,41 +3,49 @@ use mathlib.Core.Path.{_≡_, refl}
 use native.Mathlib.Omega.{arith}
 use Prim.Native.Nat.{_≤_, _-_}
 use lib.ListN.{length}
-use Rattle.testing.specs.Finding.{chosen, Tested}
-use Rattle.testing.proofs.Finding.{each-length, each-choosing, each-next, each-none, each-done}
+use Rattle.testing.specs.Finding.{movedTo, chosen, Tested, stood}
+use Rattle.testing.proofs.Finding.{ends-moved, moved-from, each-length, each-choosing, each-next, each-none, each-done}
 use borrow.Author.Needs.{needs}
 use Rattle.testing.proofs.test_each.Statement.{statement}
 use Rattle.testing.proofs.test_each.Tie as tie
 
 abbrev Inv-loop : tie.InvT-loop
-Inv-loop run body s₀ out₀ from m r₀ i₀ s out r i =
-    Tested run body (chosen (run .stretch .n) from 0 i s₀) s₀ out₀ r₀ s out r × (i ≤ m) × (length s ≡ length s₀) × (length out ≡ length out₀)
+Inv-loop run body s₀ w out₀ from m r₀ i₀ s out r i =
+    Tested run body (chosen (run .stretch .n) from 0 i s₀) s₀ out₀ w s out (movedTo w r) × (i ≤ m) × (length s ≡ length s₀)
+    × (length out ≡ length out₀)
 
 abbrev μ-loop : tie.MeasureT-loop
-μ-loop run body s₀ out₀ from m r₀ i₀ s out r i = m - i
+μ-loop run body s₀ w out₀ from m r₀ i₀ s out r i = m - i
+
+ends-of-requires : tie.Need-ends-of-requires Inv-loop μ-loop
+ends-of-requires c κs = search needs
 
 loop-holds : tie.Need-loop-holds Inv-loop μ-loop
-loop-holds c = (search (needs, each-none), omega arith, refl, refl)
+loop-holds c = (search (needs, ends-moved, each-none), omega arith, refl, refl)
 
 candidate-requires : tie.Need-candidate-requires Inv-loop μ-loop
 candidate-requires c κs =
-    each-choosing _ (c .before .before .before .before .before .before .pre) (c .before .before .loop .inv .0) (omega arith)
+    let turn = c .before .before in
+    each-choosing _ (turn .before .before .before .before .before .pre) (turn .loop .inv .0) (omega arith)
 
 add-i : tie.Need-add-i Inv-loop μ-loop
 add-i c = search needs
 
+moved-to-requires : tie.Need-moved-to-requires Inv-loop μ-loop
+moved-to-requires c κs = search needs
+
 test-requires : tie.Need-test-requires Inv-loop μ-loop
 test-requires c κs =
-    let turn = c .before .before .before .before .before in
-    let asked = turn .before .before .before .before .pre in
-    let tested = turn .loop .inv .0 in
-    let count = each-length _ asked tested (omega arith) in (
+    let turn = c .before .before .before .before .before .before in
+    let asked = turn .before .before .before .before .before .pre in
+    let tested = stood (c .before .moved-to .ensures) (turn .loop .inv .0) in
+    let count = each-length _ asked (turn .loop .inv .0) (omega arith) in (
       asked .plane,
       tested .fits,
       asked .size,
       omega (arith, tested .both, asked .room),
       omega (arith, tested .place, asked .place),
-      c .before .before .candidate .ensures .1,
+      c .before .before .before .candidate .ensures .1,
     )
 
 loop-less : tie.Need-loop-less Inv-loop μ-loop
@@ -46,9 +54,12 @@ loop-less c = omega arith
 loop-again : tie.Need-loop-again Inv-loop μ-loop
 loop-again c =
     let made = c .before .before .before .before in
-    let turn = made .before .before .before .before .before .before in
-    let asked = turn .before .before .before .before .pre in
-    let next = each-next _ asked (turn .loop .inv .0) (omega arith) (made .before .before .before .candidate .ensures .0) (made .test .ensures) in
+    let moving = made .before .before in
+    let choosing = moving .before .before in
+    let turn = choosing .before .before .before in
+    let asked = turn .before .before .before .before .before .pre in
+    let own = moved-from (moving .moved-to .ensures) (made .test .ensures) in
+    let next = each-next _ asked (turn .loop .inv .0) (omega arith) (choosing .candidate .ensures .0) own in
     (next, omega arith, next .around .long, omega (arith, made .test .kept, turn .loop .inv .3))
 
 same-length : tie.Need-same-length Inv-loop μ-loop
@@ -59,7 +70,7 @@ same-length-2 c = search needs
 
 returns : tie.Need-returns Inv-loop μ-loop
 returns c =
-    let a = c .before .before .before .before .before .args in
+    let a = c .before .before .before .before .before .before .args in
     each-done (a .from) (c .before .loop .i) (a .m) (omega arith) (c .before .loop .inv .0)
 
 pub test-each-spec : {M : Type 1} → statement M
@@ -68,9 +79,11 @@ test-each-spec =
     (tie.spec
     Inv-loop
     μ-loop
+    ends-of-requires
     loop-holds
     candidate-requires
     add-i
+    moved-to-requires
     test-requires
     loop-less
     loop-again
