@@ -100,67 +100,71 @@ across-half z = ap (λ (e : ℕ). z .w / 2 ^ e) (add-one (z .n))
 pub down-half : (z : Size) → down z ≡ halfRows z
 down-half z = ap (λ (e : ℕ). z .h / 2 ^ e) (add-one (z .n))
 
--- bounds of all that is formed from a legal size
-pub record Narrow (z : Size) : Type 0 where
+-- bounds of all that is formed from a legal size: rules for `omega`
+module _ (z : Size) (e : legalSize z ≡ true) where
   pub few : z .n ≤ 5
+  few = legal z e .few
+
   pub wide : z .w ≤ 512
-  pub high : z .h ≤ 512
+  wide = legal z e .width .most
+
+  high : z .h ≤ 512
+  high = legal z e .height .most
+
   pub least : 4 ≤ z .w
+  least = legal z e .width .least
+
   pub columns : across z ≤ 512
+  columns = omega (arith, wide, shr-le (z .w) (z .n + 1))
+
   pub rows : down z ≤ 512
-  pub bandColumns : z .w / 2 ^ z .n ≤ 512
-  pub bandRows : z .h / 2 ^ z .n ≤ 512
+  rows = omega (arith, high, shr-le (z .h) (z .n + 1))
+
+  pub band-columns : z .w / 2 ^ z .n ≤ 512
+  band-columns = omega (arith, wide, shr-le (z .w) (z .n))
+
+  pub band-rows : z .h / 2 ^ z .n ≤ 512
+  band-rows = omega (arith, high, shr-le (z .h) (z .n))
+
   pub groups : down z * across z ≤ 262144
-  pub below : down z * z .w ≤ 262144
+  groups = mul-le-mul rows columns
+
   pub all : area z ≤ 262144
+  all = mul-le-mul wide high
 
-pub narrow : (z : Size) → legalSize z ≡ true → Narrow z
-narrow z e =
-    let Z : Legal z = legal z e in
-    let w : z .w ≤ 512 = Z .width .most in
-    let h : z .h ≤ 512 = Z .height .most in
-    let a : z .w / 2 ^ (z .n + 1) ≤ 512 = omega (arith, shr-le (z .w) (z .n + 1)) in
-    let d : z .h / 2 ^ (z .n + 1) ≤ 512 = omega (arith, shr-le (z .h) (z .n + 1)) in
-    record {
-      few = Z .few;
-      wide = w;
-      high = h;
-      least = Z .width .least;
-      columns = a;
-      rows = d;
-      bandColumns = omega (arith, shr-le (z .w) (z .n));
-      bandRows = omega (arith, shr-le (z .h) (z .n));
-      groups = mul-le-mul d a;
-      below = mul-le-mul d w;
-      all = mul-le-mul w h;
-    }
+-- a place in the band, what is formed of it, and its number
+abbrev pub InBand : Size → ℕ → ℕ → Type 0
+InBand z i j = (legalSize z ≡ true) × (i < z .h / 2 ^ z .n) × (j < z .w / 2 ^ z .n)
 
-module _ (z : Size) (e : legalSize z ≡ true) (i j : ℕ) (h : i < z .h / 2 ^ z .n) (l : j < z .w / 2 ^ z .n) where
-  pub row-room : i / 2 * across z ≤ 262144
-  row-room =
-      let N = narrow z e in
-      let r : i / 2 ≤ 512 = omega (arith, shr-le (z .h) (z .n)) in
-      mul-le-mul r (N .columns)
+pub record BandRoom (z : Size) (i j : ℕ) : Type 0 where
+  pub row : i / 2 * across z ≤ 262144
+  pub column : j / 2 ≤ 512
+  pub groups : down z * across z ≤ 262144
 
-  pub column-room : j / 2 ≤ 512
-  column-room = let N = narrow z e in omega (arith, shr-le (z .w) (z .n))
+module _ (z : Size) (i j : ℕ) (p : InBand z i j) where
+  pub band-room : BandRoom z i j
+  band-room =
+      let r : i / 2 ≤ 512 = omega (arith, band-rows z (p .0)) in
+      record { row = mul-le-mul r (columns z (p .0)); column = omega (arith, band-columns z (p .0)); groups = groups z (p .0) }
 
-  pub number-small : numberOf z (index z i j) < 2 ^ 31
-  number-small = omega (arith, number-under z (legal z e) i j h l, narrow z e .all)
+  number-small : numberOf z (index z i j) < 2 ^ 31
+  number-small = omega (arith, number-under z (legal z (p .0)) i j (p .1) (p .2), all z (p .0))
 
-  pub numbered-even : i % 2 * 2 + j % 2 ≡ 0 → i / 2 * across z + j / 2 ≡ numberOf z (index z i j)
-  numbered-even r = sym (number-even z (legal z e) i j h l r ∙ ap (λ (a : ℕ). i / 2 * a + j / 2) (sym (across-half z)))
+  pub numbered-even : i % 2 * 2 + j % 2 ≡ 0
+      → (i / 2 * across z + j / 2 ≡ numberOf z (index z i j)) × (i / 2 * across z + j / 2 < 2 ^ 31)
+  numbered-even r =
+      let e : i / 2 * across z + j / 2 ≡ numberOf z (index z i j) =
+      sym (number-even z (legal z (p .0)) i j (p .1) (p .2) r ∙ ap (λ (a : ℕ). i / 2 * a + j / 2) (sym (across-half z))) in
+      (e, rw e number-small)
 
-  pub numbered-odd : 0 < i % 2 * 2 + j % 2
-      → down z * across z + 3 * (i / 2 * across z + j / 2) + (i % 2 * 2 + j % 2 - 1) ≡ numberOf z (index z i j)
+  pub numbered-odd : ¬ (i % 2 * 2 + j % 2 ≡ 0)
+      → (down z * across z + 3 * (i / 2 * across z + j / 2) + (i % 2 * 2 + j % 2 - 1) ≡ numberOf z (index z i j))
+      × (down z * across z + 3 * (i / 2 * across z + j / 2) + (i % 2 * 2 + j % 2 - 1) < 2 ^ 31)
   numbered-odd r =
-      sym (number-odd z (legal z e) i j h l r
-      ∙ ap₂ (λ (d a : ℕ). d * a + 3 * (i / 2 * a + j / 2) + (i % 2 * 2 + j % 2 - 1)) (sym (down-half z)) (sym (across-half z)))
-
--- a coefficient's place and its number, both in the pyramid
-pub band-places : (z : Size) (e : legalSize z ≡ true) (i j : ℕ) → i < z .h / 2 ^ z .n → j < z .w / 2 ^ z .n
-    → (index z i j < area z) × (numberOf z (index z i j) < area z) × (area z ≤ 262144)
-band-places z e i j h l = (index-area z (legal z e) i j h l, number-under z (legal z e) i j h l, narrow z e .all)
+      let e : down z * across z + 3 * (i / 2 * across z + j / 2) + (i % 2 * 2 + j % 2 - 1) ≡ numberOf z (index z i j) =
+      sym (number-odd z (legal z (p .0)) i j (p .1) (p .2) (omega arith)
+      ∙ ap₂ (λ (d a : ℕ). d * a + 3 * (i / 2 * a + j / 2) + (i % 2 * 2 + j % 2 - 1)) (sym (down-half z)) (sym (across-half z))) in
+      (e, rw e number-small)
 
 -- a row of the band: its places, and its numbers
 module _ (z : Size) (Z : Legal z) (i : ℕ) (h : i < z .h / 2 ^ z .n) where

@@ -3,11 +3,14 @@ use mathlib.Core.Path.{_≡_, sym, ap, ap₂, subst, _∙_}
 use mathlib.Core.List.{List}
 use Prim.Native.Nat.{ℕ, suc, _+_, _*_, _/_, _%_, _^_, _≤_, _<_}
 use native.Mathlib.Omega.{arith}
+use native.Mathlib.Nat.{mul-le-mul}
 use native.Mathlib.Numerals.{add-one}
 use lib.ListN.{length, getD}
 use lib.IntN.{ℤ, pos}
+use lib.Pow.{shr-le}
 use Rattle.rules.specs.declared.Size.{Size}
-use Rattle.rules.specs.Document.Pyramid.{area, levels, index}
+use mathlib.Core.Bool.{true}
+use Rattle.rules.specs.Document.Pyramid.{legalSize, area, levels, index}
 use Rattle.rules.specs.Promises.Vocabulary.{Legal}
 use Rattle.rules.specs.Laws.Family.Sizes.{legal, span, levelStart, levelSize, levelSize-top, levelSize-fine, span-quarter}
 use Rattle.rules.specs.Laws.Offspring.Block.{halfRows, halfColumns}
@@ -23,7 +26,8 @@ use Rattle.placing.proofs.Blocks.{put-count, cornerIn}
 use Rattle.placing.proofs.Grid.{raster-root}
 use Rattle.placing.proofs.Levels.{level-placed, blocks-under, next-size, words-copied, values-laid, corners-in, places-under, level-apart, band-apart}
 use Rattle.placing.proofs.Levels.{band-laid, band-copied}
-use Rattle.placing.proofs.Band.{narrow, across, down, across-half, down-half, raster-row, numbers-apart}
+use Rattle.placing.proofs.Band.{across, down, across-half, down-half, raster-row, numbers-apart, row-apart, number-under}
+use Rattle.placing.proofs.Band.{wide, least, all, rows, columns}
 use Rattle.placing.proofs.Loops.{given-small}
 
 -- places under one bound are under a larger
@@ -47,6 +51,9 @@ module _ (z : Size) (Z : Legal z) (k : ℕ) (a : 1 ≤ k) (b : k ≤ levels z) w
   blocks-room : blocksFrom z k + levelSize z k / 4 ≤ 4 * area z
   blocks-room = omega (arith, blocks-end, stretch-room z Z k a b)
 
+pub level-room : (z : Size) (k : ℕ) → (legalSize z ≡ true) × (1 ≤ k) × (k ≤ levels z) → 4 * levelStart z k + 4 * levelSize z k ≤ 2 ^ 20
+level-room z k p = omega (arith, stretch-room z (legal z (p .0)) k (p .1) (p .2), all z (p .0))
+
 -- The blocks of a level from those of the next coarser one.
 abbrev Coarser : Size → ℕ → List ℕ → Type 0
 Coarser z k work = Roomy z work × (1 ≤ k) × (k < z .n) × BlocksOf z (k + 1) work
@@ -68,11 +75,11 @@ module _ {z : Size} {k : ℕ} {work : List ℕ} (p : Coarser z k work) {n from t
   blocks : BlocksOf z (suc k) work
   blocks = subst (λ (j : ℕ). BlocksOf z j work) next (p .3)
 
-  pub level-under-asks : (from + n / 4 ≤ to) × (to + 4 * (n / 4) ≤ length work) × Under (2 ^ 20) (n / 4) work from
+  pub level-under-asks : (from + n / 4 ≤ to) × (to + 4 * (n / 4) ≤ length work) × Under (2 ^ 20) (n / 4) work from × (z .w < 2 ^ 20)
   level-under-asks =
       let q : n / 4 ≡ levelSize z (suc k) / 4 = ap (λ (x : ℕ). x / 4) (e ∙ size) in
       let g : from ≡ blocksFrom z (suc k) = f .0 ∙ place in
-      let small : area z ≤ 262144 = narrow z (p .0 .legal) .all in (
+      let small : area z ≤ 262144 = all z (p .0 .legal) in (
         omega (
           arith,
           blocks-end z Z (suc k) (omega arith) (omega (arith, p .2)),
@@ -82,6 +89,7 @@ module _ {z : Size} {k : ℕ} {work : List ℕ} (p : Coarser z k work) {n from t
         omega (arith, next-size z Z k (p .1) (p .2), blocks-room z Z k (p .1) (omega (arith, p .2)), p .0 .room, t .0),
         subst (λ (x : ℕ). Under (2 ^ 20) (n / 4) work x) (sym g)
             (under-larger (places-under z Z (suc k) (omega arith) (p .2) blocks q) (omega arith)),
+        omega (arith, wide z (p .0 .legal)),
       )
 
   pub level-under : {work′ : List ℕ}
@@ -103,9 +111,8 @@ module _ {z : Size} {work : List ℕ} (p : Roomy z work) {to : ℕ} (t : (to ≡
 
   pub roots-asks : (to + 3 * (down z * across z) ≤ length work) × (down z ≤ 512) × (across z ≤ 512) × (z .w ≤ 512)
   roots-asks =
-      let N = narrow z (p .legal) in
       let L : Legal z = legal z (p .legal) in
-      (omega (arith, roots, blocks-room z L (z .n) (L .some) (omega arith), p .room, t .0), N .rows, N .columns, N .wide)
+      (omega (arith, roots, blocks-room z L (z .n) (L .some) (omega arith), p .room, t .0), rows z (p .legal), columns z (p .legal), wide z (p .legal))
 
   pub roots-placed : {work′ : List ℕ}
       → Put 0 (λ u. to + u) (3 * (down z * across z))
@@ -131,14 +138,13 @@ module _ {v : List ℤ} {z : Size} {k : ℕ} {work : List ℕ} (p : Copying v z 
   copy-asks =
       let R = p .0 .roomy in
       let L : Legal z = legal z (R .legal) in
-      let N = narrow z (R .legal) in
       let q : n / 4 ≡ levelSize z k / 4 = ap (λ (x : ℕ). x / 4) e in (
         given-small (p .0),
-        omega (arith, N .wide),
+        omega (arith, wide z (R .legal)),
         omega (arith, words-room z L k (p .1) (omega (arith, p .2))),
         omega (arith, blocks-room z L k (p .1) (omega (arith, p .2)), R .room),
         subst (λ (x : ℕ). Under (2 ^ 20) (n / 4) work x) (sym f)
-            (under-larger (places-under z L k (p .1) (p .2) (p .3) q) (omega (arith, N .all))),
+            (under-larger (places-under z L k (p .1) (p .2) (p .3) q) (omega (arith, all z (R .legal)))),
       )
 
   pub level-words : {work′ : List ℕ}
@@ -159,11 +165,10 @@ module _ {z : Size} {k : ℕ} {work : List ℕ} (out : List ℤ) (p : LayingLeve
   lay-asks =
       let R = p .0 in
       let L : Legal z = legal z (R .legal) in
-      let N = narrow z (R .legal) in
       let q : n / 4 ≡ levelSize z k / 4 = ap (λ (x : ℕ). x / 4) e in (
         omega (arith, blocks-room z L k (p .2) (omega (arith, p .3)), R .room),
         omega (arith, words-room z L k (p .2) (omega (arith, p .3))),
-        omega (arith, N .least),
+        omega (arith, least z (R .legal)),
         subst (λ (x : ℕ). Apart (cornerIn (z .w) work x) (4 * (n / 4)) (length out)) (sym f)
             (subst (λ (m : ℕ). Apart (cornerIn (z .w) work (blocksFrom z k)) (4 * (n / 4)) m) (sym (p .1)) (corners-in z L k (p .2) (p .3) (p .4) q)),
       )
@@ -200,11 +205,21 @@ module _ (z : Size) (Z : Legal z) where
   unfolding span
   band-size = sym (levelSize-top z Z)
 
-pub row-numbers : {v : List ℤ} {z : Size} {work : List ℕ} (i : ℕ) → Given v z work × (i < bandRows z)
-    → Apart (λ j. numberOf z (index z i j)) (bandWidth z) (length work)
-row-numbers {v} {z} {work} i p =
-    let R = p .0 .roomy in
-    numbers-apart z (legal z (R .legal)) i (p .1) (length work) (omega (arith, R .room))
+-- A row of it: its numbers, and its places.
+module _ {z : Size} {work : List ℕ} (R : Roomy z work) {i : ℕ} (h : i < bandRows z) where
+  pub row-numbers : Apart (λ j. numberOf z (index z i j)) (bandWidth z) (length work)
+  row-numbers = numbers-apart z (legal z (R .legal)) i h (length work) (omega (arith, R .room))
+
+  pub number-inside : {j x : ℕ} (work₁ : List ℕ) → length work₁ ≡ length work → j < bandWidth z → x ≡ numberOf z (index z i j) → x < length work₁
+  number-inside {j} work₁ s l e = omega (arith, number-under z (legal z (R .legal)) i j h l, R .room)
+
+  pub row-inside : i * z .w + bandWidth z ≤ area z
+  row-inside =
+      let n : suc i * z .w ≤ z .h * z .w = mul-le-mul (omega (arith, shr-le (z .h) (z .n))) (omega arith) in
+      omega (arith, shr-le (z .w) (z .n))
+
+pub row-places : {z : Size} {work : List ℕ} {i m : ℕ} → Roomy z work × (m ≡ area z) × (i < bandRows z) → Apart (index z i) (bandWidth z) m
+row-places {z} {i = i} p = rw (p .1) (row-apart z (legal z (p .0 .legal)) i (p .2))
 
 abbrev pub CopyingBand : List ℤ → Size → List ℕ → ℕ → List ℕ → Type 0
 CopyingBand v z work i work₁ =

@@ -9,7 +9,9 @@ use native.Mathlib.Decide.{decLt}
 use lib.Arith.{digits-div, digits-mod}
 use lib.ListN.{length, getD, set, length-set}
 use lib.IntN.{ℤ, pos}
-use lib.Seq.{getD-set-same, getD-set-other, lt-length-set}
+use lib.Seq.{getD-set-same, getD-set-other}
+use mir.Syntax.{w32, w64}
+use mir.Val.{Fits}
 use Rattle.coefficients.specs.Words.{worded}
 use Rattle.placing.specs.Stores.{Put, Apart, cornerOf}
 
@@ -133,12 +135,8 @@ pub corners-apart : (w p m : ℕ) → 2 ≤ w → p + w + 1 < m → Apart (corne
 unfolding cornerOf
 corners-apart w p m h l = record { inside = λ f k. corner-under w p m f l k; one = λ f g k n e. corner-one w p f g h k n e }
 
--- the least and the greatest corner
-pub corner-first : (w p : ℕ) → cornerOf w p 0 ≡ p
-unfolding cornerOf
-corner-first w p = omega arith
-
-pub corner-last : (w p : ℕ) → cornerOf w p 3 ≡ p + w + 1
+-- the greatest corner
+corner-last : (w p : ℕ) → cornerOf w p 3 ≡ p + w + 1
 unfolding cornerOf
 corner-last w p = omega arith
 
@@ -173,16 +171,17 @@ band-stored rows across i I l H K p w =
     let r : (i + 1) * across ≤ rows * across = mul-le-mul (omega arith) (omega arith) in
     put-join I H K ((i + 1) * across) (omega arith) (omega arith) p w
 
--- what is read at the same place
-pub corner-read : (v : List ℤ) (q p : ℕ) → q ≡ p → worded (getD v q (pos 0)) ≡ worded (getD v p (pos 0))
+-- the four words of a block
+corner-read : (v : List ℤ) (q p : ℕ) → q ≡ p → worded (getD v q (pos 0)) ≡ worded (getD v p (pos 0))
 corner-read v q p e = ap (λ (x : ℕ). worded (getD v x (pos 0))) e
 
--- a place in a list that was stored to, twice and three times
-pub within-two : {A : Type 0} (s : List A) (i j k : ℕ) (a b : A) → k < length s → k < length (set (set s i a) j b)
-within-two s i j k a b h = lt-length-set (set s i a) j b (lt-length-set s i a h)
-
-pub within-three : {A : Type 0} (s : List A) (i j l k : ℕ) (a b c : A) → k < length s → k < length (set (set (set s i a) j b) l c)
-within-three s i j l k a b c h = lt-length-set (set (set s i a) j b) l c (within-two s i j k a b h)
+pub four-copied : (v : List ℤ) (p w at : ℕ) (s : List ℕ) (a b c d : ℕ) → at + 4 ≤ length s → a ≡ worded (getD v p (pos 0))
+    → b ≡ worded (getD v (p + 1) (pos 0)) → c ≡ worded (getD v (p + w) (pos 0)) → d ≡ worded (getD v (p + w + 1) (pos 0))
+    → Put 0 (λ f. at + f) 4 (λ f. worded (getD v (cornerOf w p f) (pos 0))) s (set (set (set (set s at a) (at + 1) b) (at + 2) c) (at + 3) d)
+unfolding cornerOf
+four-copied v p w at s a b c d h i j k l =
+    put-four (apart-row at 4 _ h) _ _ _ _ (omega arith) (omega arith) (omega arith) (omega arith) _ _ _ _ (i ∙ corner-read v _ _ (omega arith))
+    (j ∙ corner-read v _ _ (omega arith)) (k ∙ corner-read v _ _ (omega arith)) (l ∙ corner-read v _ _ (omega arith))
 
 -- the last corner of a block among the places of all
 pub block-inside : (from blocks b w m : ℕ) (s : List ℕ) → Apart (λ t. cornerOf w (getD s (from + t / 4) 0) (t % 4)) (4 * blocks) m → b < blocks
@@ -192,3 +191,7 @@ block-inside from blocks b w m s A h =
     let e : cornerOf w (getD s (from + (4 * b + 3) / 4) 0) ((4 * b + 3) % 4) ≡ getD s (from + b) 0 + w + 1 =
     ap₂ (λ (u f : ℕ). cornerOf w (getD s (from + u) 0) f) (x .0) (x .1) ∙ corner-last w (getD s (from + b) 0) in
     omega (arith, A .inside (4 * b + 3) (omega arith))
+
+-- a word fits an index
+pub word-fits : {n : ℕ} → Fits w32 n → Fits w64 n
+word-fits f = omega arith

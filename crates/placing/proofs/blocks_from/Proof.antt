@@ -1,9 +1,8 @@
 -- `placing::blocks_from` meets its contract.
-use Rattle.rules.specs.Laws.Family.Sizes.{legal}
-use Rattle.stretches.specs.Cut.{maximaFrom}
-use Rattle.stretches.specs.Levels.{blocksFrom, stretch-room}
-use Rattle.placing.proofs.Band.{narrow}
 use borrow.Author.Needs.{needs}
+use Rattle.stretches.specs.Cut.{maximaFrom}
+use Rattle.stretches.specs.Levels.{blocksFrom}
+use Rattle.placing.proofs.Calls.{level-room}
 use Rattle.placing.proofs.blocks_from.Statement.{statement}
 use Rattle.placing.proofs.blocks_from.Tie as tie
 
@@ -14,26 +13,15 @@ level-size-requires : tie.Need-level-size-requires
 level-size-requires c κs = search needs
 
 maxima-from-requires : tie.Need-maxima-from-requires
-maxima-from-requires c κs = let p = c .before .before .pre in
-    let N = narrow _ (p .0) in
-    let R = stretch-room _ (legal _ (p .0)) _ (p .1) (p .2) in
-    search needs
+maxima-from-requires c κs = let R = level-room _ _ (c .before .before .pre) in search needs
 
 add-result : tie.Need-add-result
 unfolding maximaFrom
-add-result c = let p = c .before .before .before .pre in
-    let N = narrow _ (p .0) in
-    let R = stretch-room _ (legal _ (p .0)) _ (p .1) (p .2) in
-    search needs
+add-result c = let R = level-room _ _ (c .before .before .before .pre) in search needs
 
 returns : tie.Need-returns
 unfolding maximaFrom blocksFrom
-returns c = let p = c .before .before .before .pre in
-    let N = narrow _ (p .0) in
-    let R = stretch-room _ (legal _ (p .0)) _ (p .1) (p .2) in
-    search needs
+returns c = let R = level-room _ _ (c .before .before .before .pre) in search needs
 
 pub blocks-from-spec : {M : Type 1} → statement M
-blocks-from-spec =
-    tie.close
-    (tie.spec stretch-from-requires level-size-requires maxima-from-requires add-result returns)
+blocks-from-spec = tie.close (tie.spec stretch-from-requires level-size-requires maxima-from-requires add-result returns)

@@ -1,8 +1,6 @@
 -- `placing::clear_level` meets its contract.
-use native.Mathlib.Omega.{arith}
-use Rattle.rules.specs.Laws.Family.Sizes.{legal}
-use Rattle.placing.proofs.Loops.{level-cleared}
 use borrow.Author.Needs.{needs}
+use Rattle.placing.proofs.Loops.{level-cleared}
 use Rattle.placing.proofs.clear_level.Statement.{statement}
 use Rattle.placing.proofs.clear_level.Tie as tie
 
@@ -34,21 +32,9 @@ same-length : tie.Need-same-length
 same-length c = search needs
 
 returns : tie.Need-returns
-returns c = let p = c .before .before .before .before .before .before .before .pre in
-    let from = c .before .before .before .before .before .stretch-from .ensures .0 in
-    level-cleared _ (legal _ (p .0 .legal)) _ (p .1) (p .2) _ _ from (omega arith) _ _ (p .0 .room) (c .before .before .zero-u32 .ensures)
+returns c = search (needs, level-cleared)
 
 pub clear-level-spec : {M : Type 1} → statement M
 clear-level-spec =
-    tie.close
-    (tie.spec
-    stretch-from-requires
-    level-size-requires
-    add-zero-u32
-    mul-zero-u32
-    sub-zero-u32
-    part-zero-u32-start
-    part-zero-u32-end
-    zero-u32-requires
-    same-length
-    returns)
+    tie.close (tie.spec stretch-from-requires level-size-requires add-zero-u32 mul-zero-u32 sub-zero-u32 part-zero-u32-start part-zero-u32-end
+    zero-u32-requires same-length returns)

@@ -1,10 +1,8 @@
 -- `placing::copy_block` meets its contract.
-use Rattle.placing.proofs.Stores.{put-four, apart-row, corner-read, within-two, within-three}
-use mathlib.Core.Path.{_∙_}
 use native.Mathlib.Omega.{arith}
-use lib.Seq.{lt-length-set}
-use Rattle.placing.specs.Stores.{cornerOf}
+use lib.ListN.{length-set}
 use borrow.Author.Needs.{needs}
+use Rattle.placing.proofs.Stores.{four-copied}
 use Rattle.placing.proofs.copy_block.Statement.{statement}
 use Rattle.placing.proofs.copy_block.Tie as tie
 
@@ -30,7 +28,7 @@ mul-work-2 : tie.Need-mul-work-2
 mul-work-2 c = search needs
 
 slice-write-work-2 : tie.Need-slice-write-work-2
-slice-write-work-2 c = lt-length-set (c .before .before .before .args .work .now) _ _ (omega arith)
+slice-write-work-2 c = simp length-set (omega arith)
 
 add-word-at-2 : tie.Need-add-word-at-2
 add-word-at-2 c = search needs
@@ -45,7 +43,7 @@ mul-work-3 : tie.Need-mul-work-3
 mul-work-3 c = search needs
 
 slice-write-work-3 : tie.Need-slice-write-work-3
-slice-write-work-3 c = within-two (c .before .before .before .before .args .work .now) _ _ _ _ _ (omega arith)
+slice-write-work-3 c = simp length-set (omega arith)
 
 add-word-at-3 : tie.Need-add-word-at-3
 add-word-at-3 c = search needs
@@ -63,42 +61,18 @@ mul-work-4 : tie.Need-mul-work-4
 mul-work-4 c = search needs
 
 slice-write-work-4 : tie.Need-slice-write-work-4
-slice-write-work-4 c = within-three (c .before .before .before .before .before .args .work .now) _ _ _ _ _ _ _ (omega arith)
+slice-write-work-4 c = simp length-set (omega arith)
 
 same-length : tie.Need-same-length
 same-length c = search needs
 
 returns : tie.Need-returns
-unfolding cornerOf
-returns c = let v = c .before .before .before .before .before .args .pyramid .now in
-    put-four (apart-row _ 4 _ (c .before .before .before .before .before .pre .3)) _ _ _ _ (omega arith) (omega arith) (omega arith) (omega arith) _ _ _ _
-    (c .before .before .before .word-at .ensures ∙ corner-read v _ _ (omega arith))
-    (c .before .before .word-at2 .ensures ∙ corner-read v _ _ (omega arith))
-    (c .before .word-at3 .ensures ∙ corner-read v _ _ (omega arith))
-    (c .word-at4 .ensures ∙ corner-read v _ _ (omega arith))
+returns c = let begun = c .before .before .before .before .before in
+    four-copied (begun .args .pyramid .now) _ _ _ _ _ _ _ _ (begun .pre .3) (c .before .before .before .word-at .ensures)
+    (c .before .before .word-at2 .ensures) (c .before .word-at3 .ensures) (c .word-at4 .ensures)
 
 pub copy-block-spec : {M : Type 1} → statement M
 copy-block-spec =
-    tie.close
-    (tie.spec
-    word-at-requires
-    mul-work
-    slice-write-work
-    add-word-at
-    word-at-requires-2
-    add-work
-    mul-work-2
-    slice-write-work-2
-    add-word-at-2
-    word-at-requires-3
-    add-work-2
-    mul-work-3
-    slice-write-work-3
-    add-word-at-3
-    add-word-at-4
-    word-at-requires-4
-    add-work-3
-    mul-work-4
-    slice-write-work-4
-    same-length
-    returns)
+    tie.close (tie.spec word-at-requires mul-work slice-write-work add-word-at word-at-requires-2 add-work mul-work-2 slice-write-work-2 add-word-at-2
+    word-at-requires-3 add-work-2 mul-work-3 slice-write-work-3 add-word-at-3 add-word-at-4 word-at-requires-4 add-work-3 mul-work-4
+    slice-write-work-4 same-length returns)

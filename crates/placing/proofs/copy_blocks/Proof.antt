@@ -1,14 +1,13 @@
 -- `placing::copy_blocks` meets its contract.
-use Prim.Native.Nat.{ℕ, _+_, _-_}
-use mathlib.Core.Path.{refl}
-use mathlib.Core.Logic.{inr}
+use Prim.Native.Nat.{ℕ, _-_}
 use native.Mathlib.Omega.{arith}
 use lib.ListN.{getD}
 use lib.IntN.{pos}
+use borrow.Author.Needs.{needs}
 use Rattle.coefficients.specs.Words.{worded}
 use Rattle.placing.specs.Stores.{cornerOf}
-use Rattle.placing.proofs.Blocks.{Storing, storing-none, storing-read, storing-more, storing-all}
-use borrow.Author.Needs.{needs}
+use Rattle.placing.proofs.Blocks.{Storing, storing-none, storing-more, storing-all, behind, storing-long, storing-under, storing-room}
+use Rattle.placing.proofs.Stores.{word-fits}
 use Rattle.placing.proofs.copy_blocks.Statement.{statement}
 use Rattle.placing.proofs.copy_blocks.Tie as tie
 
@@ -31,10 +30,10 @@ mul-p : tie.Need-mul-p Inv-loop μ-loop
 mul-p c = search needs
 
 slice-read-p : tie.Need-slice-read-p Inv-loop μ-loop
-slice-read-p c = let I = c .before .before .loop .inv .stored .same in search needs
+slice-read-p c = omega (arith, storing-long)
 
 cast-p : tie.Need-cast-p Inv-loop μ-loop
-cast-p c = omega (arith, c .slice-known2 .given (c .before .before .before .before .args .from + c .before .before .loop .b))
+cast-p c = search (needs, word-fits, c .slice-known2 .given)
 
 mul-copy-block : tie.Need-mul-copy-block Inv-loop μ-loop
 mul-copy-block c = search needs
@@ -43,42 +42,21 @@ add-copy-block : tie.Need-add-copy-block Inv-loop μ-loop
 add-copy-block c = search needs
 
 copy-block-requires : tie.Need-copy-block-requires Inv-loop μ-loop
-copy-block-requires c κs = let I = c .before .before .before .loop .inv in
-    let p = c .before .before .before .before .before .pre in
-    let t = c .before .before .loop-test .taken in
-    (p .0, omega (arith, storing-read I (inr (p .2)) t, p .4 .under _ t), p .1, omega (arith, I .stored .same))
+copy-block-requires c κs = search (needs, storing-under, storing-room, behind)
 
 loop-less : tie.Need-loop-less Inv-loop μ-loop
 loop-less c = search needs
 
 loop-again : tie.Need-loop-again Inv-loop μ-loop
-loop-again c = let p = c .before .before .before .before .before .before .before .before .pre in
-    let I = c .before .before .before .before .before .before .loop .inv in
-    let t = c .before .before .before .before .before .loop-test .taken in
-    storing-more I (inr (p .2)) (omega arith) t _ _ refl refl (c .before .before .copy-block .ensures)
+loop-again c = search (needs, storing-more, behind)
 
 same-length : tie.Need-same-length Inv-loop μ-loop
-same-length c = c .before .loop .inv .stored .same
+same-length c = search needs
 
 returns : tie.Need-returns Inv-loop μ-loop
 returns c = storing-all (c .before .loop .inv) (c .loop-test .left)
 
 pub copy-blocks-spec : {M : Type 1} → statement M
 copy-blocks-spec =
-    tie.close
-    (tie.spec
-    Inv-loop
-    μ-loop
-    loop-holds
-    add-b
-    add-p
-    mul-p
-    slice-read-p
-    cast-p
-    mul-copy-block
-    add-copy-block
-    copy-block-requires
-    loop-less
-    loop-again
-    same-length
-    returns)
+    tie.close (tie.spec Inv-loop μ-loop loop-holds add-b add-p mul-p slice-read-p cast-p mul-copy-block add-copy-block copy-block-requires loop-less
+    loop-again same-length returns)

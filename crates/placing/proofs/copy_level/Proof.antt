@@ -1,6 +1,6 @@
 -- `placing::copy_level` meets its contract.
-use Rattle.placing.proofs.Calls.{copy-asks, level-words}
 use borrow.Author.Needs.{needs}
+use Rattle.placing.proofs.Calls.{copy-asks, level-words}
 use Rattle.placing.proofs.copy_level.Statement.{statement}
 use Rattle.placing.proofs.copy_level.Tie as tie
 
@@ -25,12 +25,4 @@ returns : tie.Need-returns
 returns c = search (needs, level-words)
 
 pub copy-level-spec : {M : Type 1} → statement M
-copy-level-spec =
-    tie.close
-    (tie.spec
-    level-size-requires
-    blocks-from-requires
-    stretch-from-requires
-    copy-blocks-requires
-    same-length
-    returns)
+copy-level-spec = tie.close (tie.spec level-size-requires blocks-from-requires stretch-from-requires copy-blocks-requires same-length returns)

@@ -1,10 +1,8 @@
 -- `placing::lay_block` meets its contract.
 use native.Mathlib.Omega.{arith}
-use lib.Seq.{lt-length-set}
-use Rattle.placing.specs.Stores.{cornerOf}
-use Rattle.placing.proofs.Stores.{put-four, corners-apart, within-two, within-three}
-use Rattle.placing.proofs.Signed.{value-read}
+use lib.ListN.{length-set}
 use borrow.Author.Needs.{needs}
+use Rattle.placing.proofs.Signed.{four-laid}
 use Rattle.placing.proofs.lay_block.Statement.{statement}
 use Rattle.placing.proofs.lay_block.Tie as tie
 
@@ -30,7 +28,7 @@ mul-out-2 : tie.Need-mul-out-2
 mul-out-2 c = search needs
 
 slice-set-from-out-2 : tie.Need-slice-set-from-out-2
-slice-set-from-out-2 c = lt-length-set (c .before .before .before .args .out .now) _ _ (omega arith)
+slice-set-from-out-2 c = simp length-set (omega arith)
 
 add-value-in-2 : tie.Need-add-value-in-2
 add-value-in-2 c = search needs
@@ -45,7 +43,7 @@ mul-out-3 : tie.Need-mul-out-3
 mul-out-3 c = search needs
 
 slice-set-from-out-3 : tie.Need-slice-set-from-out-3
-slice-set-from-out-3 c = within-two (c .before .before .before .before .args .out .now) _ _ _ _ _ (omega arith)
+slice-set-from-out-3 c = simp length-set (omega arith)
 
 add-value-in-3 : tie.Need-add-value-in-3
 add-value-in-3 c = search needs
@@ -63,44 +61,21 @@ mul-t13 : tie.Need-mul-t13
 mul-t13 c = search needs
 
 slice-set-from-out-4 : tie.Need-slice-set-from-out-4
-slice-set-from-out-4 c = within-three (c .before .before .before .before .before .args .out .now) _ _ _ _ _ _ _ (omega arith)
+slice-set-from-out-4 c = simp length-set (omega arith)
 
 same-length : tie.Need-same-length
 same-length c = search needs
 
 returns : tie.Need-returns
-unfolding cornerOf
-returns c = let s = c .before .before .before .before .before .args .work .now in
-    let p = c .before .before .before .before .before .pre in
-    let A = corners-apart _ _ _ (p .2) (p .1) in
-    put-four A _ _ _ _ (omega arith) (omega arith) (omega arith) (omega arith) _ _ _ _
-    (value-read s _ _ _ (c .before .before .before .value-in .ok) (c .before .before .before .value-in .ensures) (omega arith))
-    (value-read s _ _ _ (c .before .before .value-in2 .ok) (c .before .before .value-in2 .ensures) (omega arith))
-    (value-read s _ _ _ (c .before .value-in3 .ok) (c .before .value-in3 .ensures) (omega arith))
-    (value-read s _ _ _ (c .value-in4 .ok) (c .value-in4 .ensures) (omega arith))
+returns c = let begun = c .before .before .before .before .before in
+    let first = c .before .before .before .value-in in
+    let second = c .before .before .value-in2 in
+    let third = c .before .value-in3 in
+    four-laid (begun .args .work .now) _ _ _ _ _ _ _ _ (begun .pre .2) (begun .pre .1) (first .ok) (first .ensures) (second .ok) (second .ensures)
+    (third .ok) (third .ensures) (c .value-in4 .ok) (c .value-in4 .ensures)
 
 pub lay-block-spec : {M : Type 1} → statement M
 lay-block-spec =
-    tie.close
-    (tie.spec
-    value-in-requires
-    mul-out
-    slice-set-from-out
-    add-value-in
-    value-in-requires-2
-    add-out
-    mul-out-2
-    slice-set-from-out-2
-    add-value-in-2
-    value-in-requires-3
-    add-out-2
-    mul-out-3
-    slice-set-from-out-3
-    add-value-in-3
-    value-in-requires-4
-    add-t9
-    add-t10
-    mul-t13
-    slice-set-from-out-4
-    same-length
-    returns)
+    tie.close (tie.spec value-in-requires mul-out slice-set-from-out add-value-in value-in-requires-2 add-out mul-out-2 slice-set-from-out-2
+    add-value-in-2 value-in-requires-3 add-out-2 mul-out-3 slice-set-from-out-3 add-value-in-3 value-in-requires-4 add-t9 add-t10 mul-t13
+    slice-set-from-out-4 same-length returns)

@@ -1,9 +1,9 @@
 -- `placing::lay_blocks` meets its contract.
-use Prim.Native.Nat.{_+_, _-_}
-use mathlib.Core.Path.{refl}
+use Prim.Native.Nat.{_-_}
 use native.Mathlib.Omega.{arith}
-use Rattle.placing.proofs.Blocks.{Laying, laying-none, laying-inside, laying-more, laying-all}
 use borrow.Author.Needs.{needs}
+use Rattle.placing.proofs.Blocks.{Laying, laying-none, laying-inside, laying-more, laying-all}
+use Rattle.placing.proofs.Stores.{word-fits}
 use Rattle.placing.proofs.lay_blocks.Statement.{statement}
 use Rattle.placing.proofs.lay_blocks.Tie as tie
 
@@ -35,44 +35,24 @@ shared-slice-read-lay-block : tie.Need-shared-slice-read-lay-block Inv-loop μ-l
 shared-slice-read-lay-block c = search needs
 
 cast-lay-block : tie.Need-cast-lay-block Inv-loop μ-loop
-cast-lay-block c = omega (arith, c .shared-slice-known2 .given (c .before .before .before .before .before .args .from + c .before .before .before .loop .b))
+cast-lay-block c = search (needs, word-fits, c .shared-slice-known2 .given)
 
 lay-block-requires : tie.Need-lay-block-requires Inv-loop μ-loop
-lay-block-requires c κs = let p = c .before .before .before .before .before .pre in
-    let t = c .before .before .loop-test .taken in
-    (omega arith, laying-inside (c .before .before .before .loop .inv) (p .3) t, p .2)
+lay-block-requires c κs = (omega arith, search (needs, laying-inside), search needs)
 
 loop-less : tie.Need-loop-less Inv-loop μ-loop
 loop-less c = search needs
 
 loop-again : tie.Need-loop-again Inv-loop μ-loop
-loop-again c = let p = c .before .before .before .before .before .before .before .pre in
-    let I = c .before .before .before .before .before .loop .inv in
-    let t = c .before .before .before .before .loop-test .taken in
-    laying-more I (p .3) t _ _ refl refl (c .before .lay-block .ensures)
+loop-again c = search (needs, laying-more)
 
 same-length : tie.Need-same-length Inv-loop μ-loop
-same-length c = c .before .loop .inv .laid .same
+same-length c = search needs
 
 returns : tie.Need-returns Inv-loop μ-loop
 returns c = laying-all (c .before .loop .inv) (c .loop-test .left)
 
 pub lay-blocks-spec : {M : Type 1} → statement M
 lay-blocks-spec =
-    tie.close
-    (tie.spec
-    Inv-loop
-    μ-loop
-    loop-holds
-    add-b
-    mul-lay-block
-    add-lay-block
-    add-lay-block-2
-    mul-lay-block-2
-    shared-slice-read-lay-block
-    cast-lay-block
-    lay-block-requires
-    loop-less
-    loop-again
-    same-length
-    returns)
+    tie.close (tie.spec Inv-loop μ-loop loop-holds add-b mul-lay-block add-lay-block add-lay-block-2 mul-lay-block-2 shared-slice-read-lay-block
+    cast-lay-block lay-block-requires loop-less loop-again same-length returns)

@@ -1,6 +1,6 @@
 -- `placing::lay_level` meets its contract.
-use Rattle.placing.proofs.Calls.{lay-asks, level-values}
 use borrow.Author.Needs.{needs}
+use Rattle.placing.proofs.Calls.{lay-asks, level-values}
 use Rattle.placing.proofs.lay_level.Statement.{statement}
 use Rattle.placing.proofs.lay_level.Tie as tie
 
@@ -14,28 +14,16 @@ stretch-from-requires : tie.Need-stretch-from-requires
 stretch-from-requires c κs = search needs
 
 lay-blocks-requires : tie.Need-lay-blocks-requires
-lay-blocks-requires c κs = let s = c .before .before .before .before .before in
+lay-blocks-requires c κs = let begun = c .before .before .before .before .before in
     let size = c .before .before .before .level-size .ensures in
     let from = c .before .before .blocks-from .ensures .0 in
-    lay-asks (s .args .out .now) (s .pre) size from (c .before .stretch-from .ensures .0)
+    lay-asks (begun .args .out .now) (begun .pre) size from (c .before .stretch-from .ensures .0)
 
 same-length : tie.Need-same-length
 same-length c = search needs
 
 returns : tie.Need-returns
-returns c = let s = c .before .before .before .before .before .before .before in
-    let size = c .before .before .before .before .before .level-size .ensures in
-    let from = c .before .before .before .before .blocks-from .ensures .0 in
-    let words = c .before .before .before .stretch-from .ensures .0 in
-    level-values (s .args .out .now) (s .pre) size from words (c .before .lay-blocks .ensures)
+returns c = search (needs, level-values)
 
 pub lay-level-spec : {M : Type 1} → statement M
-lay-level-spec =
-    tie.close
-    (tie.spec
-    level-size-requires
-    blocks-from-requires
-    stretch-from-requires
-    lay-blocks-requires
-    same-length
-    returns)
+lay-level-spec = tie.close (tie.spec level-size-requires blocks-from-requires stretch-from-requires lay-blocks-requires same-length returns)

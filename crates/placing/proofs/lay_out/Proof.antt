@@ -1,7 +1,7 @@
 -- `placing::lay_out` meets its contract.
+use borrow.Author.Needs.{needs}
 use Rattle.rules.specs.Laws.Family.Sizes.{legal}
 use Rattle.placing.proofs.Loops.{laid-all}
-use borrow.Author.Needs.{needs}
 use Rattle.placing.proofs.lay_out.Statement.{statement}
 use Rattle.placing.proofs.lay_out.Tie as tie
 
@@ -27,12 +27,4 @@ returns c = let laid = c .before .before .before .before .before in
     laid-all (legal _ (begun .0 .legal)) (placed .place-blocks .ensures) (laid .lay-levels .ensures) (c .before .lay-band .ensures)
 
 pub lay-out-spec : {M : Type 1} → statement M
-lay-out-spec =
-    tie.close
-    (tie.spec
-    place-blocks-requires
-    lay-levels-requires
-    lay-band-requires
-    same-length
-    same-length-2
-    returns)
+lay-out-spec = tie.close (tie.spec place-blocks-requires lay-levels-requires lay-band-requires same-length same-length-2 returns)

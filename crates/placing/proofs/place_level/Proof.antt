@@ -1,13 +1,13 @@
 -- `placing::place_level` meets its contract.
 use native.Mathlib.Omega.{arith}
-use Rattle.placing.proofs.Band.{narrow}
-use Rattle.placing.proofs.Calls.{level-under-asks, level-under}
 use borrow.Author.Needs.{needs}
+use Rattle.placing.proofs.Band.{few, wide}
+use Rattle.placing.proofs.Calls.{level-under-asks, level-under}
 use Rattle.placing.proofs.place_level.Statement.{statement}
 use Rattle.placing.proofs.place_level.Tie as tie
 
 add-blocks : tie.Need-add-blocks
-add-blocks c = let N = narrow _ (c .before .before .pre .0 .legal) in search needs
+add-blocks c = omega (arith, few)
 
 level-size-requires : tie.Need-level-size-requires
 level-size-requires c κs = search needs
@@ -19,14 +19,12 @@ blocks-from-requires-2 : tie.Need-blocks-from-requires-2
 blocks-from-requires-2 c κs = search needs
 
 cast-place-under : tie.Need-cast-place-under
-cast-place-under c = let N = narrow _ (c .before .before .before .before .before .before .before .pre .0 .legal) in search needs
+cast-place-under c = omega (arith, wide)
 
 place-under-requires : tie.Need-place-under-requires
-place-under-requires c κs = let N = narrow _ (c .before .before .before .before .before .before .before .pre .0 .legal) in
+place-under-requires c κs = let begun = c .before .before .before .before .before .before .before .pre in
     let size = c .before .before .before .before .level-size .ensures in
-    let from = c .before .before .blocks-from .ensures in
-    let A = level-under-asks (c .before .before .before .before .before .before .before .pre) size from (c .before .blocks-from2 .ensures) in
-    (A .0, A .1, A .2, omega (arith, N .wide))
+    level-under-asks begun size (c .before .before .blocks-from .ensures) (c .before .blocks-from2 .ensures)
 
 same-length : tie.Need-same-length
 same-length c = search needs
@@ -40,13 +38,5 @@ returns c = let sized = c .before .before .before .before .before .before .befor
 
 pub place-level-spec : {M : Type 1} → statement M
 place-level-spec =
-    tie.close
-    (tie.spec
-    add-blocks
-    level-size-requires
-    blocks-from-requires
-    blocks-from-requires-2
-    cast-place-under
-    place-under-requires
-    same-length
+    tie.close (tie.spec add-blocks level-size-requires blocks-from-requires blocks-from-requires-2 cast-place-under place-under-requires same-length
     returns)

@@ -57,19 +57,5 @@ returns c = put-count (c .before .loop .inv .1) _ (omega arith)
 
 pub place-row-spec : {M : Type 1} → statement M
 place-row-spec =
-    tie.close
-    (tie.spec
-    Inv-loop
-    μ-loop
-    loop-holds
-    add-j
-    mul-set-roots
-    add-set-roots
-    cast-set-roots
-    mul-set-roots-2
-    add-set-roots-2
-    set-roots-requires
-    loop-less
-    loop-again
-    same-length
-    returns)
+    tie.close (tie.spec Inv-loop μ-loop loop-holds add-j mul-set-roots add-set-roots cast-set-roots mul-set-roots-2 add-set-roots-2 set-roots-requires
+    loop-less loop-again same-length returns)

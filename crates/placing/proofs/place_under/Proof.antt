@@ -1,11 +1,9 @@
 -- `placing::place_under` meets its contract.
 use Prim.Native.Nat.{ℕ, _-_, _*_}
-use mathlib.Core.Path.{refl}
-use mathlib.Core.Logic.{inl}
 use native.Mathlib.Omega.{arith}
-use Rattle.placing.specs.Stores.{cornerOf}
-use Rattle.placing.proofs.Blocks.{Storing, storing-none, storing-read, storing-more, storing-all}
 use borrow.Author.Needs.{needs}
+use Rattle.placing.specs.Stores.{cornerOf}
+use Rattle.placing.proofs.Blocks.{Storing, storing-none, storing-more, storing-all, before, storing-long, storing-under, storing-room}
 use Rattle.placing.proofs.place_under.Statement.{statement}
 use Rattle.placing.proofs.place_under.Tie as tie
 
@@ -28,7 +26,7 @@ mul-p : tie.Need-mul-p Inv-loop μ-loop
 mul-p c = search needs
 
 slice-read-p : tie.Need-slice-read-p Inv-loop μ-loop
-slice-read-p c = let I = c .before .before .loop .inv .stored .same in search needs
+slice-read-p c = omega (arith, storing-long)
 
 mul-set-under : tie.Need-mul-set-under Inv-loop μ-loop
 mul-set-under c = search needs
@@ -37,41 +35,21 @@ add-set-under : tie.Need-add-set-under Inv-loop μ-loop
 add-set-under c = search needs
 
 set-under-requires : tie.Need-set-under-requires Inv-loop μ-loop
-set-under-requires c κs = let I = c .before .before .before .loop .inv in
-    let p = c .before .before .before .before .before .pre in
-    let t = c .before .before .loop-test .taken in
-    (omega (arith, I .stored .same), omega (arith, storing-read I (inl (p .0)) t, p .2 .under _ t), p .3)
+set-under-requires c κs = search (needs, storing-under, storing-room, before)
 
 loop-less : tie.Need-loop-less Inv-loop μ-loop
 loop-less c = search needs
 
 loop-again : tie.Need-loop-again Inv-loop μ-loop
-loop-again c = let p = c .before .before .before .before .before .before .before .before .pre in
-    let I = c .before .before .before .before .before .before .loop .inv in
-    let t = c .before .before .before .before .before .loop-test .taken in
-    storing-more I (inl (p .0)) (p .1) t _ _ refl refl (c .before .before .set-under .ensures)
+loop-again c = search (needs, storing-more, before)
 
 same-length : tie.Need-same-length Inv-loop μ-loop
-same-length c = c .before .loop .inv .stored .same
+same-length c = search needs
 
 returns : tie.Need-returns Inv-loop μ-loop
 returns c = storing-all (c .before .loop .inv) (c .loop-test .left)
 
 pub place-under-spec : {M : Type 1} → statement M
 place-under-spec =
-    tie.close
-    (tie.spec
-    Inv-loop
-    μ-loop
-    loop-holds
-    add-b
-    add-p
-    mul-p
-    slice-read-p
-    mul-set-under
-    add-set-under
-    set-under-requires
-    loop-less
-    loop-again
-    same-length
-    returns)
+    tie.close (tie.spec Inv-loop μ-loop loop-holds add-b add-p mul-p slice-read-p mul-set-under add-set-under set-under-requires loop-less loop-again
+    same-length returns)

@@ -1,9 +1,9 @@
 -- `placing::set_roots` meets its contract.
-use Rattle.placing.proofs.Stores.{put-three, apart-row, within-two}
 use native.Mathlib.Omega.{arith}
-use lib.Seq.{lt-length-set}
-use Rattle.placing.specs.Stores.{rankOf}
+use lib.ListN.{length-set}
 use borrow.Author.Needs.{needs}
+use Rattle.placing.proofs.Stores.{put-three, apart-row}
+use Rattle.placing.specs.Stores.{rankOf}
 use Rattle.placing.proofs.set_roots.Statement.{statement}
 use Rattle.placing.proofs.set_roots.Tie as tie
 
@@ -26,7 +26,7 @@ mul-work-2 : tie.Need-mul-work-2
 mul-work-2 c = search needs
 
 slice-write-work-2 : tie.Need-slice-write-work-2
-slice-write-work-2 c = lt-length-set (c .args .work .now) _ _ (omega arith)
+slice-write-work-2 c = simp length-set (omega arith)
 
 add-work-4 : tie.Need-add-work-4
 add-work-4 c = search needs
@@ -41,7 +41,7 @@ mul-work-3 : tie.Need-mul-work-3
 mul-work-3 c = search needs
 
 slice-write-work-3 : tie.Need-slice-write-work-3
-slice-write-work-3 c = within-two (c .args .work .now) _ _ _ _ _ (omega arith)
+slice-write-work-3 c = simp length-set (omega arith)
 
 same-length : tie.Need-same-length
 same-length c = search needs
@@ -52,19 +52,5 @@ returns c = put-three (apart-row _ 3 _ (c .pre .0)) _ _ _ (omega arith) (omega a
 
 pub set-roots-spec : {M : Type 1} → statement M
 set-roots-spec =
-    tie.close
-    (tie.spec
-    add-work
-    mul-work
-    slice-write-work
-    add-work-2
-    add-work-3
-    mul-work-2
-    slice-write-work-2
-    add-work-4
-    add-work-5
-    add-work-6
-    mul-work-3
-    slice-write-work-3
-    same-length
-    returns)
+    tie.close (tie.spec add-work mul-work slice-write-work add-work-2 add-work-3 mul-work-2 slice-write-work-2 add-work-4 add-work-5 add-work-6
+    mul-work-3 slice-write-work-3 same-length returns)
