@@ -91,7 +91,7 @@ pub enum HeaderRead {
     Refused(Refusal),
 }
 
-// A whole part of a record: its head, and where it, its body and the next part begin.
+// A part of a record: its head, and where it, its body and the next part begin.
 pub struct Part {
     pub plane: Plane,
     pub level: Level,
@@ -101,8 +101,10 @@ pub struct Part {
     pub end: usize,
 }
 
+// What stands at a place: a part, one that is whole but for its body, less than a head, or what is refused.
 pub enum PartRead {
     Part(Part),
+    Cut(Part),
     Tail,
     Refused(Refusal),
 }

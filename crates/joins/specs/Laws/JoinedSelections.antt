@@ -241,10 +241,10 @@ module _ {z : Size} {pyramid : List ℤ} (c : Codable z pyramid) {planes : ℕ} 
       → joining (arrived z planes (kept keep₁ (partsWith z planes pyramid)) n₁) (arrived z planes (kept keep₂ (partsWith z planes pyramid)) n₂) out
       ≡ accepted j
       → (room work : ℕ) → Stated z room work
-      → Rounded z planes pyramid (names (inEither (partsWith z planes pyramid) keep₁ n₁ keep₂ n₂)) 0 (decoding j room work)
+      → Rounded z planes pyramid (names (inEither (partsWith z planes pyramid) keep₁ n₁ keep₂ n₂)) [] 0 (decoding j room work)
   unfolding fitted
   demand3-joined keep₁ keep₂ n₁ n₂ out j e room work sizes =
       let u = unless-accepted (leb (length (recordBytes z planes (inEither all keep₁ n₁ keep₂ n₂))) out) refusal.Room _ j
       (sym (join-selections keep₁ keep₂ n₁ n₂ out) ∙ e) in
-      subst (λ s. Rounded z planes pyramid (names (inEither all keep₁ n₁ keep₂ n₂)) 0 (decoding s room work)) (accepted-same (u .1))
+      subst (λ s. Rounded z planes pyramid (names (inEither all keep₁ n₁ keep₂ n₂)) [] 0 (decoding s room work)) (accepted-same (u .1))
       (demand3-selection c count room work sizes (λ x. wholeThere all keep₁ n₁ x || wholeThere all keep₂ n₂ x))

@@ -68,8 +68,8 @@ module _ (z : Size) (pixels : List ℕ) (p : Pixels z pixels) (e : legalSize z �
   recorded : (q : ℕ) → q < area z → magnitude (pyramidOf z pixels) q ≤ mostBack
   recorded q h = omega (arith, picture-most z pixels p Z q h, pictureMost-fits)
 
-  printed-pyramids : {planes : ℕ} {there : List PartName} {cut : ℕ} {result : Result Picture}
-      (r : Rounded z planes (pyramidOf z pixels) there cut result)
+  printed-pyramids : {planes : ℕ} {there part : List PartName} {cut : ℕ} {result : Result Picture}
+      (r : Rounded z planes (pyramidOf z pixels) there part cut result)
       → NearPyramids z (λ k. planeIn (r .picture .reached) (k - 1)) (r .picture .pyramid) (pyramidOf z pixels)
   unfolding magnitude
   printed-pyramids r =
@@ -79,8 +79,8 @@ module _ (z : Size) (pixels : List ℕ) (p : Pixels z pixels) (e : legalSize z �
         near = λ q h. omega (arith, printed-near c r q h .distance);
       }
 
-  pub rounded-printed : {planes : ℕ} {there : List PartName} {cut : ℕ} {result : Result Picture}
-      → Rounded z planes (pyramidOf z pixels) there cut result → Printed z pixels result
+  pub rounded-printed : {planes : ℕ} {there part : List PartName} {cut : ℕ} {result : Result Picture}
+      → Rounded z planes (pyramidOf z pixels) there part cut result → Printed z pixels result
   unfolding pixelMost
   rounded-printed r =
       record {

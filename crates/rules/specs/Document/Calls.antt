@@ -19,11 +19,14 @@ use Rattle.rules.specs.declared.Header.{Header}
 use Rattle.rules.specs.declared.HeaderRead.{HeaderRead}
 use Rattle.rules.specs.declared.HeaderRead.the-variants as header
 use Rattle.rules.specs.declared.Part.{Part}
+use Rattle.rules.specs.declared.PartRead.{PartRead}
+use Rattle.rules.specs.declared.PartRead.the-variants as part
 use Rattle.rules.specs.Document.Notation.{count, flat, lowest, zeros}
 use Rattle.rules.specs.Document.Pyramid.{legalSize, area, family, mostMagnitude, magnitude}
 use Rattle.rules.specs.Document.Passes.{Course, Reader, State, PartName, start, after, from, decoded}
-use Rattle.rules.specs.Document.Layout.{recordOf, bitAt, bodyOf, wholeOf, nameOf, usable, reached}
-use Rattle.rules.specs.Document.Numbers.{refusalNumber, verdictNumber, verdictPlace, readHeader, Ending, tail, fault, Reading, readParts, topLevel}
+use Rattle.rules.specs.Document.Layout.{recordOf, bitAt, bodyOf, wholeOf, bitsThere, nameOf, usable, reached}
+use Rattle.rules.specs.Document.Numbers.{refusalNumber, verdictNumber, verdictPlace, readHeader, Ending, tail, fault, Reading, readParts}
+use Rattle.rules.specs.Document.Numbers.{behind, topLevel}
 
 -- A call is refused, or accepted with its result. `unless test r x` is x where the test holds, and refused with r where it does not.
 pub data Result (X : Type 0) : Type 0 where
@@ -101,12 +104,27 @@ module _ (h : Header) (s : List ℕ) (there : List PartName) where
   onward p (unfit at) = unfit at
   onward p (going st v) =
       cond (usable (topLevel h) (h .planes) there (nameOf p))
-      (used p st (decoded (family (h .size)) (nameOf p) (bitAt (bodyOf s p)) st v))
+      (used p st (decoded (family (h .size)) (nameOf p) (bitAt (bodyOf s p)) (bitsThere s p) st v))
       (going st v)
 
   unfoldable pub decodeParts : List Part → Progress → Progress
   decodeParts [] g = g
   decodeParts (p ∷ ps) g = decodeParts ps (onward p g)
+
+  -- W1: "The tail should be decoded as far as its bits go where its head is whole, passes every test of number 8, and the part would be usable."
+  -- "10 also where the walk of such a part ends before the bits of its present body bytes do; padding of an incomplete body isn't looked at."
+  unfoldable pub usedCut : Part → State → Course Reader → Progress
+  usedCut p st c = cond (leb (bitsThere s p) (c .side .taken)) (going (after (p .level .0) c st) (c .side .pyramid)) (unfit (p .place))
+
+  unfoldable pub tailOnward : PartRead → Progress → Progress
+  tailOnward (part.Cut p) (going st v) =
+      cond (usable (topLevel h) (h .planes) (there ++ (nameOf p ∷ [])) (nameOf p))
+      (usedCut p st (decoded (family (h .size)) (nameOf p) (bitAt (bodyOf s p)) (bitsThere s p) st v))
+      (going st v)
+  tailOnward (part.Cut p) (unfit at) = unfit at
+  tailOnward (part.Part p) g = g
+  tailOnward part.Tail g = g
+  tailOnward (part.Refused r) g = g
 
 -- "Then decoding: 2, 3 and the parts." "Decoding: number, place, tail length and six reached planes, level 1 first, 0 beyond level N+1."
 pub record Picture : Type 0 where
@@ -139,7 +157,8 @@ pictured h there e (going st v) =
 unfoldable pub decodedParts : Header → List ℕ → Reading → Result Picture
 decodedParts h s r =
     pictured h (map nameOf (r .parts)) (r .ending)
-    (decodeParts h s (map nameOf (r .parts)) (r .parts) (going (start (h .size)) (replicate (area (h .size)) (pos 0))))
+    (tailOnward h s (map nameOf (r .parts)) (behind h s (r .parts))
+    (decodeParts h s (map nameOf (r .parts)) (r .parts) (going (start (h .size)) (replicate (area (h .size)) (pos 0)))))
 
 unfoldable pub decoding : List ℕ → ℕ → ℕ → Result Picture
 decoding s room work =

@@ -1,7 +1,7 @@
 -- Document 01, "Record layout": bytes of numbers, parts and records, and which parts of a record are usable.
 use mathlib.Core.List.{List, [], _∷_, _++_}
 use mathlib.Core.Bool.{Bool, true, false, cond, not, _&&_, _||_}
-use Prim.Native.Nat.{ℕ, zero, suc, _+_, _-_, _*_, _/_, _%_, _^_}
+use Prim.Native.Nat.{ℕ, zero, suc, _+_, _-_, _*_, _/_, _%_, _^_, min}
 use lib.Dec.{leb, ltb, eqb}
 use lib.ListN.{length, getD, take, drop}
 use lib.IntN.{ℤ, natAbs}
@@ -112,6 +112,10 @@ wholeOf s p = take (p .end - p .place) (drop (p .place) s)
 
 unfoldable pub bodyOf : List ℕ → Part → List ℕ
 bodyOf s p = take (bytesFor (p .bits)) (drop (p .body) s)
+
+-- How many of its bits are there: W1's "the bits of its present body bytes", and of a whole part all of them.
+unfoldable pub bitsThere : List ℕ → Part → ℕ
+bitsThere s p = min (p .bits) (8 * length (bodyOf s p))
 
 -- "Part (n, k) is usable if every part (n', k') with n' >= n and k' >= k is present whole."
 unfoldable pub nameOf : Part → PartName

@@ -118,13 +118,13 @@ unfoldable pub legalHead : Header → PartName → PartName → ℕ → Bool
 legalHead h before p bits =
     ltb (p .plane) (h .planes) && leb 1 (p .level) && leb (p .level) (topLevel h) && follows before p && leb bits (mostBits (h .size))
 
--- "body incomplete (tail); 9"
+-- "body incomplete (tail); 9". Of a part whose body is incomplete W1 uses what is there.
 unfoldable pub judgedPart : Header → List ℕ → PartName → Part → PartRead
 judgedPart h s before p =
     cond (legalHead h before (nameOf p) (p .bits))
     (cond (leb (p .end) (length s))
     (cond (padClear (bodyOf s p) (p .bits)) (part.Part p) (part.Refused (refusal.Pad (p .place))))
-    part.Tail)
+    (part.Cut p))
     (part.Refused (refusal.Part (p .place)))
 
 unfoldable pub headed : ℕ → ℕ → ℕ → ℕ → ℕ → Part
@@ -150,6 +150,7 @@ pub record Reading : Type 0 where
 
 unfoldable pub goOn : List ℕ → ℕ → PartRead → (Part → Reading) → Reading
 goOn s place (part.Part p) next = record { parts = p ∷ next p .parts; ending = next p .ending }
+goOn s place (part.Cut p) next = record { parts = []; ending = tail (length s - place) }
 goOn s place part.Tail next = record { parts = []; ending = tail (length s - place) }
 goOn s place (part.Refused r) next = record { parts = []; ending = fault r }
 
@@ -160,3 +161,11 @@ readFrom (suc m) h s before place = goOn s place (readPart h s before place) (λ
 
 unfoldable pub readParts : Header → List ℕ → Reading
 readParts h s = readFrom (length s) h s (record { plane = h .planes; level = 0 }) (h .end)
+
+-- What stands behind parts that were read.
+unfoldable pub behindFrom : Header → List ℕ → PartName → ℕ → List Part → PartRead
+behindFrom h s before place [] = readPart h s before place
+behindFrom h s before place (p ∷ ps) = behindFrom h s (nameOf p) (p .end) ps
+
+abbrev pub behind : Header → List ℕ → List Part → PartRead
+behind h s parts = behindFrom h s (record { plane = h .planes; level = 0 }) (h .end) parts

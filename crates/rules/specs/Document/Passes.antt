@@ -210,7 +210,8 @@ module _ (F : Family) (mag : ℕ → ℕ) (neg : ℕ → Bool) where
   coded p s = passed F (p .level) (coder (p .plane)) (s (p .level)) []
 
 -- The decoder's side: the bits of a body, 0 past their end, how many were taken, and the pyramid. "A newly significant coefficient has
--- magnitude 2^n; a refinement bit of 1 adds 2^n."
+-- magnitude 2^n; a refinement bit of 1 adds 2^n." Only so many bits are there; W1: "A significance bit whose sign didn't arrive leaves its
+-- coefficient 0", so what comes of more bits than are there is not drawn.
 pub record Reader : Type 0 where
   pub taken : ℕ
   pub pyramid : List ℤ
@@ -231,12 +232,12 @@ written n (stays e) v = v
 written n (moves e) v = v
 written n (refined p b) v = set v p (grown b (2 ^ n) (getD v p (pos 0)))
 
-abbrev pub decoder : (ℕ → Bool) → ℕ → Side Reader
-decoder bit n =
+abbrev pub decoder : (ℕ → Bool) → ℕ → ℕ → Side Reader
+decoder bit there n =
     record {
       reply = λ q r. record { bit = bit (r .taken); next = record { taken = suc (r .taken); pyramid = r .pyramid } };
-      note = λ e r. record { taken = r .taken; pyramid = written n e (r .pyramid) };
+      note = λ e r. record { taken = r .taken; pyramid = cond (leb (r .taken) there) (written n e (r .pyramid)) (r .pyramid) };
     }
 
-unfoldable pub decoded : Family → PartName → (ℕ → Bool) → State → List ℤ → Course Reader
-decoded F p bit s v = passed F (p .level) (decoder bit (p .plane)) (s (p .level)) (record { taken = 0; pyramid = v })
+unfoldable pub decoded : Family → PartName → (ℕ → Bool) → ℕ → State → List ℤ → Course Reader
+decoded F p bit there s v = passed F (p .level) (decoder bit there (p .plane)) (s (p .level)) (record { taken = 0; pyramid = v })

@@ -8,3 +8,4 @@ pub mod Levels
 pub mod Slots
 pub mod Bounds
 pub mod Simulation
+pub mod Early

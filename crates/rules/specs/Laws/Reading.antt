@@ -7,5 +7,6 @@ pub mod PartCases
 pub mod Stands
 pub mod Walk
 pub mod WholeParts
+pub mod CutPart
 pub mod Skipped
 pub mod Local

@@ -3,8 +3,12 @@ pub mod Planes
 pub mod TowardZero
 pub mod Known
 pub mod KnownState
+pub mod CutPass
 pub mod Rebuilt
 pub mod Followed
+pub mod CutTurn
 pub mod Arrival
 pub mod Run
+pub mod CutRun
+pub mod MoreBytes
 pub mod Magnitudes

@@ -17,13 +17,13 @@ use Rattle.rules.specs.Document.Passes.{walk, listed, passed, after, fro
 use Rattle.rules.specs.Document.Passes.{signed, grown, written, decoded}
 use Rattle.rules.specs.Document.Layout.{groups, numberBytes, numberFrom, readNumber, eightBits, packFrom, packed, bitAt, clearFrom, padClear}
 use Rattle.rules.specs.Document.Layout.{headerBytes, partBytes, codedParts, recordWith, planesIn, earlierPlanesIn, partsOf, recordOf, wholeOf}
-use Rattle.rules.specs.Document.Layout.{bodyOf, nameOf, sameName, needs, usable, reached}
+use Rattle.rules.specs.Document.Layout.{bodyOf, bitsThere, nameOf, sameName, needs, usable, reached}
 use Rattle.rules.specs.Document.Numbers.{headNumber, judgedHeader, readSizes, readHeader, partNumber, follows, legalHead, judgedPart, headed}
-use Rattle.rules.specs.Document.Numbers.{readPart, goOn, readFrom, readParts}
+use Rattle.rules.specs.Document.Numbers.{readPart, goOn, readFrom, readParts, behindFrom}
 use Rattle.rules.specs.Document.Calls.{Result, unless, workFor, firstOver, fitted, coding, onHeader, onEnding, legalAsk, keptOf, servedBytes}
 use Rattle.rules.specs.Document.Calls.{Portion, portioned, serving}
 use Rattle.rules.specs.Document.Calls.{used, onward, decodeParts, Picture, reachedPlane, reachedPlanes, skippedParts, skippedCounts, pictured}
-use Rattle.rules.specs.Document.Calls.{decodedParts, decoding}
+use Rattle.rules.specs.Document.Calls.{usedCut, tailOnward, decodedParts, decoding}
 use Rattle.rules.specs.Document.Calls.{filled, codeOut, codeAnswer, serveOut, serveAnswer, decodeOut, decodeAnswer, codeNumbers, serveNumbers}
 use Rattle.rules.specs.Document.Calls.{planeIn, countIn, decodeNumbers, codePlaces, servePlaces, decodePlaces, reported}
 
@@ -61,7 +61,7 @@ unfolding nameOf sameName needs usable reached
 opensUsable = tt
 
 unfoldable pub opensRecord : Unit {0}
-unfolding opensUsable partBytes codedParts planesIn earlierPlanesIn partsOf recordOf wholeOf bodyOf
+unfolding opensUsable partBytes codedParts planesIn earlierPlanesIn partsOf recordOf wholeOf bodyOf bitsThere
 opensRecord = tt
 
 unfoldable pub opensHeader : Unit {0}
@@ -69,7 +69,7 @@ unfolding headNumber judgedHeader readSizes readHeader
 opensHeader = tt
 
 unfoldable pub opensParts : Unit {0}
-unfolding partNumber follows legalHead judgedPart headed readPart goOn readFrom readParts
+unfolding partNumber follows legalHead judgedPart headed readPart goOn readFrom readParts behindFrom
 opensParts = tt
 
 unfoldable pub opensReading : Unit {0}
@@ -81,7 +81,7 @@ unfolding unless firstOver fitted coding onHeader onEnding legalAsk keptOf serve
 opensCalls = tt
 
 unfoldable pub opensDecoding : Unit {0}
-unfolding used onward decodeParts reachedPlane reachedPlanes skippedParts skippedCounts pictured decodedParts decoding
+unfolding used onward decodeParts usedCut tailOnward reachedPlane reachedPlanes skippedParts skippedCounts pictured decodedParts decoding
 opensDecoding = tt
 
 unfoldable pub opensOutputs : Unit {0}
@@ -367,9 +367,23 @@ table =
     ∷ (numbers (recordWith four (earlierPlanesIn five) five) is numbers fiveBefore)
     ∷ (decodes fiveBytes is prints 0 (0, 0) (0, 0) five)
     ∷ (decodes fiveBefore is prints 0 (0, 0) (0, 0) five)
-    -- "its first 29 bytes decode with a tail of 4"
+    -- "its first 29 bytes decode with a tail of 4". W1: of the part that is cut its first eight bits are used, and of one less byte none.
     ∷ (decodes (take 29 thirty)
+    is prints 4 (1, 0) (0, 0) (rowsOf (pos 4) (negsuc 0) (pos 2) (pos 0) (negsuc 1) (pos 1)))
+    ∷ (decodes (take 28 thirty)
+    is prints 3 (1, 0) (0, 0) (rowsOf (pos 4) (negsuc 0) (pos 2) (pos 0) (negsuc 1) (pos 0)))
+    -- "A significance bit whose sign didn't arrive leaves its coefficient 0", here the eighth bit of 16, of -1 at (3,1)
+    ∷ (decodes (take 25 thirty ++ (0x00 ∷ 0x01 ∷ 0x10 ∷ 0x11 ∷ 0xE1 ∷ []))
+    is prints 0 (0, 0) (0, 0) (take 13 example ++ (negsuc 0 ∷ pos 0 ∷ pos 0 ∷ [])))
+    ∷ (decodes (take 25 thirty ++ (0x00 ∷ 0x01 ∷ 0x10 ∷ 0x11 ∷ []))
     is prints 4 (1, 0) (0, 0) (rowsOf (pos 4) (negsuc 0) (pos 2) (pos 0) (negsuc 1) (pos 0)))
+    -- "10 also where the walk of such a part ends before the bits of its present body bytes do": it takes eight of 32
+    ∷ (decodes (take 17 thirty ++ (0x01 ∷ 0x01 ∷ 0x20 ∷ 0x8C ∷ []))
+    is prints 4 (2, 1) (0, 0) (rowsOf (pos 4) (pos 0) (pos 2) (pos 0) (negsuc 1) (pos 0)))
+    ∷ (decodes (take 17 thirty ++ (0x01 ∷ 0x01 ∷ 0x20 ∷ 0x8C ∷ 0x00 ∷ [])) is refuses 10 17)
+    -- a part that would not be usable if it were whole, here for lack of (1,2), is not decoded
+    ∷ (decodes (take 13 thirty ++ (0x01 ∷ 0x01 ∷ 0x20 ∷ 0x8C ∷ 0x00 ∷ []))
+    is prints 5 (2, 2) (0, 0) (rowsOf (pos 4) (pos 0) (pos 0) (pos 0) (pos 0) (pos 0)))
     -- a part of 0 bits, here (0,1), is written too
     ∷ (codes single eight 16 is bytes (0 ∷ 0 ∷ 16 ∷ []) singleBytes)
     -- "serving: 11, the parts": no level 3, then the part at fault

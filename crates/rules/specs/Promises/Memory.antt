@@ -16,8 +16,8 @@ use Rattle.rules.specs.Document.Pyramid.{levels}
 use Rattle.rules.specs.Document.Layout.{planesIn, earlierPlanesIn, recordWith}
 use Rattle.rules.specs.Document.Numbers.{verdictNumber, verdictPlace}
 use Rattle.rules.specs.Document.Calls.{AfsCode, workFor, codePlaces, AfsDecode, decodePlaces, AfsServe, servePlaces, Coding, Decoding, Serving}
-use Rattle.rules.specs.Promises.Vocabulary.{Recorded, Codable, enoughRoom, Selected, Stated, Decodes, names, wholeParts, cutBytes, planesTold, Serves}
-use Rattle.rules.specs.Promises.Vocabulary.{planesAnswered, countsTold, countsAnswered}
+use Rattle.rules.specs.Promises.Vocabulary.{Recorded, Codable, enoughRoom, Selected, Stated, Decodes, names, wholeParts, cutBytes, planesTold}
+use Rattle.rules.specs.Promises.Vocabulary.{Serves, cutParts, planesAnswered, countsTold, countsAnswered}
 use Rattle.rules.specs.Laws.Bytes.Room.{coding-accepts}
 use Rattle.rules.specs.Laws.Calls.Arrived.{earlier-count}
 use Rattle.rules.specs.Laws.Calls.Memory.{afsCode-recorded, afsCode-accepts, afsDecode-prints, recorded, afsServe-selects, afsServe-accepts}
@@ -37,7 +37,8 @@ pub record FromMemoryToMemory : Type 0 where
   pub decoded : {pyramid : List ℤ} {z : Size} {out work answer out′ work′ answer′ s scratch told : List ℕ} {print print′ : List ℤ} {number : ℕ}
       {scratch′ told′ : List ℕ} → AfsCode pyramid z out work answer 0 out′ work′ answer′ → (x : Selected (take (getD answer′ 2 0) out′) s)
       → AfsDecode s print scratch told number print′ scratch′ told′ → Stated z (length print) (length scratch) → decodePlaces ≤ length told
-      → Decodes z (planesIn pyramid) pyramid (names (wholeParts x)) (cutBytes x) number (getD told′ 1 0) (getD told′ 2 0) (planesTold told′)
+      → Decodes z (planesIn pyramid) pyramid (names (wholeParts x)) (names (cutParts x)) (cutBytes x)
+      number (getD told′ 1 0) (getD told′ 2 0) (planesTold told′)
       (countsTold told′) print′ scratch scratch′
   -- The same of what was stored: of any record, of either count.
   pub earlier : {pyramid : List ℤ} {z : Size} → Codable z pyramid
@@ -45,7 +46,8 @@ pub record FromMemoryToMemory : Type 0 where
   pub stored : {pyramid : List ℤ} {z : Size} {planes : ℕ} {bytes s scratch told : List ℕ} {print print′ : List ℤ} {number : ℕ}
       {scratch′ told′ : List ℕ} → Recorded z planes pyramid bytes → (x : Selected bytes s)
       → AfsDecode s print scratch told number print′ scratch′ told′ → Stated z (length print) (length scratch) → decodePlaces ≤ length told
-      → Decodes z planes pyramid (names (wholeParts x)) (cutBytes x) number (getD told′ 1 0) (getD told′ 2 0) (planesTold told′) (countsTold told′)
+      → Decodes z planes pyramid (names (wholeParts x)) (names (cutParts x)) (cutBytes x)
+      number (getD told′ 1 0) (getD told′ 2 0) (planesTold told′) (countsTold told′)
       print′ scratch scratch′
   -- What is served of a selection is a selection, and with a legal request and room enough it is served; and a selection of a selection is one as
   -- well, of the same parts. So any number of both may lie between coding and decoding.
@@ -58,14 +60,15 @@ pub record FromMemoryToMemory : Type 0 where
       → servePlaces ≤ length note → number ≡ 0
   pub selected : {pyramid : List ℤ} {z : Size} {out work answer out′ work′ answer′ s t : List ℕ}
       → AfsCode pyramid z out work answer 0 out′ work′ answer′ → Selected (take (getD answer′ 2 0) out′) s → (y : Selected s t)
-      → (again : Selected (take (getD answer′ 2 0) out′) t) × (wholeParts again ≡ wholeParts y) × (cutBytes again ≡ cutBytes y)
+      → (again : Selected (take (getD answer′ 2 0) out′) t) × (wholeParts again ≡ wholeParts y) × (cutBytes again ≡ cutBytes y) × (cutParts again ≡ cutParts y)
   -- Coded, served from whatever arrived, and decoded from whatever arrived of that.
   pub served-decoded : {pyramid : List ℤ} {z : Size} {out work answer out′ work′ answer′ s : List ℕ} {r p : ℕ} {sent note sent′ note′ t scratch told : List ℕ}
       {print print′ : List ℤ} {number : ℕ} {scratch′ told′ : List ℕ}
       → AfsCode pyramid z out work answer 0 out′ work′ answer′ → Selected (take (getD answer′ 2 0) out′) s
       → AfsServe s r p sent note 0 sent′ note′ → (y : Selected (take (getD note′ 2 0) sent′) t)
       → AfsDecode t print scratch told number print′ scratch′ told′ → Stated z (length print) (length scratch) → decodePlaces ≤ length told
-      → Decodes z (planesIn pyramid) pyramid (names (wholeParts y)) (cutBytes y) number (getD told′ 1 0) (getD told′ 2 0) (planesTold told′)
+      → Decodes z (planesIn pyramid) pyramid (names (wholeParts y)) (names (cutParts y)) (cutBytes y)
+      number (getD told′ 1 0) (getD told′ 2 0) (planesTold told′)
       (countsTold told′) print′ scratch scratch′
   -- Coded, or stored, and decoded, with nothing left out and nothing cut: the pyramid, and 0 in every place of the answer.
   pub stored-whole : {pyramid : List ℤ} {z : Size} {planes : ℕ} {bytes scratch told : List ℕ} {print print′ : List ℤ} {number : ℕ}
@@ -104,7 +107,8 @@ pub record FromRoutineToRoutine : Type 0 where
   pub decoded : {pyramid : List ℤ} {z : Size} {out work : List ℕ} {answer : Coded} {out′ work′ s scratch : List ℕ} {print print′ : List ℤ}
       {told : Decoded} {scratch′ : List ℕ} → Coding pyramid z out work answer out′ work′ → answer .verdict ≡ Accepted
       → (x : Selected (take (answer .length) out′) s) → Decoding s print scratch told print′ scratch′ → Stated z (length print) (length scratch)
-      → Decodes z (planesIn pyramid) pyramid (names (wholeParts x)) (cutBytes x) (verdictNumber (told .verdict)) (verdictPlace (told .verdict)) (told .tail)
+      → Decodes z (planesIn pyramid) pyramid (names (wholeParts x)) (names (cutParts x)) (cutBytes x)
+      (verdictNumber (told .verdict)) (verdictPlace (told .verdict)) (told .tail)
       (planesAnswered told) (countsAnswered told) print′ scratch scratch′
   pub served : {pyramid : List ℤ} {z : Size} {out work : List ℕ} {answer : Coded} {out′ work′ s : List ℕ} {r p : ℕ} {sent : List ℕ} {note : Served}
       {sent′ : List ℕ} → Coding pyramid z out work answer out′ work′ → answer .verdict ≡ Accepted → (x : Selected (take (answer .length) out′) s)
@@ -114,13 +118,14 @@ pub record FromRoutineToRoutine : Type 0 where
       → Serving s r p sent note sent′ → 1 ≤ r → r ≤ levels z → p ≤ planesIn pyramid → length s ≤ length sent → note .verdict ≡ Accepted
   pub selected : {pyramid : List ℤ} {z : Size} {out work : List ℕ} {answer : Coded} {out′ work′ s t : List ℕ}
       → Coding pyramid z out work answer out′ work′ → answer .verdict ≡ Accepted → Selected (take (answer .length) out′) s → (y : Selected s t)
-      → (again : Selected (take (answer .length) out′) t) × (wholeParts again ≡ wholeParts y) × (cutBytes again ≡ cutBytes y)
+      → (again : Selected (take (answer .length) out′) t) × (wholeParts again ≡ wholeParts y) × (cutBytes again ≡ cutBytes y) × (cutParts again ≡ cutParts y)
   pub served-decoded : {pyramid : List ℤ} {z : Size} {out work : List ℕ} {answer : Coded} {out′ work′ s : List ℕ} {r p : ℕ} {sent : List ℕ}
       {note : Served} {sent′ t scratch : List ℕ} {print print′ : List ℤ} {told : Decoded} {scratch′ : List ℕ}
       → Coding pyramid z out work answer out′ work′ → answer .verdict ≡ Accepted → Selected (take (answer .length) out′) s
       → Serving s r p sent note sent′ → note .verdict ≡ Accepted → (y : Selected (take (note .length) sent′) t)
       → Decoding t print scratch told print′ scratch′ → Stated z (length print) (length scratch)
-      → Decodes z (planesIn pyramid) pyramid (names (wholeParts y)) (cutBytes y) (verdictNumber (told .verdict)) (verdictPlace (told .verdict)) (told .tail)
+      → Decodes z (planesIn pyramid) pyramid (names (wholeParts y)) (names (cutParts y)) (cutBytes y)
+      (verdictNumber (told .verdict)) (verdictPlace (told .verdict)) (told .tail)
       (planesAnswered told) (countsAnswered told) print′ scratch scratch′
   pub whole : {pyramid : List ℤ} {z : Size} {out work : List ℕ} {answer : Coded} {out′ work′ scratch : List ℕ} {print print′ : List ℤ}
       {told : Decoded} {scratch′ : List ℕ} → Coding pyramid z out work answer out′ work′ → answer .verdict ≡ Accepted

@@ -19,9 +19,9 @@ use Rattle.rules.specs.declared.Part.{Part}
 use Rattle.rules.specs.declared.PartRead.{PartRead}
 use Rattle.rules.specs.declared.PartRead.the-variants as part
 use Rattle.rules.specs.Document.Pyramid.{area, family, mostMagnitude, magnitude, mostPlanes}
-use Rattle.rules.specs.Document.Passes.{State, PartName, start, decoded}
-use Rattle.rules.specs.Document.Layout.{readNumber, version, bytesFor, recordOf, bitAt, bodyOf, nameOf}
-use Rattle.rules.specs.Document.Numbers.{Ending, tail, fault, topLevel}
+use Rattle.rules.specs.Document.Passes.{Course, State, PartName, start, Reader, decoded}
+use Rattle.rules.specs.Document.Layout.{readNumber, version, bytesFor, recordOf, bitAt, bodyOf, bitsThere, nameOf}
+use Rattle.rules.specs.Document.Numbers.{Ending, tail, fault, behind, topLevel}
 use Rattle.rules.specs.Document.Calls.{Result, refused, accepted, workFor, servedBytes, Portion, going, decodeParts, Picture, reachedPlanes}
 use Rattle.rules.specs.Document.Calls.{skippedCounts}
 use Rattle.rules.specs.Promises.Vocabulary.{Legal, LegalHead, Usable}
@@ -112,7 +112,7 @@ pub data PartCase (h : Header) (s : List ℕ) (before : PartName) (place : ℕ) 
   TAIL-head : {vs : List ℕ} {at : ℕ} → Numbers s place vs at → length vs < 3 → readNumber s at ≡ CutOff → PartCase h s before place part.Tail
   PART : {p : Part} → HeadRead s place p → ¬ LegalHead h before (nameOf p) (p .bits)
       → PartCase h s before place (part.Refused (refusal.Part place))
-  TAIL-body : {p : Part} → HeadRead s place p → LegalHead h before (nameOf p) (p .bits) → length s < p .end → PartCase h s before place part.Tail
+  CUT : {p : Part} → HeadRead s place p → LegalHead h before (nameOf p) (p .bits) → length s < p .end → PartCase h s before place (part.Cut p)
   PAD : {p : Part} → HeadRead s place p → LegalHead h before (nameOf p) (p .bits) → p .end ≤ length s → PadSet s p
       → PartCase h s before place (part.Refused (refusal.Pad place))
   WHOLE : {p : Part} → HeadRead s place p → LegalHead h before (nameOf p) (p .bits) → p .end ≤ length s → ¬ PadSet s p
@@ -124,6 +124,7 @@ pub data Walk (h : Header) (s : List ℕ) : PartName → ℕ → List Part → E
   MORE : {before : PartName} {place : ℕ} {p : Part} {ps : List Part} {e : Ending} → PartCase h s before place (part.Part p)
       → Walk h s (nameOf p) (p .end) ps e → Walk h s before place (p ∷ ps) e
   TAIL : {before : PartName} {place : ℕ} → PartCase h s before place part.Tail → Walk h s before place [] (tail (length s - place))
+  CUT : {before : PartName} {place : ℕ} {p : Part} → PartCase h s before place (part.Cut p) → Walk h s before place [] (tail (length s - place))
   FAULT : {before : PartName} {place : ℕ} {r : Refusal} → PartCase h s before place (part.Refused r) → Walk h s before place [] (fault r)
 
 abbrev pub Parts : Header → List ℕ → List Part → Ending → Type 0
@@ -167,11 +168,25 @@ pub record FirstUnfit (h : Header) (s : List ℕ) (ps : List Part) (at : ℕ) : 
   pub split : ps ≡ seen ++ this ∷ later
   pub before : Fitting h s ps seen lists pyramid
   pub usable : Usable (topLevel h) (h .planes) (map nameOf ps) (nameOf this)
-  pub unfit : decoded (family (h .size)) (nameOf this) (bitAt (bodyOf s this)) lists pyramid .side .taken ≢ this .bits
+  pub unfit : decoded (family (h .size)) (nameOf this) (bitAt (bodyOf s this)) (bitsThere s this) lists pyramid .side .taken ≢ this .bits
   pub placed : this .place ≡ at
 
+-- W1: "The tail should be decoded as far as its bits go where its head is whole, passes every test of number 8, and the part would be usable."
+-- Behind the parts ps stands such a part.
+pub record CutUsable (h : Header) (s : List ℕ) (ps : List Part) (p : Part) : Type 0 where
+  pub stands : behind h s ps ≡ part.Cut p
+  pub usable : Usable (topLevel h) (h .planes) (map nameOf ps ++ (nameOf p ∷ [])) (nameOf p)
+
+-- What it comes to, from the lists st and the pyramid v.
+abbrev pub cutCourse : Header → List ℕ → Part → State → List ℤ → Course Reader
+cutCourse h s p st v = decoded (family (h .size)) (nameOf p) (bitAt (bodyOf s p)) (bitsThere s p) st v
+
+pub data TailCase (h : Header) (s : List ℕ) (ps : List Part) (st : State) (v : List ℤ) : List ℤ → Type 0 where
+  UNUSED : ((p : Part) → ¬ CutUsable h s ps p) → TailCase h s ps st v v
+  USED : {p : Part} → CutUsable h s ps p → bitsThere s p ≤ cutCourse h s p st v .side .taken → TailCase h s ps st v (cutCourse h s p st v .side .pyramid)
+
 -- "Then decoding: 2, 3 and the parts." "The first part at fault decides." HEADER and PARTS are as in serving; the parts before one at fault
--- fit.
+-- fit. CUT-FIT is W1's "10 also where the walk of such a part ends before the bits of its present body bytes do".
 pub data DecodingCase (s : List ℕ) (room work : ℕ) : Result Picture → Type 0 where
   HEADER : {why : Refusal} → HeaderCase s (header.Refused why) → DecodingCase s room work (refused why)
   LENGTH : {h : Header} → HeaderCase s (header.Header h) → room ≢ area (h .size) → DecodingCase s room work (refused refusal.Length)
@@ -181,10 +196,13 @@ pub data DecodingCase (s : List ℕ) (room work : ℕ) : Result Picture → Type
       → workFor (h .size) ≤ work → Parts h s ps (fault why) → Fitting h s ps ps st v → DecodingCase s room work (refused why)
   FIT : {h : Header} {ps : List Part} {e : Ending} {at : ℕ} → HeaderCase s (header.Header h) → room ≡ area (h .size) → workFor (h .size) ≤ work
       → Parts h s ps e → FirstUnfit h s ps at → DecodingCase s room work (refused (refusal.Fit at))
-  DECODED : {h : Header} {ps : List Part} {t : ℕ} {st : State} {v : List ℤ} → HeaderCase s (header.Header h) → room ≡ area (h .size)
-      → workFor (h .size) ≤ work → Parts h s ps (tail t) → Fitting h s ps ps st v
+  CUT-FIT : {h : Header} {ps : List Part} {t : ℕ} {st : State} {v : List ℤ} {p : Part} → HeaderCase s (header.Header h) → room ≡ area (h .size)
+      → workFor (h .size) ≤ work → Parts h s ps (tail t) → Fitting h s ps ps st v → CutUsable h s ps p
+      → cutCourse h s p st v .side .taken < bitsThere s p → DecodingCase s room work (refused (refusal.Fit (p .place)))
+  DECODED : {h : Header} {ps : List Part} {t : ℕ} {st : State} {v w : List ℤ} → HeaderCase s (header.Header h) → room ≡ area (h .size)
+      → workFor (h .size) ≤ work → Parts h s ps (tail t) → Fitting h s ps ps st v → TailCase h s ps st v w
       → DecodingCase s room work (accepted (record {
-        pyramid = v;
+        pyramid = w;
         tail = t;
         reached = reachedPlanes h (map nameOf ps);
         skipped = skippedCounts h (map nameOf ps);

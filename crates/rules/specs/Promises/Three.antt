@@ -1,9 +1,10 @@
 -- Demand 3. Of the record that the coder writes, whatever parts arrive, by serving or by loss, the last of them cut perhaps: decoding with
 -- buffers of the stated sizes accepts, gives each coefficient its sign and its magnitude rounded toward zero to a multiple of 2^m, zero where
--- that gives zero, and reports that m for each level, 0 beyond level N + 1, and how many of the level's parts are there and not usable. `Rounded`,
--- in Vocabulary, says this field by field.
+-- that gives zero; m is the plane that its level reached, or the one below where that is the plane of the part that was cut. The reached planes are
+-- reported for each level, 0 beyond level N + 1, and how many of the level's parts are there and not usable. `Rounded`, in Vocabulary, says this
+-- field by field. With more bytes of the record what is printed is no worse: `more-bytes`.
 use mathlib.Core.Path.{_≡_}
-use mathlib.Core.List.{List, map}
+use mathlib.Core.List.{List, [], map}
 use mathlib.Core.Bool.{Bool, false}
 use Prim.Native.Nat.{ℕ, _<_, _+_, _-_, suc, _≤_, _^_}
 use lib.Dec.{leb, eqb}
@@ -20,8 +21,8 @@ use Rattle.rules.specs.Document.Layout.{recordOf, planesIn, earlierPlane
 use Rattle.rules.specs.Document.Numbers.{readHeader, readParts, topLevel}
 use Rattle.rules.specs.Document.Calls.{coding, accepted, decoding, Portion, serving, Result, Picture, planeIn, Decoding, AfsDecode}
 use Rattle.rules.specs.Document.Calls.{skippedParts}
-use Rattle.rules.specs.Promises.Vocabulary.{Codable, PlaneCount, Stated, Rounded, names, wholeIn, kept, tailIn, arrived, recordBytes, asked, Near, at}
-use Rattle.rules.specs.Promises.Vocabulary.{Named, present, mostDecoded}
+use Rattle.rules.specs.Promises.Vocabulary.{Codable, PlaneCount, Stated, Rounded, names, wholeIn, kept, tailIn, cutIn, arrived, recordBytes, asked}
+use Rattle.rules.specs.Promises.Vocabulary.{Near, NoWorse, at, Named, present, mostDecoded}
 use Rattle.rules.specs.Laws.Calls.Arrived as laws
 use Rattle.rules.specs.Laws.Reading.Usable as usables
 use Rattle.rules.specs.Laws.Reading.Skipped as skips
@@ -44,26 +45,33 @@ module _ {z : Size} {pyramid : List ℤ} (c : Codable z pyramid) where
   module _ {planes : ℕ} (count : PlaneCount pyramid planes) (room work : ℕ) (sizes : Stated z room work) where
     -- Any selection of the record's parts, cut anywhere behind the header.
     pub demand3 : (keep : PartName → Bool) (n : ℕ)
-        → Rounded z planes pyramid (names (wholeIn n (kept keep (partsWith z planes pyramid)))) (tailIn n (kept keep (partsWith z planes pyramid)))
+        → Rounded z planes pyramid (names (wholeIn n (kept keep (partsWith z planes pyramid)))) (names (cutIn n (kept keep (partsWith z planes pyramid))))
+        (tailIn n (kept keep (partsWith z planes pyramid)))
         (decoding (arrived z planes (kept keep (partsWith z planes pyramid)) n) room work)
     demand3 = laws.demand3 c count room work sizes
 
+    -- With more bytes of the same record no magnitude falls and no sign turns. (Both decodings are accepted: demand3.)
+    pub more-bytes : (keep : PartName → Bool) (n₁ n₂ : ℕ) → n₁ ≤ n₂ → (x₁ x₂ : Picture)
+        → decoding (arrived z planes (kept keep (partsWith z planes pyramid)) n₁) room work ≡ accepted x₁
+        → decoding (arrived z planes (kept keep (partsWith z planes pyramid)) n₂) room work ≡ accepted x₂ → NoWorse (x₁ .pyramid) (x₂ .pyramid)
+    more-bytes = laws.more-bytes c count room work sizes
+
     -- Not cut.
     pub demand3-selection : (keep : PartName → Bool)
-        → Rounded z planes pyramid (names (kept keep (partsWith z planes pyramid))) 0
+        → Rounded z planes pyramid (names (kept keep (partsWith z planes pyramid))) [] 0
         (decoding (recordBytes z planes (kept keep (partsWith z planes pyramid))) room work)
     demand3-selection = laws.demand3-selection c count room work sizes
 
     -- Served for level r and plane p, from what arrived.
     pub demand3-served-on : (keep : PartName → Bool) (n r p out : ℕ) (x : Portion)
         → serving (arrived z planes (kept keep (partsWith z planes pyramid)) n) r p out ≡ accepted x
-        → Rounded z planes pyramid (names (kept (asked r p) (wholeIn n (kept keep (partsWith z planes pyramid))))) 0
+        → Rounded z planes pyramid (names (kept (asked r p) (wholeIn n (kept keep (partsWith z planes pyramid))))) [] 0
         (decoding (x .bytes) room work)
     demand3-served-on = laws.demand3-served-on c count room work sizes
 
   -- In an assessor's words: what is printed is less than 2^m away from what was recorded, m being the plane reported for its level, of no greater
   -- magnitude, and of the same sign unless it is 0.
-  pub printed-near : {planes : ℕ} {there : List PartName} {cut : ℕ} {result : Result Picture} (r : Rounded z planes pyramid there cut result)
+  pub printed-near : {planes : ℕ} {there part : List PartName} {cut : ℕ} {result : Result Picture} (r : Rounded z planes pyramid there part cut result)
       → (q : ℕ) → q < area z
       → Near (planeIn (r .picture .reached) (levelOf z q - 1)) (getD (r .picture .pyramid) q (pos 0)) (getD pyramid q (pos 0))
   printed-near = laws.printed-near c
@@ -71,7 +79,7 @@ module _ {z : Size} {pyramid : List ℤ} (c : Codable z pyramid) where
 -- Coded, served for level r and plane p, and decoded: the parts with level ≥ r and plane ≥ p are there.
 pub demand3-served : (pyramid : List ℤ) (z : Size) (out code-work r p served room work : ℕ) (bytes : List ℕ) (x : Portion)
     → coding pyramid z out code-work ≡ accepted bytes → serving bytes r p served ≡ accepted x → Stated z room work
-    → Rounded z (planesIn pyramid) pyramid (names (kept (asked r p) (partsOf z pyramid))) 0 (decoding (x .bytes) room work)
+    → Rounded z (planesIn pyramid) pyramid (names (kept (asked r p) (partsOf z pyramid))) [] 0 (decoding (x .bytes) room work)
 demand3-served = laws.demand3-served
 
 -- The plane m. A part is usable exactly if its plane is not under the one that its level reached; a coarser level has reached no higher plane.

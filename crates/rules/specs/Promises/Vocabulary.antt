@@ -18,6 +18,7 @@
 --   asked r p                   the test that serving for level r and plane p makes
 --   recordBytes z planes ps     the bytes of a header and the parts ps behind it
 --   wholeIn n ps, tailIn n ps   of parts cut behind n bytes: those that are whole, and the bytes of one more
+--   cutIn n ps                  that one, if its head is there
 --   arrived z planes ps n       the bytes of such a record, cut n bytes behind its header
 --
 --   headerOf z planes           the header that is written for a size and a number of planes, as it is read
@@ -26,7 +27,9 @@
 --
 --   towardZero m x              x rounded toward zero to a multiple of 2^m
 --   Near m printed recorded     less than 2^m apart, no greater, and of one sign unless 0 is printed
+--   RoundedAt part k m n        of level k, which reached plane m, a coefficient may be rounded at plane n
 --   Rounded z planes .. result  decoding gave the recorded pyramid, rounded level by level
+--   NoWorse earlier later       of two pyramids: no magnitude of the second is smaller, and no sign another
 --   mostDecoded                 the greatest magnitude that is ever decoded
 --
 --   among own n                 n is one of these numbers; codingNumbers and so on: those that each routine may give
@@ -36,7 +39,7 @@
 --   Again, AgainLent, AgainTold what serving twice gives beside serving once: of results, of the routine, of the export
 --
 --   Selected s t                t is a selection of the parts of the record in the bytes s, cut somewhere
---   wholeParts x, cutBytes x    what arrived of it whole, and the bytes of a part that was cut
+--   wholeParts x, cutBytes x    what arrived of it whole, and the bytes of a part that was cut; cutParts x: that part
 --   Recorded, Serves, Decodes   what is promised of coding, of serving and of decoding, of lent memory
 use mathlib.Core.Path.{_≡_}
 use mathlib.Core.List.{List, [], _∷_, map, _++_}
@@ -164,6 +167,15 @@ unfoldable pub tailIn : ℕ → List CodedPart → ℕ
 tailIn n [] = 0
 tailIn n (p ∷ ps) = cond (leb (length (partBytes p)) n) (tailIn (n - length (partBytes p)) ps) n
 
+-- the head of a part: its plane, its level and its bit count
+abbrev pub headBytes : CodedPart → List ℕ
+headBytes p = flat numberBytes (p .name .plane ∷ p .name .level ∷ length (p .bits) ∷ [])
+
+-- And the part that is cut, if its head is there.
+unfoldable pub cutIn : ℕ → List CodedPart → List CodedPart
+cutIn n [] = []
+cutIn n (p ∷ ps) = cond (leb (length (partBytes p)) n) (cutIn (n - length (partBytes p)) ps) (cond (leb (length (headBytes p)) n) (p ∷ []) [])
+
 -- A record of the parts ps, cut n bytes behind its header; not cut at all if it has no more.
 unfoldable pub arrived : Size → ℕ → List CodedPart → ℕ → List ℕ
 arrived z planes ps n = take (length (headerBytes z planes) + n) (recordBytes z planes ps)
@@ -173,10 +185,6 @@ arrived z planes ps n = take (length (headerBytes z planes) + n) (recordBytes z 
 -- The header that is written for a size and a number of planes.
 abbrev pub headerOf : Size → ℕ → Header
 headerOf z planes = record { size = z; planes = planes; end = length (headerBytes z planes) }
-
--- the head of a part: its plane, its level and its bit count
-abbrev pub headBytes : CodedPart → List ℕ
-headBytes p = flat numberBytes (p .name .plane ∷ p .name .level ∷ length (p .bits) ∷ [])
 
 -- A part as it is read at a place.
 unfoldable pub partAt : ℕ → CodedPart → Part
@@ -191,6 +199,7 @@ partsAt place (p ∷ ps) = partAt place p ∷ partsAt (place + length (partBytes
 pub record ReadsAs (z : Size) (planes : ℕ) (ps : List CodedPart) (cut : ℕ) (bytes : List ℕ) : Type 0 where
   pub rest : List ℕ
   pub stand : bytes ≡ headerBytes z planes ++ (flat partBytes ps ++ rest)
+  pub left : length rest ≡ cut
   pub parts-read : readParts (headerOf z planes) bytes ≡ record { parts = partsAt (length (headerBytes z planes)) ps; ending = tail cut }
 
 -- WHAT IS DECODED OF IT
@@ -205,26 +214,32 @@ pub record Near (m : ℕ) (printed recorded : ℤ) : Type 0 where
   pub no-greater : natAbs printed ≤ natAbs recorded
   pub sign : (printed ≡ pos 0) ⊎ (below0 printed ≡ below0 recorded)
 
--- What decoding gives where of a record just the parts `there` arrived whole, and so many bytes of one more.
-pub record Rounded (z : Size) (planes : ℕ) (pyramid : List ℤ) (there : List PartName) (cut : ℕ) (result : Result Picture) : Type 0 where
+-- The plane at which a coefficient of level k is rounded, m being the one that its level reached: that one, or the next below it where the level's
+-- part of that plane is the one that was cut.
+pub data RoundedAt (part : List PartName) (k m : ℕ) : ℕ → Type 0 where
+  at-reached : RoundedAt part k m m
+  at-cut : {n : ℕ} → m ≡ suc n → present part (at n k) ≡ true → RoundedAt part k m n
+
+-- What decoding gives where of a record just the parts `there` arrived whole, and so many bytes of one more, which is `part` if its head is there.
+pub record Rounded (z : Size) (planes : ℕ) (pyramid : List ℤ) (there part : List PartName) (cut : ℕ) (result : Result Picture) : Type 0 where
   -- It is accepted.
   pub picture : Picture
   pub accepts : result ≡ accepted picture
   -- Every coefficient is written: its sign, and its magnitude rounded toward zero to a multiple of 2^m, m being the reached plane of its
-  -- level; 0 where that gives 0.
+  -- level, or the one below it where that is the plane of the part that was cut; 0 where that gives 0.
   pub sized : length (picture .pyramid) ≡ area z
+  pub plane : ℕ → ℕ
+  pub rounds : (q : ℕ) → q < area z → RoundedAt part (levelOf z q) (reached (levels z) planes there (levelOf z q)) (plane q)
   pub values : (q : ℕ) → q < area z
-      → getD (picture .pyramid) q (pos 0)
-      ≡ signed (negative pyramid q) (towardZero (reached (levels z) planes there (levelOf z q)) (magnitude pyramid q))
+      → getD (picture .pyramid) q (pos 0) ≡ signed (negative pyramid q) (towardZero (plane q) (magnitude pyramid q))
   -- The same, as a pyramid is read: by magnitude, and by sign where there is one.
-  pub magnitudes : (q : ℕ) → q < area z
-      → magnitude (picture .pyramid) q ≡ towardZero (reached (levels z) planes there (levelOf z q)) (magnitude pyramid q)
+  pub magnitudes : (q : ℕ) → q < area z → magnitude (picture .pyramid) q ≡ towardZero (plane q) (magnitude pyramid q)
   pub signs : (q : ℕ) → q < area z → 1 ≤ magnitude (picture .pyramid) q → negative (picture .pyramid) q ≡ negative pyramid q
-  -- That m is reported for each level, level 1 first, and 0 beyond level N + 1.
+  -- The reached plane is reported for each level, level 1 first, and 0 beyond level N + 1.
   pub six : length (picture .reached) ≡ levelPlaces
   pub reports : (k : ℕ) → 1 ≤ k → k ≤ levels z → planeIn (picture .reached) (k - 1) ≡ reached (levels z) planes there k
   pub beyond : (k : ℕ) → levels z < k → planeIn (picture .reached) (k - 1) ≡ 0
-  -- So are the parts of each level that are there and not usable: so many that with the used ones, one for each plane from m on, they are all of
+  -- So are the parts of each level that are there and not usable: so many that with the used ones, one for each plane from that one on, they are all of
   -- the level that are there. Beyond level N + 1 there are none.
   pub six-counts : length (picture .skipped) ≡ levelPlaces
   pub skips : (k : ℕ) → 1 ≤ k → k ≤ levels z → countIn (picture .skipped) (k - 1) ≡ skippedParts (headerOf z planes) there k
@@ -233,6 +248,11 @@ pub record Rounded (z : Size) (planes : ℕ) (pyramid : List ℤ) (there : List 
   pub skips-beyond : (k : ℕ) → levels z < k → countIn (picture .skipped) (k - 1) ≡ 0
   -- The tail's length is that of the part that is cut.
   pub tail : picture .tail ≡ cut
+
+-- A pyramid that came of more bytes is no worse: no magnitude falls and no sign turns.
+pub record NoWorse (earlier later : List ℤ) : Type 0 where
+  pub magnitudes : (q : ℕ) → magnitude earlier q ≤ magnitude later q
+  pub signs : (q : ℕ) → 1 ≤ magnitude earlier q → negative earlier q ≡ negative later q
 
 -- the greatest magnitude that is decoded, whatever the bytes
 abbrev pub mostDecoded : ℕ
@@ -362,6 +382,9 @@ module _ {bytes s : List ℕ} (x : Selected bytes s) where
   abbrev pub wholeParts : List CodedPart
   wholeParts = wholeIn (x .more) (kept (x .keep) (partsIn (x .head) bytes))
 
+  abbrev pub cutParts : List CodedPart
+  cutParts = cutIn (x .more) (kept (x .keep) (partsIn (x .head) bytes))
+
   abbrev pub cutBytes : ℕ
   cutBytes = tailIn (x .more) (kept (x .keep) (partsIn (x .head) bytes))
 
@@ -383,18 +406,21 @@ pub record Serves {bytes s : List ℕ} (x : Selected bytes s) (r p : ℕ) (serve
   pub uncut : cutBytes again ≡ 0
   pub told : tail ≡ cutBytes x
 
--- Of decoding, where the parts `there` arrived whole and `cut` bytes of one more. It came back with a number and a place, and told a tail and, for
--- each level k, `plane k` and `skip k`; out′ and work′ are the output and the workspace that it left.
-pub record Decodes (z : Size) (planes : ℕ) (pyramid : List ℤ) (there : List PartName) (cut : ℕ) (number place tail : ℕ) (plane skip : ℕ → ℕ)
+-- Of decoding, where the parts `there` arrived whole and `cut` bytes of one more, which is `part` if its head is there. It came back with a number
+-- and a place, and told a tail and, for each level k, `plane k` and `skip k`; out′ and work′ are the output and the workspace that it left.
+pub record Decodes (z : Size) (planes : ℕ) (pyramid : List ℤ) (there part : List PartName) (cut : ℕ) (number place tail : ℕ) (plane skip : ℕ → ℕ)
     (out′ : List ℤ) (work work′ : List ℕ) : Type 0 where
   -- It is accepted.
   pub accepts : number ≡ 0
   pub nowhere : place ≡ 0
   -- Every coefficient is written: the recorded one's sign, and its magnitude rounded toward zero to a multiple of 2^m, m being the plane that is
-  -- told for its level.
+  -- told for its level, or the one below it where that is the plane of the part that was cut.
   pub sized : length out′ ≡ area z
-  pub values : (q : ℕ) → q < area z → getD out′ q (pos 0) ≡ signed (negative pyramid q) (towardZero (plane (levelOf z q)) (magnitude pyramid q))
-  -- So what is printed is less than 2^m away from what was recorded, of no greater magnitude, and of the same sign unless it is 0.
+  pub rounded-at : ℕ → ℕ
+  pub rounds : (q : ℕ) → q < area z → RoundedAt part (levelOf z q) (plane (levelOf z q)) (rounded-at q)
+  pub values : (q : ℕ) → q < area z → getD out′ q (pos 0) ≡ signed (negative pyramid q) (towardZero (rounded-at q) (magnitude pyramid q))
+  -- So with the plane m that is told for its level what is printed is less than 2^m away from what was recorded, of no greater magnitude, and of
+  -- the same sign unless it is 0.
   pub near : (q : ℕ) → q < area z → Near (plane (levelOf z q)) (getD out′ q (pos 0)) (getD pyramid q (pos 0))
   -- That m is the lowest plane whose part of the level is usable, the number of planes if none is; beyond level N + 1 it is 0.
   pub reports : (k : ℕ) → 1 ≤ k → k ≤ levels z → plane k ≡ reached (levels z) planes there k

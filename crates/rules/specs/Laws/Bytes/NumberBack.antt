@@ -126,15 +126,16 @@ numbers-read s at (v ∷ vs) rest small e =
     (subst (Numbers s (at + n) vs) q
     (numbers-read s (at + n) vs rest (small .1) (left-behind s at (numberBytes v) (flat numberBytes vs ++ rest) f)))
 
--- Cut off before the end, with more behind them: inside one of the numbers, or behind them all.
-pub data Cut (s : List ℕ) (at : ℕ) (vs more : List ℕ) : Type 0 where
-  inside : {ws : List ℕ} {e : ℕ} → Numbers s at ws e → length ws < length vs → readNumber s e ≡ CutOff → Cut s at vs more
-  behind : (d : ℕ) → d < length more → drop at s ≡ flat numberBytes vs ++ take d more → Cut s at vs more
+-- Cut off behind c bytes, before the end, with more behind them: inside one of the numbers, or behind them all.
+pub data Cut (s : List ℕ) (at : ℕ) (vs more : List ℕ) (c : ℕ) : Type 0 where
+  inside : {ws : List ℕ} {e : ℕ} → Numbers s at ws e → length ws < length vs → readNumber s e ≡ CutOff → c < length (flat numberBytes vs)
+      → Cut s at vs more c
+  behind : (d : ℕ) → d < length more → drop at s ≡ flat numberBytes vs ++ take d more → c ≡ length (flat numberBytes vs) + d → Cut s at vs more c
 
 pub numbers-cut : (s : List ℕ) (at : ℕ) (vs more : List ℕ) (c : ℕ) → AllSmall vs → c < length (flat numberBytes vs ++ more)
-    → drop at s ≡ take c (flat numberBytes vs ++ more) → Cut s at vs more
+    → drop at s ≡ take c (flat numberBytes vs ++ more) → Cut s at vs more c
 unfolding All flat
-numbers-cut s at [] more c small short e = behind c short e
+numbers-cut s at [] more c small short e = behind c short e (omega arith)
 numbers-cut s at (v ∷ vs) more c small short e =
     cases (decLt c n) (λ at′ d. numbers-cut s at′ vs more d (small .1))
   where
@@ -147,20 +148,25 @@ numbers-cut s at (v ∷ vs) more c small short e =
     joined : (numberBytes v ++ flat numberBytes vs) ++ more ≡ numberBytes v ++ rest
     joined = append-assoc (numberBytes v) (flat numberBytes vs) more
 
-    later : readNumber s at ≡ Value v (at + n) → (d : ℕ) → drop at s ≡ numberBytes v ++ take d rest → Cut s (at + n) vs more
-        → Cut s at (v ∷ vs) more
-    later r d f (inside ns l z) = inside (next r ns) (omega arith) z
-    later r d f (behind k l g) =
+    long : length (numberBytes v ++ flat numberBytes vs) ≡ n + length (flat numberBytes vs)
+    long = length-append (numberBytes v) (flat numberBytes vs)
+
+    later : readNumber s at ≡ Value v (at + n) → (d : ℕ) → n + d ≡ c → drop at s ≡ numberBytes v ++ take d rest → Cut s (at + n) vs more d
+        → Cut s at (v ∷ vs) more c
+    later r d q f (inside ns l z k) = inside (next r ns) (omega arith) z (omega (arith, long))
+    later r d q f (behind k l g j) =
         let same : take d rest ≡ flat numberBytes vs ++ take k more = sym (left-behind s at (numberBytes v) (take d rest) f) ∙ g in
         behind k l (f ∙ ap (λ x. numberBytes v ++ x) same ∙ sym (append-assoc (numberBytes v) (flat numberBytes vs) (take k more)))
+        (omega (arith, long))
 
-    cases : Dec (c < n) → ((at′ d : ℕ) → d < length rest → drop at′ s ≡ take d rest → Cut s at′ vs more) → Cut s at (v ∷ vs) more
+    cases : Dec (c < n) → ((at′ d : ℕ) → d < length rest → drop at′ s ≡ take d rest → Cut s at′ vs more d) → Cut s at (v ∷ vs) more c
     cases (yes l) r =
         inside none (omega arith) (reads-cut s at v c (small .0) l (e ∙ ap (take c) joined ∙ take-append-le c (numberBytes v) rest (omega arith)))
+        (omega (arith, long))
     cases (no l) r =
         let d : ℕ = c - n in
         let q : n + d ≡ c = omega arith in
         let f : drop at s ≡ numberBytes v ++ take d rest
         = e ∙ ap (take c) joined ∙ ap (λ i. take i (numberBytes v ++ rest)) (sym q) ∙ take-append-add (numberBytes v) rest d in
-        later (reads-number s at v (take d rest) (small .0) f) d f
+        later (reads-number s at v (take d rest) (small .0) f) d q f
         (r (at + n) d (omega (arith, ap length joined, length-append (numberBytes v) rest)) (left-behind s at (numberBytes v) (take d rest) f))

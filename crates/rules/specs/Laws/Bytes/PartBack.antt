@@ -1,14 +1,17 @@
--- A header and a part read back, and a part that is cut is a tail.
+-- A header and a part read back, whole or cut.
 use mathlib.Core.Path.{_≡_, refl, ap, sym, _∙_, subst}
 use mathlib.Core.List.{List, [], _∷_, _++_, append-assoc}
-use mathlib.Core.Bool.{true}
-use Prim.Native.Nat.{ℕ, _+_, _-_, _≤_, _<_}
+use mathlib.Core.Bool.{true, cond}
+use Prim.Native.Nat.{ℕ, _+_, _-_, _*_, _≤_, _<_}
 use native.Mathlib.Omega.{arith}
-use lib.ListN.{length, take, drop, length-append, length-drop}
-use lib.Seq.{length-take-le, take-at}
+use lib.Dec.{leb}
+use lib.ListN.{length, take, drop, length-append, length-drop, length-take}
+use lib.Seq.{length-take-le, take-at, take-all, take-append-add}
+use borrow.Author.Tests.{le-leb, lt-leb}
 use Rattle.rules.specs.declared.Size.{Size}
 use Rattle.rules.specs.declared.Header.{Header}
 use Rattle.rules.specs.declared.HeaderRead.the-variants as header
+use Rattle.rules.specs.declared.PartRead.{PartRead}
 use Rattle.rules.specs.declared.PartRead.the-variants as part
 use Rattle.rules.specs.Document.Notation.{flat}
 use Rattle.rules.specs.Document.Pyramid.{mostArea, area, mostPlanes, legalSize, levels}
@@ -21,7 +24,7 @@ use Rattle.rules.specs.Laws.Reading.Parts.{legal-head}
 use Rattle.rules.specs.Laws.Bytes.Numbers.{tooLarge, numberBytes-length}
 use Rattle.rules.specs.Laws.Bytes.NumberBack.{left-behind, AllSmall, numbers-read, Cut, inside, behind, numbers-cut}
 use Rattle.rules.specs.Laws.Counting.Sums.{All}
-use Rattle.rules.specs.Promises.Refusals.{Numbers, LEGAL, HeadRead, PartCase, TAIL-head, TAIL-body, WHOLE}
+use Rattle.rules.specs.Promises.Refusals.{Numbers, LEGAL, HeadRead, TAIL-head, CUT, WHOLE}
 use Rattle.rules.specs.Laws.Reading.PartCases.{header-is, pad-none, part-is}
 use Rattle.rules.specs.Laws.Bytes.BodyBack.{packed-length, packed-clear}
 
@@ -92,6 +95,15 @@ module _ (s : List ℕ) (place : ℕ) (p : CodedPart) (rest : List ℕ) (stands 
       let long : length (partBytes p) ≡ place + length (headBytes p) + bytesFor (length (p .bits)) - place = omega (arith, part-length p) in
       ap (take (place + length (headBytes p) + bytesFor (length (p .bits)) - place)) stands ∙ take-at (partBytes p) rest _ long
 
+-- Where it is cut behind its head, its body is as far as it goes.
+pub cut-body : (s : List ℕ) (place : ℕ) (p : CodedPart) (d : ℕ) → drop place s ≡ take (length (headBytes p) + d) (partBytes p)
+    → bodyOf s (partAt place p) ≡ take d (packed (p .bits))
+unfolding bodyOf partAt headed partBytes
+cut-body s place p d stands =
+    ap (take (bytesFor (length (p .bits))))
+    (left-behind s place (headBytes p) (take d (packed (p .bits))) (stands ∙ take-append-add (headBytes p) (packed (p .bits)) d))
+    ∙ take-all (bytesFor (length (p .bits))) (take d (packed (p .bits))) (omega (arith, length-take d (packed (p .bits)), packed-length (p .bits)))
+
 pub part-name : (place : ℕ) (p : CodedPart) → nameOf (partAt place p) ≡ p .name
 unfolding nameOf partAt headed
 part-name place p = refl
@@ -99,6 +111,10 @@ part-name place p = refl
 pub part-end : (place : ℕ) (p : CodedPart) → partAt place p .end ≡ place + length (partBytes p)
 unfolding partAt headed
 part-end place p = omega (arith, part-length p)
+
+-- what is read of a part that is cut behind c bytes
+unfoldable pub cutAt : ℕ → ℕ → CodedPart → PartRead
+cutAt place c p = cond (leb (length (headBytes p)) c) (part.Cut (partAt place p)) part.Tail
 
 -- Reading a part.
 module _ (h : Header) (small : Small (h .size) (h .planes)) (s : List ℕ) (before : PartName) (place : ℕ) (p : CodedPart)
@@ -134,15 +150,17 @@ module _ (h : Header) (small : Small (h .size) (h .planes)) (s : List ℕ) (befo
       clear : padClear (bodyOf s (partAt place p)) (partAt place p .bits) ≡ true
       clear = ap (λ x. padClear x (partAt place p .bits)) (part-body s place p rest stands) ∙ unfold partAt headed in packed-clear (p .bits)
 
-  -- A part that is cut is a tail.
-  pub reads-part-cut : (c : ℕ) → c < length (partBytes p) → drop place s ≡ take c (partBytes p) → readPart h s before place ≡ part.Tail
-  unfolding partBytes
-  reads-part-cut c short cut = part-is h s before place _ (cases (numbers-cut s place its-numbers (packed (p .bits)) c numbers-small short cut))
+  -- Of a part that is cut behind c bytes no head is there, or its head and some of its body.
+  pub reads-part-cut : (c : ℕ) → c < length (partBytes p) → drop place s ≡ take c (partBytes p) → readPart h s before place ≡ cutAt place c p
+  unfolding partBytes cutAt
+  reads-part-cut c short cut = cases (numbers-cut s place its-numbers (packed (p .bits)) c numbers-small short cut)
     where
-      cases : Cut s place its-numbers (packed (p .bits)) → PartCase h s before place part.Tail
-      cases (inside ns l z) = TAIL-head ns l z
-      cases (behind d l stands) =
+      cases : Cut s place its-numbers (packed (p .bits)) c → readPart h s before place ≡ cutAt place c p
+      cases (inside ns l z k) = rw (lt-leb (length (headBytes p)) c k) (part-is h s before place _ (TAIL-head ns l z))
+      cases (behind d l stands k) =
           let long : length s - place ≡ length (headBytes p) + length (take d (packed (p .bits)))
           = sym (length-drop place s) ∙ ap length stands ∙ length-append (headBytes p) (take d (packed (p .bits))) in
           let cut-short : length (take d (packed (p .bits))) ≡ d = length-take-le d (packed (p .bits)) (omega arith) in
-          TAIL-body (head-read (take d (packed (p .bits))) stands) legal-here (omega (arith, part-end place p, part-length p, packed-length (p .bits)))
+          rw (le-leb (length (headBytes p)) c (omega arith))
+          (part-is h s before place _
+          (CUT (head-read (take d (packed (p .bits))) stands) legal-here (omega (arith, part-end place p, part-length p, packed-length (p .bits)))))

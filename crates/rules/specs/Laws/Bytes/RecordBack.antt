@@ -4,23 +4,25 @@ use mathlib.Core.List.{List, [], _∷_, _++_, map, append-assoc, append-nil}
 use mathlib.Core.Bool.{Bool, true, false, cond}
 use Prim.Native.Nat.{ℕ, zero, suc, _+_, _-_, _≤_, _<_}
 use native.Mathlib.Omega.{arith}
+use lib.Dec.{leb}
 use lib.ListN.{length, take, drop, length-append, length-drop}
 use lib.Seq.{length-take-le, take-append-le, take-append-add, drop-append-seam}
 use Rattle.rules.specs.declared.Size.{Size}
 use Rattle.rules.specs.declared.Header.{Header}
 use Rattle.rules.specs.declared.Part.{Part}
+use Rattle.rules.specs.declared.PartRead.{PartRead}
 use Rattle.rules.specs.declared.PartRead.the-variants as part
 use Rattle.rules.specs.Document.Notation.{flat}
 use Rattle.rules.specs.Document.Pyramid.{Family, mostPlanes, legalSize}
 use Rattle.rules.specs.Document.Passes.{State, after, PartName, partNames, coded}
 use Rattle.rules.specs.Document.Layout.{headerBytes, CodedPart, partBytes, codedParts, nameOf}
-use Rattle.rules.specs.Document.Numbers.{mostBits, follows, legalHead, readPart, tail, Reading, goOn, readFrom, readParts, topLevel}
-use Rattle.rules.specs.Promises.Vocabulary.{recordBytes, partsAt, selection, at, Named, LegalHead, headerOf, partAt}
+use Rattle.rules.specs.Document.Numbers.{mostBits, follows, legalHead, readPart, tail, Reading, goOn, readFrom, readParts, behindFrom, behind, topLevel}
+use Rattle.rules.specs.Promises.Vocabulary.{recordBytes, partsAt, selection, at, Named, LegalHead, headBytes, headerOf, partAt}
 use Rattle.rules.specs.Laws.Counting.Sums.{All, flat-append}
 use Rattle.rules.specs.Laws.Reading.Parts.{InOrder, names-in-order, names-named, follows-follows, legal-head, head-legal, legal-behind}
 use Rattle.rules.specs.Laws.Bytes.NumberBack.{left-none, left-behind}
 use Rattle.rules.specs.Laws.Reading.Walk.{readPart-past}
-use Rattle.rules.specs.Laws.Bytes.PartBack.{Small, legal-small, part-some, next-stands, part-name, part-end, reads-part, reads-part-cut}
+use Rattle.rules.specs.Laws.Bytes.PartBack.{Small, legal-small, part-some, next-stands, part-name, part-end, cutAt, reads-part, reads-part-cut}
 
 -- Parts that may stand in a record, in order, the first after `before`; and the name of the last. A record's first part comes after this:
 abbrev pub beforeAll : ℕ → PartName
@@ -38,18 +40,40 @@ nothing-more : (s rest : List ℕ) (place : ℕ) → drop place s ≡ rest
     → _≡_ {A = Reading} (record { parts = []; ending = tail (length s - place) }) (record { parts = []; ending = tail (length rest) })
 nothing-more s rest place e = ap (λ x. record { parts = []; ending = tail x }) (sym (length-drop place s) ∙ ap length e)
 
+-- what is no further part: less than a head, or a head and less than its body
+unfoldable pub Short : PartRead → Type 0
+Short (part.Part p) = ⊥
+Short (part.Cut p) = Unit {0}
+Short part.Tail = Unit {0}
+Short (part.Refused r) = ⊥
+
+pub short-ends : (s : List ℕ) (place : ℕ) (x : PartRead) (next : Part → Reading) → Short x
+    → goOn s place x next ≡ record { parts = []; ending = tail (length s - place) }
+unfolding Short goOn
+short-ends s place (part.Part p) next h = absurd h
+short-ends s place (part.Cut p) next h = refl
+short-ends s place part.Tail next h = refl
+short-ends s place (part.Refused r) next h = absurd h
+
+pub cut-short : (place c : ℕ) (p : CodedPart) → Short (cutAt place c p)
+unfolding Short cutAt
+cut-short place c p = by (leb (length (headBytes p)) c)
+  where
+    by : (b : Bool) → Short (cond b (part.Cut (partAt place p)) part.Tail)
+    by true = tt
+    by false = tt
+
 -- Parts one behind the other, and then what is no further part.
 pub reads-parts : (h : Header) → Small (h .size) (h .planes)
     → (s : List ℕ) (rest : List ℕ) (m : ℕ) (before : PartName) (place : ℕ) (ps : List CodedPart)
     → length ps ≤ m → LegalParts h before ps → drop place s ≡ flat partBytes ps ++ rest
-    → readPart h s (lastName before ps) (place + length (flat partBytes ps)) ≡ part.Tail
+    → Short (readPart h s (lastName before ps) (place + length (flat partBytes ps)))
     → readFrom m h s before place ≡ record { parts = partsAt place ps; ending = tail (length rest) }
 unfolding readFrom goOn LegalParts lastName partsAt flat
 reads-parts h small s rest zero before place [] l ok stands ends = nothing-more s rest place stands
 reads-parts h small s rest (suc m) before place [] l ok stands ends =
     let here : place + 0 ≡ place = omega arith in
-    let none : readPart h s before place ≡ part.Tail = ap (readPart h s before) (sym here) ∙ ends in
-    rw none (nothing-more s rest place stands)
+    short-ends s place (readPart h s before place) _ (subst (λ (x : ℕ). Short (readPart h s before x)) here ends) ∙ nothing-more s rest place stands
 reads-parts h small s rest zero before place (p ∷ ps) l ok stands ends = absurd (omega arith)
 reads-parts h small s rest (suc m) before place (p ∷ ps) l ok stands ends =
     let more : List ℕ = flat partBytes ps ++ rest in
@@ -59,10 +83,21 @@ reads-parts h small s rest (suc m) before place (p ∷ ps) l ok stands ends =
     let next : ℕ = place + length (partBytes p) in
     let others : readFrom m h s (p .name) next ≡ record { parts = partsAt next ps; ending = tail (length rest) }
     = reads-parts h small s rest m (p .name) (place + length (partBytes p)) ps (omega arith) (ok .1) (next-stands s place p more this)
-    (ap (readPart h s (lastName (p .name) ps)) end ∙ ends) in
+    (subst (λ (x : ℕ). Short (readPart h s (lastName (p .name) ps) x)) (sym end) ends) in
     rw (reads-part h small s before place p (ok .0) more this)
     (ap (λ (r : Reading). record { parts = partAt place p ∷ r .parts; ending = r .ending })
     (ap₂ (readFrom m h s) (part-name place p) (part-end place p) ∙ others))
+
+-- And what stands behind them.
+pub behind-parts : (h : Header) (s : List ℕ) (before : PartName) (place : ℕ) (ps : List CodedPart)
+    → behindFrom h s before place (partsAt place ps) ≡ readPart h s (lastName before ps) (place + length (flat partBytes ps))
+unfolding behindFrom partsAt lastName flat
+behind-parts h s before place [] = let e : place ≡ place + 0 = omega arith in ap (readPart h s before) e
+behind-parts h s before place (p ∷ ps) =
+    let e : place + length (partBytes p) + length (flat partBytes ps) ≡ place + length (partBytes p ++ flat partBytes ps)
+    = omega (arith, length-append (partBytes p) (flat partBytes ps)) in
+    ap₂ (λ n i. behindFrom h s n i (partsAt (place + length (partBytes p)) ps)) (part-name place p) (part-end place p)
+    ∙ behind-parts h s (p .name) (place + length (partBytes p)) ps ∙ ap (readPart h s (lastName (p .name) ps)) e
 
 -- A record reads back: all the parts behind its header.
 parts-few : (ps : List CodedPart) → length ps ≤ length (flat partBytes ps)
@@ -78,11 +113,11 @@ module _ (z : Size) (planes : ℕ) (ok : legalSize z ≡ true) (l : planes ≤ m
   abbrev bytes : List ℕ → List ℕ
   bytes rest = headerBytes z planes ++ (flat partBytes ps ++ rest)
 
-  behind : (rest : List ℕ) → drop (front + length (flat partBytes ps)) (bytes rest) ≡ rest
-  behind rest = left-behind (bytes rest) front (flat partBytes ps) rest (drop-append-seam (headerBytes z planes) (flat partBytes ps ++ rest))
+  past : (rest : List ℕ) → drop (front + length (flat partBytes ps)) (bytes rest) ≡ rest
+  past rest = left-behind (bytes rest) front (flat partBytes ps) rest (drop-append-seam (headerBytes z planes) (flat partBytes ps ++ rest))
 
   reads-with : (rest : List ℕ)
-      → readPart (headerOf z planes) (bytes rest) (lastName (beforeAll planes) ps) (front + length (flat partBytes ps)) ≡ part.Tail
+      → Short (readPart (headerOf z planes) (bytes rest) (lastName (beforeAll planes) ps) (front + length (flat partBytes ps)))
       → readParts (headerOf z planes) (bytes rest) ≡ record { parts = partsAt front ps; ending = tail (length rest) }
   unfolding readParts
   reads-with rest ends =
@@ -95,7 +130,22 @@ module _ (z : Size) (planes : ℕ) (ok : legalSize z ≡ true) (l : planes ≤ m
       ≡ record { parts = partsAt (length (headerBytes z planes)) ps; ending = tail 0 }
   reads-record =
       ap (λ x. readParts (headerOf z planes) (headerBytes z planes ++ x)) (sym (append-nil (flat partBytes ps)))
-      ∙ reads-with [] (readPart-past (headerOf z planes) _ (lastName (beforeAll planes) ps) _ (left-none _ _ (behind [])))
+      ∙ reads-with []
+      (rw (readPart-past (headerOf z planes) (bytes []) (lastName (beforeAll planes) ps) (front + length (flat partBytes ps)) (left-none _ _ (past [])))
+      (unfold Short in tt))
+
+  pub uncut-behind : behind (headerOf z planes) (headerBytes z planes ++ (flat partBytes ps ++ [])) (partsAt (length (headerBytes z planes)) ps) ≡ part.Tail
+  uncut-behind =
+      behind-parts (headerOf z planes) _ (beforeAll planes) front ps
+      ∙ readPart-past (headerOf z planes) (bytes []) (lastName (beforeAll planes) ps) (front + length (flat partBytes ps)) (left-none _ _ (past []))
+
+  one-more : (q : CodedPart) (c : ℕ) → legalHead (headerOf z planes) (lastName (beforeAll planes) ps) (q .name) (length (q .bits)) ≡ true
+      → c < length (partBytes q)
+      → readPart (headerOf z planes) (bytes (take c (partBytes q))) (lastName (beforeAll planes) ps) (front + length (flat partBytes ps))
+      ≡ cutAt (front + length (flat partBytes ps)) c q
+  one-more q c legal-q short =
+      reads-part-cut (headerOf z planes) (legal-small z planes ok l) (bytes (take c (partBytes q))) (lastName (beforeAll planes) ps)
+      (front + length (flat partBytes ps)) q legal-q c short (past (take c (partBytes q)))
 
   -- What is there of one more part is a tail.
   pub reads-tail : (q : CodedPart) (c : ℕ) → legalHead (headerOf z planes) (lastName (beforeAll planes) ps) (q .name) (length (q .bits)) ≡ true
@@ -104,10 +154,16 @@ module _ (z : Size) (planes : ℕ) (ok : legalSize z ≡ true) (l : planes ≤ m
       ≡ record { parts = partsAt (length (headerBytes z planes)) ps; ending = tail c }
   reads-tail q c legal-q short =
       ap (readParts (headerOf z planes)) (append-assoc (headerBytes z planes) (flat partBytes ps) (take c (partBytes q)))
-      ∙ reads-with (take c (partBytes q))
-      (reads-part-cut (headerOf z planes) (legal-small z planes ok l) _ (lastName (beforeAll planes) ps) _ q legal-q c short
-      (behind (take c (partBytes q))))
+      ∙ reads-with (take c (partBytes q)) (rw (one-more q c legal-q short) (cut-short _ c q))
       ∙ ap (λ x. record { parts = partsAt front ps; ending = tail x }) (length-take-le c (partBytes q) (omega arith))
+
+  pub tail-behind : (q : CodedPart) (c : ℕ) → legalHead (headerOf z planes) (lastName (beforeAll planes) ps) (q .name) (length (q .bits)) ≡ true
+      → c < length (partBytes q)
+      → behind (headerOf z planes) (recordBytes z planes ps ++ take c (partBytes q)) (partsAt (length (headerBytes z planes)) ps)
+      ≡ cutAt (length (headerBytes z planes) + length (flat partBytes ps)) c q
+  tail-behind q c legal-q short =
+      ap (λ x. behind (headerOf z planes) x (partsAt front ps)) (append-assoc (headerBytes z planes) (flat partBytes ps) (take c (partBytes q)))
+      ∙ behind-parts (headerOf z planes) (bytes (take c (partBytes q))) (beforeAll planes) front ps ∙ one-more q c legal-q short
 
 -- A record that is cut anywhere behind its header: the parts before the one that is cut, and a tail of what is there of that.
 legal-split : (h : Header) (before : PartName) (ps : List CodedPart) (q : CodedPart) (later : List CodedPart)
@@ -120,7 +176,7 @@ legal-split h before (p ∷ ps) q later ok =
     = legal-split h (p .name) ps q later (ok .1) in
     ((ok .0, more .0), more .1)
 
-cut-bytes : (z : Size) (planes : ℕ) (ps : List CodedPart) (q : CodedPart) (later : List CodedPart) (c : ℕ) → c ≤ length (partBytes q)
+pub cut-bytes : (z : Size) (planes : ℕ) (ps : List CodedPart) (q : CodedPart) (later : List CodedPart) (c : ℕ) → c ≤ length (partBytes q)
     → take (length (recordBytes z planes ps) + c) (recordBytes z planes (ps ++ q ∷ later)) ≡ recordBytes z planes ps ++ take c (partBytes q)
 unfolding flat
 cut-bytes z planes ps q later c l =
@@ -140,6 +196,17 @@ reads-cut-record z planes ok l ps q later legal-all c short =
     let legal-both = legal-split (headerOf z planes) (beforeAll planes) ps q later legal-all in
     ap (readParts (headerOf z planes)) (cut-bytes z planes ps q later c (omega arith))
     ∙ reads-tail z planes ok l ps (legal-both .0) q c (legal-both .1) short
+
+pub behind-cut-record : (z : Size) (planes : ℕ) → legalSize z ≡ true → planes ≤ mostPlanes
+    → (ps : List CodedPart) (q : CodedPart) (later : List CodedPart) → LegalParts (headerOf z planes) (beforeAll planes) (ps ++ q ∷ later)
+    → (c : ℕ) → c < length (partBytes q)
+    → behind (headerOf z planes) (take (length (recordBytes z planes ps) + c) (recordBytes z planes (ps ++ q ∷ later)))
+    (partsAt (length (headerBytes z planes)) ps)
+    ≡ cutAt (length (headerBytes z planes) + length (flat partBytes ps)) c q
+behind-cut-record z planes ok l ps q later legal-all c short =
+    let legal-both = legal-split (headerOf z planes) (beforeAll planes) ps q later legal-all in
+    ap (λ x. behind (headerOf z planes) x (partsAt (length (headerBytes z planes)) ps)) (cut-bytes z planes ps q later c (omega arith))
+    ∙ tail-behind z planes ok l ps (legal-both .0) q c (legal-both .1) short
 
 -- What was read of each part is what was written of it: its name, its bit count, its body, all its bytes.
 pub parts-map : {X : Type 0} (f : Part → X) (g : CodedPart → X) (s : List ℕ)

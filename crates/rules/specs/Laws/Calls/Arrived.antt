@@ -1,7 +1,7 @@
 -- Demand 3, for Promises/Three: what coding accepts, that either count of planes is enough, and that whatever arrives of such a record decodes
 -- to the recorded pyramid, rounded.
 use mathlib.Core.Path.{_≡_, ap, sym, _∙_, subst}
-use mathlib.Core.List.{List}
+use mathlib.Core.List.{List, []}
 use mathlib.Core.Bool.{Bool, _&&_}
 use Prim.Native.Nat.{ℕ, _-_, _≤_, _<_}
 use native.Mathlib.Omega.{arith}
@@ -24,12 +24,14 @@ use Rattle.rules.specs.Laws.Calls.Cases.{coding-is}
 use Rattle.rules.specs.Laws.Rounding.Planes.{planesOf-above, planesOf-most, earlierPlanesOf-above, earlierPlanesOf-most, magnitude-most, under-first}
 use Rattle.rules.specs.Laws.Rounding.Planes.{range-greatest}
 use Rattle.rules.specs.Laws.Calls.Results.{unless-accepted, accepted-same}
-use Rattle.rules.specs.Promises.Vocabulary.{headerOf, recordBytes, Codable, Stated, PlaneCount, names, kept, asked, wholeIn, tailIn, arrived, Rounded}
-use Rattle.rules.specs.Promises.Vocabulary.{Near, ReadsAs}
+use Rattle.rules.specs.Promises.Vocabulary.{headerOf, recordBytes, Codable, Stated, PlaneCount, names, kept, asked, wholeIn, tailIn, cutIn}
+use Rattle.rules.specs.Promises.Vocabulary.{arrived, RoundedAt, at-reached, at-cut, Rounded, Near, NoWorse, ReadsAs}
 use Rattle.rules.specs.Laws.Bytes.RecordBack.{beforeAll}
-use Rattle.rules.specs.Laws.Rounding.TowardZero.{rounded-near}
+use Rattle.rules.specs.Laws.Rounding.TowardZero.{rounded-near, near-above}
 use Rattle.rules.specs.Laws.Rounding.Arrival.{record-reads, arrived-reads, arrived-selection, legal-order}
-use Rattle.rules.specs.Laws.Rounding.Run.{rounded-read, coder-legal, kept-legal, rounded-arrived}
+use Rattle.rules.specs.Laws.Rounding.Run.{rounded-read, coder-legal, kept-legal}
+use Rattle.rules.specs.Laws.Rounding.CutRun.{rounded-arrived}
+use Rattle.rules.specs.Laws.Rounding.MoreBytes.{arrived-no-worse}
 use Rattle.rules.specs.Laws.Serving.Parts.{served-read}
 
 -- What coding accepts, and what it then writes.
@@ -52,6 +54,11 @@ codable-coded {z} {pyramid} c room work enough space =
     coding-is pyramid z room work (accepted (recordOf z pyramid))
     (CODED (legal z (c .legal-size)) (c .sized) space
     (subst (InRange mostMagnitude pyramid) (c .in-range) (under-first mostMagnitude pyramid)) enough)
+
+-- No coefficient is rounded at a higher plane than its level reached.
+pub rounded-under : {part : List PartName} {k m n : ℕ} → RoundedAt part k m n → n ≤ m
+rounded-under at-reached = omega arith
+rounded-under (at-cut e i) = omega arith
 
 module _ {z : Size} {pyramid : List ℤ} (c : Codable z pyramid) where
   -- The coder's count, and the earlier one.
@@ -77,13 +84,20 @@ module _ {z : Size} {pyramid : List ℤ} (c : Codable z pyramid) where
   module _ {planes : ℕ} (count : PlaneCount pyramid planes) (room work : ℕ) (sizes : Stated z room work) where
     -- Any selection of the record's parts, cut anywhere behind the header.
     pub demand3 : (keep : PartName → Bool) (n : ℕ)
-        → Rounded z planes pyramid (names (wholeIn n (kept keep (partsWith z planes pyramid)))) (tailIn n (kept keep (partsWith z planes pyramid)))
+        → Rounded z planes pyramid (names (wholeIn n (kept keep (partsWith z planes pyramid)))) (names (cutIn n (kept keep (partsWith z planes pyramid))))
+        (tailIn n (kept keep (partsWith z planes pyramid)))
         (decoding (arrived z planes (kept keep (partsWith z planes pyramid)) n) room work)
     demand3 keep n = rounded-arrived z (c .legal-size) planes (count .few) pyramid (count .enough) keep n room work sizes
 
+    -- With more bytes of the same record no magnitude falls and no sign turns. (Both decodings are accepted: demand3.)
+    pub more-bytes : (keep : PartName → Bool) (n₁ n₂ : ℕ) → n₁ ≤ n₂ → (x₁ x₂ : Picture)
+        → decoding (arrived z planes (kept keep (partsWith z planes pyramid)) n₁) room work ≡ accepted x₁
+        → decoding (arrived z planes (kept keep (partsWith z planes pyramid)) n₂) room work ≡ accepted x₂ → NoWorse (x₁ .pyramid) (x₂ .pyramid)
+    more-bytes keep = arrived-no-worse z (c .legal-size) planes (count .few) pyramid (count .enough) keep room work sizes
+
     -- Not cut.
     pub demand3-selection : (keep : PartName → Bool)
-        → Rounded z planes pyramid (names (kept keep (partsWith z planes pyramid))) 0
+        → Rounded z planes pyramid (names (kept keep (partsWith z planes pyramid))) [] 0
         (decoding (recordBytes z planes (kept keep (partsWith z planes pyramid))) room work)
     demand3-selection keep =
         rounded-read z (c .legal-size) planes (count .few) pyramid (count .enough) keep
@@ -94,7 +108,7 @@ module _ {z : Size} {pyramid : List ℤ} (c : Codable z pyramid) where
     -- Served for level r and plane p, from what arrived.
     pub demand3-served-on : (keep : PartName → Bool) (n r p out : ℕ) (x : Portion)
         → serving (arrived z planes (kept keep (partsWith z planes pyramid)) n) r p out ≡ accepted x
-        → Rounded z planes pyramid (names (kept (asked r p) (wholeIn n (kept keep (partsWith z planes pyramid))))) 0
+        → Rounded z planes pyramid (names (kept (asked r p) (wholeIn n (kept keep (partsWith z planes pyramid))))) [] 0
         (decoding (x .bytes) room work)
     demand3-served-on keep n r p out x e =
         let ps : List CodedPart = kept keep (partsWith z planes pyramid) in
@@ -105,24 +119,24 @@ module _ {z : Size} {pyramid : List ℤ} (c : Codable z pyramid) where
         = selection-both (λ q. some .0 (q .name)) (λ q. asked r p (q .name)) (partsWith z planes pyramid) ∙ ap (kept (asked r p)) (some .1) in
         let bytes : recordBytes z planes (kept (asked r p) (wholeIn n ps)) ≡ x .bytes
         = ap (λ y. y .bytes) (served-read (arrived-reads z planes ps (c .legal-size) (count .few) ok n) (c .legal-size) (count .few) r p out x e) in
-        subst (λ y. Rounded z planes pyramid (names (kept (asked r p) (wholeIn n ps))) 0 (decoding y room work)) bytes
-        (subst (λ y. Rounded z planes pyramid (names y) 0 (decoding (recordBytes z planes y) room work)) both
+        subst (λ y. Rounded z planes pyramid (names (kept (asked r p) (wholeIn n ps))) [] 0 (decoding y room work)) bytes
+        (subst (λ y. Rounded z planes pyramid (names y) [] 0 (decoding (recordBytes z planes y) room work)) both
         (demand3-selection (λ q. some .0 q && asked r p q)))
 
   -- In an assessor's words: what is printed is less than 2^m away from what was recorded, m being the plane reported for its level, of no greater
   -- magnitude, and of the same sign unless it is 0.
-  pub printed-near : {planes : ℕ} {there : List PartName} {cut : ℕ} {result : Result Picture} (r : Rounded z planes pyramid there cut result)
+  pub printed-near : {planes : ℕ} {there part : List PartName} {cut : ℕ} {result : Result Picture} (r : Rounded z planes pyramid there part cut result)
       → (q : ℕ) → q < area z
       → Near (planeIn (r .picture .reached) (levelOf z q - 1)) (getD (r .picture .pyramid) q (pos 0)) (getD pyramid q (pos 0))
   unfolding magnitude negative
   printed-near r q l =
       let m = r .reports (levelOf z q) (level-least z (legal z (c .legal-size)) q l) (level-most z q) in
-      rw (m, r .values q l) (rounded-near _ (getD pyramid q (pos 0)))
+      rw (m, r .values q l) (near-above (rounded-under (r .rounds q l)) (rounded-near (r .plane q) (getD pyramid q (pos 0))))
 
 -- Coded, served for level r and plane p, and decoded: the parts with level ≥ r and plane ≥ p are there.
 pub demand3-served : (pyramid : List ℤ) (z : Size) (out code-work r p served room work : ℕ) (bytes : List ℕ) (x : Portion)
     → coding pyramid z out code-work ≡ accepted bytes → serving bytes r p served ≡ accepted x → Stated z room work
-    → Rounded z (planesIn pyramid) pyramid (names (kept (asked r p) (partsOf z pyramid))) 0 (decoding (x .bytes) room work)
+    → Rounded z (planesIn pyramid) pyramid (names (kept (asked r p) (partsOf z pyramid))) [] 0 (decoding (x .bytes) room work)
 unfolding recordOf partsOf
 demand3-served pyramid z out code-work r p served room work bytes x coded e sizes =
     let w = coding-codable pyramid z out code-work bytes coded in
@@ -132,5 +146,5 @@ demand3-served pyramid z out code-work r p served room work bytes x coded e size
     (coder-legal z (c .legal-size) (planesIn pyramid) pyramid) in
     let same : recordBytes z (planesIn pyramid) (kept (asked r p) (partsOf z pyramid)) ≡ x .bytes
     = ap (λ y. y .bytes) (served-read read (c .legal-size) (this-count c .few) r p served x (ap (λ y. serving y r p served) (sym (w .1)) ∙ e)) in
-    subst (λ y. Rounded z (planesIn pyramid) pyramid (names (kept (asked r p) (partsOf z pyramid))) 0 (decoding y room work)) same
+    subst (λ y. Rounded z (planesIn pyramid) pyramid (names (kept (asked r p) (partsOf z pyramid))) [] 0 (decoding y room work)) same
     (demand3-selection c (this-count c) room work sizes (asked r p))

@@ -1,37 +1,43 @@
 -- Each call has the outcome that its case says, and no other.
 use mathlib.Core.Path.{_≡_, refl, ap, sym, _∙_, subst}
 use mathlib.Core.List.{List, [], _∷_, _++_, map}
-use mathlib.Core.Bool.{Bool, true, false, cond, _&&_}
+use mathlib.Core.Bool.{Bool, true, false, cond, _&&_, true≢false}
 use mathlib.Core.Logic.{_≢_}
-use Prim.Native.Nat.{ℕ, _≤_}
+use Prim.Native.Nat.{ℕ, _≤_, _<_}
 use native.Mathlib.Omega.{arith}
 use lib.Dec.{leb, eqb}
 use lib.ListN.{length, replicate}
 use lib.IntN.{ℤ, pos}
 use borrow.Author.Tests.{leb-true, leb-false, le-leb, lt-leb, eqb-true, eqb-false, eq-eqb, ne-eqb}
 use Rattle.rules.specs.declared.Size.{Size}
+use Rattle.rules.specs.declared.Refusal.{Refusal}
 use Rattle.rules.specs.declared.Refusal.the-variants as refusal
 use Rattle.rules.specs.declared.Header.{Header}
 use Rattle.rules.specs.declared.HeaderRead.{HeaderRead}
 use Rattle.rules.specs.declared.HeaderRead.the-variants as header
 use Rattle.rules.specs.declared.Part.{Part}
+use Rattle.rules.specs.declared.PartRead.{PartRead}
+use Rattle.rules.specs.declared.PartRead.the-variants as part
 use Rattle.rules.specs.Document.Pyramid.{legalSize, area, family, mostMagnitude}
 use Rattle.rules.specs.Document.Passes.{Course, Reader, State, PartName, start, after, decoded}
-use Rattle.rules.specs.Document.Layout.{recordOf, bitAt, bodyOf, nameOf, usable}
-use Rattle.rules.specs.Document.Numbers.{readHeader, Ending, tail, fault, Reading, readParts, topLevel}
+use Rattle.rules.specs.Document.Layout.{recordOf, bitAt, bodyOf, bitsThere, nameOf, usable}
+use Rattle.rules.specs.Document.Numbers.{readHeader, Ending, tail, fault, Reading, readParts, behindFrom, behind, topLevel}
 use Rattle.rules.specs.Document.Calls.{Result, unless, workFor, firstOver, fitted, coding, onHeader, onEnding, legalAsk, servedBytes, Portion}
-use Rattle.rules.specs.Document.Calls.{portioned, serving, Progress, going, unfit, used, onward, decodeParts, Picture, pictured, decodedParts, decoding}
+use Rattle.rules.specs.Document.Calls.{portioned, serving}
+use Rattle.rules.specs.Document.Calls.{Progress, going, unfit, used, onward, decodeParts, usedCut, tailOnward, Picture, pictured, decodedParts}
+use Rattle.rules.specs.Document.Calls.{accepted, reachedPlanes, skippedCounts, decoding}
 use Rattle.rules.specs.Laws.Counting.Booleans.{clash, both-left, both-right, not-test}
 use Rattle.rules.specs.Laws.Family.Sizes.{legal, size-legal}
-use Rattle.rules.specs.Promises.Vocabulary.{Legal}
+use Rattle.rules.specs.Promises.Vocabulary.{Legal, Usable}
 use Rattle.rules.specs.Laws.Reading.Usable.{usable-every, every-usable}
 use Rattle.rules.specs.Laws.Rounding.Planes.{under-first, first-over, none-over, over-first}
 use Rattle.rules.specs.Laws.Reading.Stands.{readHeader-stands, header-within}
 use Rattle.rules.specs.Laws.Calls.Results.{unless-case, onHeader-case, onEnding-case}
-use Rattle.rules.specs.Laws.Reading.PartCases.{failed, header-case, header-is}
+use Rattle.rules.specs.Laws.Reading.PartCases.{failed, header-case, header-is, part-is}
 use Rattle.rules.specs.Laws.Reading.Walk.{parts-case, parts-is}
 use Rattle.rules.specs.Promises.Refusals.{InRange, LegalAsk, HeaderCase, Parts, FirstUnfit, CodingCase, SIZE, LENGTH, WORK, RANGE, ROOM, CODED}
-use Rattle.rules.specs.Promises.Refusals.{ServingCase, HEADER, ASK, PARTS, SERVED, DecodingCase, FIT, DECODED}
+use Rattle.rules.specs.Promises.Refusals.{ServingCase, HEADER, ASK, PARTS, SERVED, DecodingCase, FIT, CUT-FIT, DECODED}
+use Rattle.rules.specs.Promises.Refusals.{Walk, MORE, FAULT, Fitting, CutUsable, cutCourse, TailCase, UNUSED, USED}
 
 -- Coding.
 module _ (pyramid : List ℤ) (z : Size) (room work : ℕ) where
@@ -132,7 +138,7 @@ module _ (h : Header) (s : List ℕ) (there : List PartName) where
   usable-part p = usable (topLevel h) (h .planes) there (nameOf p)
 
   abbrev course : Part → State → List ℤ → Course Reader
-  course p st v = decoded (family (h .size)) (nameOf p) (bitAt (bodyOf s p)) st v
+  course p st v = decoded (family (h .size)) (nameOf p) (bitAt (bodyOf s p)) (bitsThere s p) st v
 
   pub decodeParts-append : (ps qs : List Part) (g : Progress)
       → decodeParts h s there (ps ++ qs) g ≡ decodeParts h s there qs (decodeParts h s there ps g)
@@ -199,6 +205,58 @@ module _ (h : Header) (s : List ℕ) (there : List PartName) where
             stops = f .stops;
           }
 
+-- What stands behind the parts: a fault is met there, and a part that is cut is used where it can be.
+fault-behind : (h : Header) (s : List ℕ) {before : PartName} {place : ℕ} {ps : List Part} (r : Refusal) → Walk h s before place ps (fault r)
+    → behindFrom h s before place ps ≡ part.Refused r
+unfolding behindFrom
+fault-behind h s r (MORE c w) = fault-behind h s r w
+fault-behind h s r (FAULT {before = before} {place = place} c) = part-is h s before place _ c
+
+cut-same : (p q : Part) → part.Cut p ≡ part.Cut q → p ≡ q
+cut-same p q e = cc
+
+module _ (h : Header) (s : List ℕ) where
+  tail-fault : (there : List PartName) (x : PartRead) (g : Progress) {r : Refusal} → x ≡ part.Refused r → tailOnward h s there x g ≡ g
+  unfolding tailOnward
+  tail-fault there x g e = rw e
+
+  pub tail-unfit : (there : List PartName) (x : PartRead) (at : ℕ) → tailOnward h s there x (unfit at) ≡ unfit at
+  unfolding tailOnward
+  tail-unfit there (part.Part p) at = refl
+  tail-unfit there (part.Cut p) at = refl
+  tail-unfit there part.Tail at = refl
+  tail-unfit there (part.Refused r) at = refl
+
+  module _ (ps : List Part) (st : State) (v : List ℤ) where
+    abbrev onward-tail : Progress
+    onward-tail = tailOnward h s (map nameOf ps) (behind h s ps) (going st v)
+
+    tail-unused : ((p : Part) → ¬ CutUsable h s ps p) → onward-tail ≡ going st v
+    unfolding tailOnward
+    tail-unused n = by (behind h s ps) refl
+      where
+        by : (x : PartRead) → behind h s ps ≡ x → tailOnward h s (map nameOf ps) x (going st v) ≡ going st v
+        by (part.Part p) e = refl
+        by (part.Cut p) e =
+            let none : usable (topLevel h) (h .planes) (map nameOf ps ++ (nameOf p ∷ [])) (nameOf p) ≡ false
+            = not-test _ (λ u. n p (record { stands = e; usable = usable-every _ _ _ _ u })) in
+            rw none
+        by part.Tail e = refl
+        by (part.Refused r) e = refl
+
+    module _ (p : Part) (u : CutUsable h s ps p) where
+      cut-test : usable (topLevel h) (h .planes) (map nameOf ps ++ (nameOf p ∷ [])) (nameOf p) ≡ true
+      cut-test = every-usable _ _ _ _ (u .usable)
+
+      tail-used : bitsThere s p ≤ cutCourse h s p st v .side .taken
+          → onward-tail ≡ going (after (p .level .0) (cutCourse h s p st v) st) (cutCourse h s p st v .side .pyramid)
+      unfolding tailOnward usedCut
+      tail-used l = rw (u .stands, cut-test, le-leb (bitsThere s p) (cutCourse h s p st v .side .taken) l)
+
+      tail-short : cutCourse h s p st v .side .taken < bitsThere s p → onward-tail ≡ unfit (p .place)
+      unfolding tailOnward usedCut
+      tail-short l = rw (u .stands, cut-test, lt-leb (bitsThere s p) (cutCourse h s p st v .side .taken) l)
+
 module _ (s : List ℕ) (room work : ℕ) where
   abbrev decodes : Result Picture → Type 0
   decodes = DecodingCase s room work
@@ -224,17 +282,52 @@ module _ (s : List ℕ) (room work : ℕ) where
           placed = o .2;
         }
 
-    decodedParts-case : (r : Reading) → Parts h s (r .parts) (r .ending) → decodes (decodedParts h s r)
-    unfolding decodedParts pictured
-    decodedParts-case r w = cases (decodeParts h s (map nameOf (r .parts)) (r .parts) (begun h)) refl
+    tail-case : (ps : List Part) (t : ℕ) (st : State) (v : List ℤ) → Parts h s ps (tail t) → Fitting h s ps ps st v
+        → decodes (pictured h (map nameOf ps) (tail t) (tailOnward h s (map nameOf ps) (behind h s ps) (going st v)))
+    unfolding pictured onEnding
+    tail-case ps t st v w f = cases (behind h s ps) refl
       where
-        cases : (g : Progress) → decodeParts h s (map nameOf (r .parts)) (r .parts) (begun h) ≡ g
-            → decodes (pictured h (map nameOf (r .parts)) (r .ending) g)
-        cases (unfit at) e = FIT H L K w (unfit-first (r .parts) at e)
-        cases (going st v) e =
-            onEnding-case decodes (r .ending) _
-            (λ why q. PARTS H L K (subst (Parts h s (r .parts)) q w) (record { comes-to = e }))
-            (λ t q. DECODED H L K (subst (Parts h s (r .parts)) q w) (record { comes-to = e }))
+        unused : ((p : Part) → behind h s ps ≡ part.Cut p → ⊥) → decodes (pictured h (map nameOf ps) (tail t) (going st v))
+        unused d = DECODED H L K w f (UNUSED (λ p u. d p (u .stands)))
+
+        cut : (p : Part) → behind h s ps ≡ part.Cut p → (a : Bool) → usable (topLevel h) (h .planes) (map nameOf ps ++ (nameOf p ∷ [])) (nameOf p) ≡ a
+            → (b : Bool) → leb (bitsThere s p) (cutCourse h s p st v .side .taken) ≡ b
+            → decodes (pictured h (map nameOf ps) (tail t)
+            (cond a
+            (cond b (going (after (p .level .0) (cutCourse h s p st v) st) (cutCourse h s p st v .side .pyramid)) (unfit (p .place)))
+            (going st v)))
+        cut p e true u true b = DECODED H L K w f (USED (record { stands = e; usable = usable-every _ _ _ _ u }) (leb-true _ _ b))
+        cut p e true u false b = CUT-FIT H L K w f (record { stands = e; usable = usable-every _ _ _ _ u }) (leb-false _ _ b)
+        cut p e false u b c =
+            DECODED H L K w f (UNUSED (λ q i.
+            let same : q ≡ p = cut-same q p (sym (i .stands) ∙ e) in
+            let could : Usable (topLevel h) (h .planes) (map nameOf ps ++ (nameOf p ∷ [])) (nameOf p)
+            = subst (λ x. Usable (topLevel h) (h .planes) (map nameOf ps ++ (nameOf x ∷ [])) (nameOf x)) same (i .usable) in
+            true≢false (sym (every-usable _ _ _ _ could) ∙ u)))
+
+        cases : (x : PartRead) → behind h s ps ≡ x → decodes (pictured h (map nameOf ps) (tail t) (tailOnward h s (map nameOf ps) x (going st v)))
+        cases (part.Part p) e = unfold tailOnward in unused (λ q i. clash (cc))
+        cases (part.Cut p) e =
+            unfold tailOnward usedCut in
+            cut p e (usable (topLevel h) (h .planes) (map nameOf ps ++ (nameOf p ∷ [])) (nameOf p)) refl
+            (leb (bitsThere s p) (cutCourse h s p st v .side .taken)) refl
+        cases part.Tail e = unfold tailOnward in unused (λ q i. clash (cc))
+        cases (part.Refused r) e = unfold tailOnward in unused (λ q i. clash (cc))
+
+    decodedParts-case : (r : Reading) → Parts h s (r .parts) (r .ending) → decodes (decodedParts h s r)
+    unfolding decodedParts pictured onEnding
+    decodedParts-case r w = cases (decodeParts h s (map nameOf (r .parts)) (r .parts) (begun h)) refl (r .ending) refl
+      where
+        cases : (g : Progress) → decodeParts h s (map nameOf (r .parts)) (r .parts) (begun h) ≡ g → (e : Ending) → r .ending ≡ e
+            → decodes (pictured h (map nameOf (r .parts)) e (tailOnward h s (map nameOf (r .parts)) (behind h s (r .parts)) g))
+        cases (unfit at) e x q =
+            rw (tail-unfit h s (map nameOf (r .parts)) (behind h s (r .parts)) at)
+            (FIT H L K w (unfit-first (r .parts) at e))
+        cases (going st v) e (tail t) q = tail-case (r .parts) t st v (subst (Parts h s (r .parts)) q w) (record { comes-to = e })
+        cases (going st v) e (fault why) q =
+            let x : Parts h s (r .parts) (fault why) = subst (Parts h s (r .parts)) q w in
+            rw (tail-fault h s (map nameOf (r .parts)) (behind h s (r .parts)) (going st v) (fault-behind h s why x))
+            (PARTS H L K x (record { comes-to = e }))
 
   pub decoding-case : DecodingCase s room work (decoding s room work)
   unfolding decoding
@@ -248,7 +341,9 @@ module _ (s : List ℕ) (room work : ℕ) where
 
   -- where the parts are read
   decoding-parts : (h : Header) (ps : List Part) (e : Ending) → HeaderCase s (header.Header h) → room ≡ area (h .size) → workFor (h .size) ≤ work
-      → Parts h s ps e → decoding s room work ≡ pictured h (map nameOf ps) e (decodeParts h s (map nameOf ps) ps (begun h))
+      → Parts h s ps e
+      → decoding s room work
+      ≡ pictured h (map nameOf ps) e (tailOnward h s (map nameOf ps) (behind h s ps) (decodeParts h s (map nameOf ps) ps (begun h)))
   unfolding decoding onHeader unless decodedParts
   decoding-parts h ps e c L K w =
       rw (header-is s _ c, eq-eqb room (area (h .size)) L, le-leb (workFor (h .size)) work K, parts-of s h ps e c w)
@@ -269,9 +364,25 @@ module _ (s : List ℕ) (room work : ℕ) where
   decoding-is x (HEADER c) = rw (header-is s _ c)
   decoding-is x (LENGTH {h = h} c n) = rw (header-is s _ c, ne-eqb room (area (h .size)) n)
   decoding-is x (WORK {h = h} c L k) = rw (header-is s _ c, eq-eqb room (area (h .size)) L, lt-leb (workFor (h .size)) work k)
-  decoding-is x (PARTS {h = h} {ps = ps} {why = why} c L K w f) =
-      decoding-parts h ps (fault why) c L K w ∙ ap (pictured h (map nameOf ps) (fault why)) (f .comes-to)
+  decoding-is x (PARTS {h = h} {ps = ps} {st = st} {v = v} {why = why} c L K w f) =
+      decoding-parts h ps (fault why) c L K w
+      ∙ ap (λ g. pictured h (map nameOf ps) (fault why) (tailOnward h s (map nameOf ps) (behind h s ps) g)) (f .comes-to)
+      ∙ ap (pictured h (map nameOf ps) (fault why)) (tail-fault h s (map nameOf ps) (behind h s ps) (going st v) (fault-behind h s why w))
   decoding-is x (FIT {h = h} {ps = ps} {e = e} {at = at} c L K w f) =
-      decoding-parts h ps e c L K w ∙ ap (pictured h (map nameOf ps) e) (first-unfit h ps at f)
-  decoding-is x (DECODED {h = h} {ps = ps} {t = t} c L K w f) =
-      decoding-parts h ps (tail t) c L K w ∙ ap (pictured h (map nameOf ps) (tail t)) (f .comes-to)
+      decoding-parts h ps e c L K w
+      ∙ ap (λ g. pictured h (map nameOf ps) e (tailOnward h s (map nameOf ps) (behind h s ps) g)) (first-unfit h ps at f)
+      ∙ ap (pictured h (map nameOf ps) e) (tail-unfit h s (map nameOf ps) (behind h s ps) at)
+  decoding-is x (CUT-FIT {h = h} {ps = ps} {t = t} {st = st} {v = v} {p = p} c L K w f u l) =
+      decoding-parts h ps (tail t) c L K w
+      ∙ ap (λ g. pictured h (map nameOf ps) (tail t) (tailOnward h s (map nameOf ps) (behind h s ps) g)) (f .comes-to)
+      ∙ ap (pictured h (map nameOf ps) (tail t)) (tail-short h s ps st v p u l)
+  decoding-is x (DECODED {h = h} {ps = ps} {t = t} {st = st} {v = v} c L K w f i) =
+      decoding-parts h ps (tail t) c L K w
+      ∙ ap (λ g. pictured h (map nameOf ps) (tail t) (tailOnward h s (map nameOf ps) (behind h s ps) g)) (f .comes-to)
+      ∙ tail-is i
+    where
+      tail-is : {v′ : List ℤ} → TailCase h s ps st v v′
+          → pictured h (map nameOf ps) (tail t) (tailOnward h s (map nameOf ps) (behind h s ps) (going st v))
+          ≡ accepted (record { pyramid = v′; tail = t; reached = reachedPlanes h (map nameOf ps); skipped = skippedCounts h (map nameOf ps) })
+      tail-is (UNUSED n) = ap (pictured h (map nameOf ps) (tail t)) (tail-unused h s ps st v n)
+      tail-is (USED {p = p} u l) = ap (pictured h (map nameOf ps) (tail t)) (tail-used h s ps st v p u l)

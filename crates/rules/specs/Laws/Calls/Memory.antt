@@ -20,8 +20,8 @@ use Rattle.rules.specs.declared.Decoded.{Decoded}
 use Rattle.rules.specs.declared.Header.{Header}
 use Rattle.rules.specs.declared.HeaderRead.the-variants as header
 use Rattle.rules.specs.Document.Notation.{flat, zeros}
-use Rattle.rules.specs.Document.Pyramid.{area, levels, levelOf, magnitude, negative, mostPlanes, legalSize}
-use Rattle.rules.specs.Document.Passes.{PartName, signed, from}
+use Rattle.rules.specs.Document.Pyramid.{area, levels, levelOf, mostPlanes, legalSize}
+use Rattle.rules.specs.Document.Passes.{PartName, from}
 use Rattle.rules.specs.Document.Layout.{CodedPart, partsWith, recordWith, planesIn, recordOf, headerBytes, partBytes, packed, bodyOf, nameOf, reached}
 use Rattle.rules.specs.Document.Numbers.{verdictNumber, verdictPlace, readHeader, readParts, headed}
 use Rattle.rules.specs.Document.Calls.{workFor, unless, legalAsk, portioned, Result, refused, accepted, Portion, Picture, coding, serving, decoding}
@@ -38,8 +38,8 @@ use Rattle.rules.specs.Laws.Calls.Results.{number-accepts}
 use Rattle.rules.specs.Laws.Counting.Booleans.{selection-both}
 use Rattle.rules.specs.Laws.Bytes.BodyBack.{packed-length, packed-clear, packed-bit, first-length, body-bit}
 use Rattle.rules.specs.Promises.Vocabulary.{bitsFrom, headerOf, partAt, selection, recordBytes, Codable, PlaneCount, Stated, enoughRoom, names, kept}
-use Rattle.rules.specs.Promises.Vocabulary.{asked, wholeIn, tailIn, arrived, towardZero, Rounded, ReadsAs, partsIn, keptIn, Selected, wholeParts}
-use Rattle.rules.specs.Promises.Vocabulary.{cutBytes, Recorded, Serves, Decodes, planesTold, planesAnswered, countsTold, countsAnswered}
+use Rattle.rules.specs.Promises.Vocabulary.{asked, wholeIn, tailIn, cutIn, arrived, RoundedAt, Rounded, ReadsAs, partsIn, keptIn, Selected, wholeParts}
+use Rattle.rules.specs.Promises.Vocabulary.{cutBytes, cutParts, Recorded, Serves, Decodes, planesTold, planesAnswered, countsTold, countsAnswered}
 use Rattle.rules.specs.Laws.Bytes.PartBack.{part-body}
 use Rattle.rules.specs.Laws.Bytes.RecordBack.{beforeAll, parts-map}
 use Rattle.rules.specs.Laws.Rounding.Arrival.{header-read, parts-stand, AllThere, CutIn, all-or-cut, arrived-reads, arrived-selection, legal-order}
@@ -170,6 +170,9 @@ module _ {z : Size} {planes : ℕ} {pyramid : List ℤ} {bytes : List ℕ} (w : 
     whole-is : wholeParts x ≡ wholeIn (x .more) some
     whole-is = ap (λ ps. wholeIn (x .more) (kept (x .keep) ps)) (selected-parts recorded-reads (c .legal-size) (w .count .few) x)
 
+    cut-parts-are : cutParts x ≡ cutIn (x .more) some
+    cut-parts-are = ap (λ ps. cutIn (x .more) (kept (x .keep) ps)) (selected-parts recorded-reads (c .legal-size) (w .count .few) x)
+
     cut-is : cutBytes x ≡ tailIn (x .more) some
     cut-is = ap (λ ps. tailIn (x .more) (kept (x .keep) ps)) (selected-parts recorded-reads (c .legal-size) (w .count .few) x)
 
@@ -181,7 +184,7 @@ module _ {z : Size} {planes : ℕ} {pyramid : List ℤ} {bytes : List ℕ} (w : 
 
     -- A selection of it is one of the record.
     pub selected-again : {t : List ℕ} (y : Selected s t)
-        → (again : Selected bytes t) × (wholeParts again ≡ wholeParts y) × (cutBytes again ≡ cutBytes y)
+        → (again : Selected bytes t) × (wholeParts again ≡ wholeParts y) × (cutBytes again ≡ cutBytes y) × (cutParts again ≡ cutParts y)
     selected-again {t} y =
         let left : (left : PartName → Bool) × (kept left (partsWith z planes pyramid) ≡ wholeIn (x .more) some)
         = arrived-selection (x .keep) (x .more) (beforeAll planes) (partsWith z planes pyramid)
@@ -202,7 +205,7 @@ module _ {z : Size} {planes : ℕ} {pyramid : List ℤ} {bytes : List ℕ} (w : 
         } in
         let parts : kept both (partsIn (headerOf z planes) bytes) ≡ kept (y .keep) (partsIn (y .head) s)
         = ap (kept both) (parts-in recorded-reads) ∙ same ∙ ap (kept (y .keep)) (sym ys) in
-        (again, ap (wholeIn (y .more)) parts, ap (tailIn (y .more)) parts)
+        (again, ap (wholeIn (y .more)) parts, ap (tailIn (y .more)) parts, ap (cutIn (y .more)) parts)
 
 -- Serving.
 all-there : (ps : List CodedPart) → AllThere (length (flat partBytes ps)) ps
@@ -304,14 +307,14 @@ module _ {s : List ℕ} {r p : ℕ} {out : List ℕ} {answer : Served} {out′ :
 -- Decoding.
 module _ {z : Size} {planes : ℕ} {pyramid : List ℤ} {bytes : List ℕ} (w : Recorded z planes pyramid bytes) {s : List ℕ} (x : Selected bytes s) where
   selected-rounded : (room work : ℕ) → Stated z room work
-      → Rounded z planes pyramid (names (wholeParts x)) (cutBytes x) (decoding s room work)
+      → Rounded z planes pyramid (names (wholeParts x)) (names (cutParts x)) (cutBytes x) (decoding s room work)
   selected-rounded room work sizes =
-      subst (λ t. Rounded z planes pyramid (names (wholeParts x)) (cutBytes x) (decoding t room work)) (sym (s-is w x))
-      (rw (whole-is w x, cut-is w x) (demand3 (w .codable) (w .count) room work sizes (x .keep) (x .more)))
+      subst (λ t. Rounded z planes pyramid (names (wholeParts x)) (names (cutParts x)) (cutBytes x) (decoding t room work)) (sym (s-is w x))
+      (rw (whole-is w x, cut-parts-are w x, cut-is w x) (demand3 (w .codable) (w .count) room work sizes (x .keep) (x .more)))
 
   module _ {out : List ℤ} {work : List ℕ} {answer : Decoded} {out′ : List ℤ} {work′ : List ℕ} (d : Decoding s out work answer out′ work′)
       (sizes : Stated z (length out) (length work)) where
-    abbrev rounded : Rounded z planes pyramid (names (wholeParts x)) (cutBytes x) (decoding s (length out) (length work))
+    abbrev rounded : Rounded z planes pyramid (names (wholeParts x)) (names (cutParts x)) (cutBytes x) (decoding s (length out) (length work))
     rounded = selected-rounded (length out) (length work) sizes
 
     abbrev its-picture : Picture
@@ -326,16 +329,21 @@ module _ {z : Size} {planes : ℕ} {pyramid : List ℤ} {bytes : List ℕ} (w : 
     unfolding decodeOut
     decoding-printed = d .writes ∙ ap (decodeOut (length out)) (rounded .accepts)
 
-    pub decoding-decodes : Decodes z planes pyramid (names (wholeParts x)) (cutBytes x) (verdictNumber (answer .verdict)) (verdictPlace (answer .verdict))
+    pub decoding-decodes : Decodes z planes pyramid (names (wholeParts x)) (names (cutParts x)) (cutBytes x)
+        (verdictNumber (answer .verdict)) (verdictPlace (answer .verdict))
         (answer .tail) (planesAnswered answer) (countsAnswered answer) out′ work work′
     decoding-decodes =
-        subst₂ (λ (a : Decoded) o. Decodes z planes pyramid (names (wholeParts x)) (cutBytes x) (verdictNumber (a .verdict)) (verdictPlace (a .verdict))
+        subst₂ (λ (a : Decoded) o. Decodes z planes pyramid (names (wholeParts x)) (names (cutParts x)) (cutBytes x)
+        (verdictNumber (a .verdict)) (verdictPlace (a .verdict))
         (a .tail) (planesAnswered a) (countsAnswered a) o work work′) (sym decoding-answered) (sym decoding-printed)
         (record {
           accepts = refl;
           nowhere = refl;
           sized = rounded .sized;
-          values = λ q l. rounded .values q l ∙ ap (λ m. signed (negative pyramid q) (towardZero m (magnitude pyramid q))) (sym (level-told q l));
+          rounded-at = rounded .plane;
+          rounds = λ q l.
+              subst (λ (m : ℕ). RoundedAt (names (cutParts x)) (levelOf z q) m (rounded .plane q)) (sym (level-told q l)) (rounded .rounds q l);
+          values = rounded .values;
           near = printed-near (w .codable) rounded;
           reports = rounded .reports;
           beyond = rounded .beyond;
@@ -402,7 +410,8 @@ module _ (a : Decoded) (rest : List ℕ) (k : ℕ) where
 module _ {z : Size} {planes : ℕ} {pyramid : List ℤ} {bytes : List ℕ} (w : Recorded z planes pyramid bytes) {s : List ℕ} (x : Selected bytes s) {out : List ℤ}
     {work answer : List ℕ} {number : ℕ} {out′ : List ℤ} {work′ answer′ : List ℕ} (d : AfsDecode s out work answer number out′ work′ answer′)
     (sizes : Stated z (length out) (length work)) (places : decodePlaces ≤ length answer) where
-  pub afsDecode-prints : Decodes z planes pyramid (names (wholeParts x)) (cutBytes x) number (getD answer′ 1 0) (getD answer′ 2 0) (planesTold answer′)
+  pub afsDecode-prints : Decodes z planes pyramid (names (wholeParts x)) (names (cutParts x)) (cutBytes x)
+      number (getD answer′ 1 0) (getD answer′ 2 0) (planesTold answer′)
       (countsTold answer′) out′ work work′
   unfolding decodeNumbers
   afsDecode-prints =
@@ -415,34 +424,41 @@ module _ {z : Size} {planes : ℕ} {pyramid : List ℤ} {bytes : List ℕ} (w : 
       let counts-told : (k : ℕ) → countsTold (decodeNumbers (a .0) ++ rest) k ≡ countsAnswered (a .0) k
       = λ k. told-count (a .0) rest k (λ l. y .skips-beyond k (omega arith)) in
       subst₂ (λ (n : ℕ) (t : List ℕ).
-      Decodes z planes pyramid (names (wholeParts x)) (cutBytes x) n (getD t 1 0) (getD t 2 0) (planesTold t) (countsTold t) out′ work work′)
+      Decodes z planes pyramid (names (wholeParts x)) (names (cutParts x)) (cutBytes x)
+      n (getD t 1 0) (getD t 2 0) (planesTold t) (countsTold t) out′ work work′)
       (sym (a .2)) (sym (a .3))
       (subst₂ (λ (f g : ℕ → ℕ).
-      Decodes z planes pyramid (names (wholeParts x)) (cutBytes x) (verdictNumber (a .0 .verdict)) (verdictPlace (a .0 .verdict)) (a .0 .tail) f g out′
+      Decodes z planes pyramid (names (wholeParts x)) (names (cutParts x)) (cutBytes x)
+      (verdictNumber (a .0 .verdict)) (verdictPlace (a .0 .verdict)) (a .0 .tail) f g out′
       work work′)
       (λ i k. sym (planes-told k) i) (λ i k. sym (counts-told k) i) y)
 
 -- What holds of every selection of the record holds of a selection of one.
 module _ {z : Size} {planes : ℕ} {pyramid : List ℤ} {bytes s t : List ℕ} (w : Recorded z planes pyramid bytes) (x : Selected bytes s) (y : Selected s t) where
-  holds-again : (P : List PartName → ℕ → Type 0) → ((u : Selected bytes t) → P (names (wholeParts u)) (cutBytes u)) → P (names (wholeParts y)) (cutBytes y)
-  holds-again P each = let again = selected-again w x y in subst₂ (λ ps n. P (names ps) n) (again .1) (again .2) (each (again .0))
+  holds-again : (P : List PartName → List PartName → ℕ → Type 0)
+      → ((u : Selected bytes t) → P (names (wholeParts u)) (names (cutParts u)) (cutBytes u)) → P (names (wholeParts y)) (names (cutParts y)) (cutBytes y)
+  holds-again P each =
+      let again = selected-again w x y in
+      subst (λ c. P (names (wholeParts y)) (names c) (cutBytes y)) (again .3)
+      (subst₂ (λ ps n. P (names ps) (names (cutParts (again .0))) n) (again .1) (again .2) (each (again .0)))
 
   pub decoding-again : {out : List ℤ} {work : List ℕ} {answer : Decoded} {out′ : List ℤ} {work′ : List ℕ} → Decoding t out work answer out′ work′
       → Stated z (length out) (length work)
-      → Decodes z planes pyramid (names (wholeParts y)) (cutBytes y) (verdictNumber (answer .verdict)) (verdictPlace (answer .verdict)) (answer .tail)
+      → Decodes z planes pyramid (names (wholeParts y)) (names (cutParts y)) (cutBytes y)
+      (verdictNumber (answer .verdict)) (verdictPlace (answer .verdict)) (answer .tail)
       (planesAnswered answer) (countsAnswered answer) out′ work work′
   decoding-again {work = work} {answer = a} {out′ = out′} {work′ = work′} d sizes =
-      holds-again (λ ps n.
-      Decodes z planes pyramid ps n (verdictNumber (a .verdict)) (verdictPlace (a .verdict)) (a .tail) (planesAnswered a) (countsAnswered a) out′
+      holds-again (λ ps c n.
+      Decodes z planes pyramid ps c n (verdictNumber (a .verdict)) (verdictPlace (a .verdict)) (a .tail) (planesAnswered a) (countsAnswered a) out′
       work work′) (λ u. decoding-decodes w u d sizes)
 
   pub afsDecode-again : {out : List ℤ} {work answer : List ℕ} {number : ℕ} {out′ : List ℤ} {work′ answer′ : List ℕ}
       → AfsDecode t out work answer number out′ work′ answer′ → Stated z (length out) (length work) → decodePlaces ≤ length answer
-      → Decodes z planes pyramid (names (wholeParts y)) (cutBytes y) number (getD answer′ 1 0) (getD answer′ 2 0) (planesTold answer′)
+      → Decodes z planes pyramid (names (wholeParts y)) (names (cutParts y)) (cutBytes y) number (getD answer′ 1 0) (getD answer′ 2 0) (planesTold answer′)
       (countsTold answer′) out′ work work′
   afsDecode-again {work = work} {number = number} {out′ = out′} {work′ = work′} {answer′ = answer′} d sizes places =
-      holds-again (λ ps n.
-      Decodes z planes pyramid ps n number (getD answer′ 1 0) (getD answer′ 2 0) (planesTold answer′) (countsTold answer′) out′ work work′) (λ u.
+      holds-again (λ ps c n.
+      Decodes z planes pyramid ps c n number (getD answer′ 1 0) (getD answer′ 2 0) (planesTold answer′) (countsTold answer′) out′ work work′) (λ u.
       afsDecode-prints w u d sizes places)
 
 -- With nothing left out and nothing cut.

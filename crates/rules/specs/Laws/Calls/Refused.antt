@@ -28,7 +28,7 @@ use Rattle.rules.specs.Document.Calls.{codeOut, codeAnswer, serveOut, se
 use Rattle.rules.specs.Promises.Vocabulary.{among, codingNumbers, servingNumbers, decodingNumbers, Exactly}
 use Rattle.rules.specs.Promises.Refusals.{HeaderCase, HEAD, LONGFORM, VERSION, HEAD-later, LONGFORM-later, SIZE, PartCase, PART-malformed, PART, PAD}
 use Rattle.rules.specs.Promises.Refusals.{Walk, MORE, FAULT, CodingCase, LENGTH, WORK, RANGE, ROOM, CODED, ServingCase, HEADER, ASK, PARTS, SERVED}
-use Rattle.rules.specs.Promises.Refusals.{DecodingCase, FIT, DECODED}
+use Rattle.rules.specs.Promises.Refusals.{DecodingCase, FIT, CUT-FIT, DECODED}
 use Rattle.rules.specs.Laws.Calls.Results.{refusal-some}
 use Rattle.rules.specs.Laws.Calls.Cases.{coding-case, coding-is, serving-case, serving-is, decoding-case, decoding-is}
 
@@ -144,7 +144,8 @@ decoding-gives (LENGTH c n) = refl
 decoding-gives (WORK c L k) = refl
 decoding-gives (PARTS c L K w f) = parts-gives (among decodingNumbers) refl refl refl w
 decoding-gives (FIT c L K w f) = refl
-decoding-gives (DECODED c L K w f) = refl
+decoding-gives (CUT-FIT c L K w f u l) = refl
+decoding-gives (DECODED c L K w f t) = refl
 
 pub code-verdict : (y : Result (List ℕ)) → codeAnswer y .verdict ≡ verdictOf y
 unfolding codeAnswer verdictOf

@@ -1,7 +1,7 @@
 -- Demand 2, for Promises/Two: the coder's record has every part, what is served of it, and that with every part there every level reaches plane 0
 -- and none is skipped, so that a whole record decodes to the pyramid.
 use mathlib.Core.Path.{_≡_, refl, ap, sym, _∙_, subst}
-use mathlib.Core.List.{List}
+use mathlib.Core.List.{List, []}
 use mathlib.Core.Bool.{Bool, true}
 use Prim.Native.Nat.{ℕ, suc, _-_, _≤_, _<_}
 use native.Mathlib.Omega.{arith}
@@ -13,8 +13,8 @@ use borrow.Author.Tests.{leb-true}
 use Rattle.rules.specs.declared.Size.{Size}
 use Rattle.rules.specs.declared.Plane.{Plane}
 use Rattle.rules.specs.declared.Refusal.the-variants as refusal
-use Rattle.rules.specs.Document.Notation.{zeros}
-use Rattle.rules.specs.Document.Pyramid.{levels, levelOf, family, magnitude, negative}
+use Rattle.rules.specs.Document.Notation.{any, every, zeros}
+use Rattle.rules.specs.Document.Pyramid.{area, levels, levelOf, family, magnitude, negative}
 use Rattle.rules.specs.Document.Passes.{PartName, partNames, start}
 use Rattle.rules.specs.Document.Layout.{partsWith, recordWith, earlierPlanesIn, recordOf, usable, reached}
 use Rattle.rules.specs.Document.Calls.{accepted, unless, legalAsk, portioned, serving, levelPlaces, planeIn, countIn, decoding}
@@ -29,7 +29,7 @@ use Rattle.rules.specs.Laws.Rounding.TowardZero.{toward-all, signed-itse
 use Rattle.rules.specs.Laws.Rounding.Arrival.{record-reads, arrived-reads, selection-all}
 use Rattle.rules.specs.Laws.Rounding.Run.{coder-legal, kept-legal}
 use Rattle.rules.specs.Laws.Serving.Parts.{serves-read}
-use Rattle.rules.specs.Laws.Calls.Arrived.{this-count, earlier-count, demand3-selection}
+use Rattle.rules.specs.Laws.Calls.Arrived.{rounded-under, this-count, earlier-count, demand3-selection}
 
 -- The record has a part for every plane and every level, planes downward and levels downward in a plane.
 pub demand2-names : (z : Size) (planes : ℕ) (pyramid : List ℤ) → names (partsWith z planes pyramid) ≡ partNames (levels z) planes
@@ -83,12 +83,12 @@ module _ {z : Size} {pyramid : List ℤ} (c : Codable z pyramid) {planes : ℕ} 
 
   -- A whole record decodes to the pyramid, every level to plane 0, and no part is skipped.
   module _ (room work : ℕ) (sizes : Stated z room work) where
-    whole : Rounded z planes pyramid (partNames (levels z) planes) 0 (decoding (recordWith z planes pyramid) room work)
+    whole : Rounded z planes pyramid (partNames (levels z) planes) [] 0 (decoding (recordWith z planes pyramid) room work)
     whole =
         let every-part : kept (λ p. true) (partsWith z planes pyramid) ≡ partsWith z planes pyramid
         = selection-all (λ p. true) (partsWith z planes pyramid) (all-of _ (partsWith z planes pyramid) (λ p. refl)) in
-        subst (λ x. Rounded z planes pyramid x 0 (decoding (recordWith z planes pyramid) room work)) (demand2-names z planes pyramid)
-        (subst (λ x. Rounded z planes pyramid (names x) 0 (decoding (recordBytes z planes x) room work)) every-part
+        subst (λ x. Rounded z planes pyramid x [] 0 (decoding (recordWith z planes pyramid) room work)) (demand2-names z planes pyramid)
+        (subst (λ x. Rounded z planes pyramid (names x) [] 0 (decoding (recordBytes z planes x) room work)) every-part
         (demand3-selection c count room work sizes (λ p. true)))
 
     reached0 : (i : ℕ) → planeIn (whole .picture .reached) i ≡ 0
@@ -114,8 +114,9 @@ module _ {z : Size} {pyramid : List ℤ} (c : Codable z pyramid) {planes : ℕ} 
     same-value : (q : ℕ) → q < length (whole .picture .pyramid) → getD (whole .picture .pyramid) q (pos 0) ≡ getD pyramid q (pos 0)
     unfolding magnitude negative
     same-value q l =
-        whole .values q (omega (arith, whole .sized))
-        ∙ rw (all-reached (levels z) planes (levelOf z q), toward-all (magnitude pyramid q)) (signed-itself (getD pyramid q (pos 0)))
+        let in-picture : q < area z = omega (arith, whole .sized) in
+        let none : whole .plane q ≡ 0 = omega (arith, rounded-under (whole .rounds q in-picture), all-reached (levels z) planes (levelOf z q)) in
+        whole .values q in-picture ∙ rw (none, toward-all (magnitude pyramid q)) (signed-itself (getD pyramid q (pos 0)))
 
     same-plane : (i : ℕ) → i < length (whole .picture .reached)
         → getD (whole .picture .reached) i (record { 0 = 0 }) ≡ getD (replicate levelPlaces (record { 0 = 0 })) i (record { 0 = 0 })

@@ -1,15 +1,17 @@
 -- A walk is what its side says and tells; the decoder, on the bits that the coder spoke, tells the coder's outcomes and makes its lists.
 use mathlib.Core.Path.{_≡_, refl, ap, ap₂, sym, _∙_}
 use mathlib.Core.List.{List, [], _∷_, _++_, append-assoc, append-nil}
-use mathlib.Core.Bool.{Bool, false}
+use mathlib.Core.Bool.{Bool, true, false, cond}
 use mathlib.Core.Logic.{_↔_}
 use Prim.Native.Nat.{ℕ, suc, _+_, _≤_, _<_}
 use native.Mathlib.Omega.{arith}
 use native.Mathlib.Decide.{decLt}
 use native.Mathlib.Nat.{zero-add}
+use lib.Dec.{leb}
 use lib.ListN.{length, getD, drop, length-drop, drop-of-length-le}
 use lib.IntN.{ℤ}
 use lib.Seq.{drop-cons}
+use borrow.Author.Tests.{le-leb}
 use Rattle.rules.specs.Document.Notation.{flat}
 use Rattle.rules.specs.Document.Pyramid.{Family}
 use Rattle.rules.specs.Document.Passes.{Entry, Question, Event, toLip, toLsp, stays, moves, refined, Talk, done, ask, tell, Lists, pass, Side}
@@ -110,8 +112,8 @@ pub record Reads {S : Type 0} (C : Side S) (bit : ℕ → Bool) (taken : S → �
   pub one-taken : (q : Question) (s : S) → taken (C .reply q s .next) ≡ suc (taken s)
   pub none-taken : (e : Event) (s : S) → taken (C .note e s) ≡ taken s
 
-pub decoder-reads : (bit : ℕ → Bool) (n : ℕ) → Reads (decoder bit n) bit (λ r. r .taken)
-decoder-reads bit n = record { bit-read = λ q s. refl; one-taken = λ q s. refl; none-taken = λ e s. refl }
+pub decoder-reads : (bit : ℕ → Bool) (there n : ℕ) → Reads (decoder bit there n) bit (λ r. r .taken)
+decoder-reads bit there n = record { bit-read = λ q s. refl; one-taken = λ q s. refl; none-taken = λ e s. refl }
 
 -- A side that, where P holds, gives the settled answer and comes to where P holds again.
 pub record Along {S : Type 0} (C : Side S) (answer : Question → Bool) (P : Talk → S → Type 0) : Type 0 where
@@ -314,32 +316,40 @@ module _ {S : Type 0} (C : Side S) (bit : ℕ → Bool) (taken : S → ℕ) (rea
                 let same : b ∷ rest ≡ [] = rest-same _ _ _ _ (sym e ∙ fit-is-whole t s g .0 (omega arith)) in
                 omega (arith, ap length same)
 
--- The decoder.
-module _ (bit : ℕ → Bool) (n : ℕ) where
-  pub pyramid-drawn : (t : Talk) (r : Reader) → walk (decoder bit n) t r .pyramid ≡ drawn n (told (decoder bit n) t r) (r .pyramid)
+-- The decoder, where as many bits are there as it takes.
+module _ (bit : ℕ → Bool) (there n : ℕ) where
+  abbrev D : Side Reader
+  D = decoder bit there n
+
+  pub pyramid-drawn : (t : Talk) (r : Reader) → walk (decoder bit there n) t r .taken ≤ there
+      → walk (decoder bit there n) t r .pyramid ≡ drawn n (told (decoder bit there n) t r) (r .pyramid)
   unfolding walk told drawn
-  pyramid-drawn done r = refl
-  pyramid-drawn (ask q go) r = pyramid-drawn (go (bit (r .taken))) (record { taken = suc (r .taken); pyramid = r .pyramid })
-  pyramid-drawn (tell e next) r = pyramid-drawn next (record { taken = r .taken; pyramid = written n e (r .pyramid) })
+  pyramid-drawn done r h = refl
+  pyramid-drawn (ask q go) r h = pyramid-drawn (go (bit (r .taken))) (record { taken = suc (r .taken); pyramid = r .pyramid }) h
+  pyramid-drawn (tell e next) r h =
+      let in-time : leb (r .taken) there ≡ true
+      = le-leb (r .taken) there (omega (arith, taken-said D bit (λ r. r .taken) (decoder-reads bit there n) next (D .note e r))) in
+      pyramid-drawn next (D .note e r) h
+      ∙ ap (λ b. drawn n (told D next (D .note e r)) (cond b (written n e (r .pyramid)) (r .pyramid))) in-time
 
   pub decoder-passed : (F : Family) (answer : Question → Bool) (k : ℕ) (l : Lists) (r : Reader)
       → ((i : ℕ) → i < length (spoken answer (pass F k l)) → bit (r .taken + i) ≡ getD (spoken answer (pass F k l)) i false)
-      → passed F k (decoder bit n) l r
+      → r .taken + length (spoken answer (pass F k l)) ≤ there
+      → passed F k (decoder bit there n) l r
       ≡ course l (outcomes answer (pass F k l))
       (record { taken = r .taken + length (spoken answer (pass F k l)); pyramid = drawn n (outcomes answer (pass F k l)) (r .pyramid) })
   unfolding Ahead
-  decoder-passed F answer k l r h =
+  decoder-passed F answer k l r h enough =
       let t = pass F k l in
-      let reads = decoder-reads bit n in
-      let along = ahead-along (decoder bit n) bit (λ r. r .taken) reads answer in
-      let says : said (decoder bit n) t r ≡ spoken answer t = says-spoken (decoder bit n) answer _ along t r h in
-      let tells : told (decoder bit n) t r ≡ outcomes answer t = tells-outcomes (decoder bit n) answer _ along t r h in
-      passed-told F k (decoder bit n) l r
+      let reads = decoder-reads bit there n in
+      let along = ahead-along D bit (λ r. r .taken) reads answer in
+      let says : said D t r ≡ spoken answer t = says-spoken D answer _ along t r h in
+      let tells : told D t r ≡ outcomes answer t = tells-outcomes D answer _ along t r h in
+      let takes : walk D t r .taken ≡ r .taken + length (spoken answer t)
+      = taken-said D bit (λ r. r .taken) reads t r ∙ ap (λ bits. r .taken + length bits) says in
+      passed-told F k D l r
       ∙ ap₂ (course l) tells
-      (λ i. record {
-        taken = (taken-said (decoder bit n) bit (λ r. r .taken) reads t r ∙ ap (λ bits. r .taken + length bits) says) i;
-        pyramid = (pyramid-drawn t r ∙ ap (λ es. drawn n es (r .pyramid)) tells) i;
-      })
+      (λ i. record { taken = takes i; pyramid = (pyramid-drawn t r (omega arith) ∙ ap (λ es. drawn n es (r .pyramid)) tells) i })
 
 -- Parts: what the coder makes of one, and what the decoder makes of one whose bits are those.
 module _ (F : Family) (mag : ℕ → ℕ) (neg : ℕ → Bool) (p : PartName) (s : State) where
@@ -356,12 +366,13 @@ module _ (F : Family) (mag : ℕ → ℕ) (neg : ℕ → Bool) (p : PartName) (s
   unfolding coded
   coded-course = coder-passed F mag neg (p .plane) (p .level) (s (p .level)) []
 
-  pub decoded-course : (bit : ℕ → Bool) (v : List ℤ) → ((i : ℕ) → i < length bitsOf → bit i ≡ getD bitsOf i false)
-      → decoded F p bit s v ≡ course (s (p .level)) eventsOf (record { taken = length bitsOf; pyramid = drawn (p .plane) eventsOf v })
+  pub decoded-course : (bit : ℕ → Bool) (there : ℕ) (v : List ℤ) → ((i : ℕ) → i < length bitsOf → bit i ≡ getD bitsOf i false)
+      → length bitsOf ≤ there
+      → decoded F p bit there s v ≡ course (s (p .level)) eventsOf (record { taken = length bitsOf; pyramid = drawn (p .plane) eventsOf v })
   unfolding decoded
-  decoded-course bit v h =
-      decoder-passed bit (p .plane) F (truth F mag neg (p .plane)) (p .level) (s (p .level)) (record { taken = 0; pyramid = v })
-      (λ i l. ap bit (zero-add i) ∙ h i l)
+  decoded-course bit there v h enough =
+      decoder-passed bit there (p .plane) F (truth F mag neg (p .plane)) (p .level) (s (p .level)) (record { taken = 0; pyramid = v })
+      (λ i l. ap bit (zero-add i) ∙ h i l) (omega arith)
       ∙ ap (λ m. course (s (p .level)) eventsOf (record { taken = m; pyramid = drawn (p .plane) eventsOf v })) (zero-add (length bitsOf))
 
 -- The lists after a part do not depend on the side.

@@ -70,11 +70,11 @@ module _ (top planes : ℕ) (seen : List PartName) (p : PartName) (front : All (
       more q h = ap (λ f. f q) split ∙ present-append withIt later q ∙ rw h
 
   module _ (named : Named top planes p) where
-    differs : (q : PartName) → (q .plane ≡ p .plane → q .level ≡ p .level → ⊥) → sameName q p ≡ false
+    pub differs : (q : PartName) → (q .plane ≡ p .plane → q .level ≡ p .level → ⊥) → sameName q p ≡ false
     differs q h = not-test _ (λ e. let s : q ≡ p = same-name q p e in h (ap (λ x. x .plane) s) (ap (λ x. x .level) s))
 
     -- p makes no other part usable: were it needed for q, q would have come by
-    usable-other : (q : PartName) → 1 ≤ q .level → sameName q p ≡ false → usable top planes withIt q ≡ usable top planes seen q
+    pub usable-other : (q : PartName) → 1 ≤ q .level → sameName q p ≡ false → usable top planes withIt q ≡ usable top planes seen q
     usable-other q f d =
         same-test _ _
         (λ h. every-usable top planes seen q (λ x l a b. cases h x l a b (sameName x p) refl))
@@ -96,7 +96,7 @@ module _ (top planes : ℕ) (seen : List PartName) (p : PartName) (front : All (
     not-usable : (q : PartName) → usable top planes seen q ≡ true → q .plane ≤ p .plane → q .level ≤ p .level → ⊥
     not-usable q h a b = true≢false (sym (usable-every top planes seen q h p named a b) ∙ not-seen p (omega arith) (omega arith))
 
-    reached-above : p .plane < R (p .level)
+    pub reached-above : p .plane < R (p .level)
     reached-above = cases (decLe (R (p .level)) (p .plane))
       where
         cases : Dec (R (p .level) ≤ p .plane) → p .plane < R (p .level)

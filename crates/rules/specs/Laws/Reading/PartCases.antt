@@ -27,7 +27,7 @@ use Rattle.rules.specs.Laws.Reading.Parts.{legal-head, head-legal}
 use Rattle.rules.specs.Laws.Bytes.BodyBack.{pad-clear}
 use Rattle.rules.specs.Promises.Refusals.{LegalHeader, Unread, ends-early, fourth-goes-on, Numbers, none, next}
 use Rattle.rules.specs.Promises.Refusals.{HeaderCase, HEAD, LONGFORM, VERSION, HEAD-later, LONGFORM-later, SIZE, LEGAL, HeadRead, PadSet, PartCase}
-use Rattle.rules.specs.Promises.Refusals.{PART-malformed, TAIL-head, PART, TAIL-body, PAD, WHOLE}
+use Rattle.rules.specs.Promises.Refusals.{PART-malformed, TAIL-head, PART, CUT, PAD, WHOLE}
 
 -- A test that fails where a statement does not hold, and passes where it does.
 pub failed : {P : Type 0} (b : Bool) → (P → b ≡ true) → b ≡ false → ¬ P
@@ -170,11 +170,11 @@ module _ (h : Header) (s : List ℕ) (before : PartName) (place : ℕ) where
     where
       cases : (a : Bool) → legalHead h before (nameOf p) (p .bits) ≡ a → (b : Bool) → leb (p .end) (length s) ≡ b → (c : Bool)
           → padClear (bodyOf s p) (p .bits) ≡ c
-          → reads (cond a (cond b (cond c (part.Part p) (part.Refused (refusal.Pad (p .place)))) part.Tail) (part.Refused (refusal.Part (p .place))))
+          → reads (cond a (cond b (cond c (part.Part p) (part.Refused (refusal.Pad (p .place)))) (part.Cut p)) (part.Refused (refusal.Part (p .place))))
       cases true l true w true c = WHOLE r (legal-head h before (nameOf p) (p .bits) l) (leb-true _ _ w) (pad-none s p c)
       cases true l true w false c =
           rw (r .placed) (PAD r (legal-head h before (nameOf p) (p .bits) l) (leb-true _ _ w) (pad-set s p c))
-      cases true l false w c d = TAIL-body r (legal-head h before (nameOf p) (p .bits) l) (leb-false _ _ w)
+      cases true l false w c d = CUT r (legal-head h before (nameOf p) (p .bits) l) (leb-false _ _ w)
       cases false l b w c d = rw (r .placed) (PART r (failed _ (head-legal h before (nameOf p) (p .bits)) l))
 
   pub part-case : PartCase h s before place (readPart h s before place)
@@ -214,7 +214,7 @@ module _ (h : Header) (s : List ℕ) (before : PartName) (place : ℕ) where
   part-is x (TAIL-head {vs = vs} {at = at} ns l e) = part-stops x vs at ns l (λ go. unfold partNumber in rw e)
   part-is x (PART {p = p} r n) =
       part-judged p r ∙ rw (not-test (legalHead h before (nameOf p) (p .bits)) (λ e. n (legal-head h before (nameOf p) (p .bits) e)), r .placed)
-  part-is x (TAIL-body {p = p} r l c) =
+  part-is x (CUT {p = p} r l c) =
       part-judged p r ∙ rw (head-legal h before (nameOf p) (p .bits) l, lt-leb (p .end) (length s) c)
   part-is x (PAD {p = p} r l w q) =
       let set : padClear (bodyOf s p) (p .bits) ≡ false = not-test _ (λ e. pad-none s p e q) in

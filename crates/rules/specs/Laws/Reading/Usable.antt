@@ -87,6 +87,19 @@ loss-shows top planes there n k named lost j finer = cases (decLt n (reached top
         = usable-reached top planes there n j (named .under) ∙ le-leb (reached top planes there j) n (omega arith) in
         absurd (true≢false (sym (usable-every top planes there (at n j) could (at n k) named (omega arith) finer) ∙ lost))
 
+-- With more parts there every level reaches as low a plane, or a lower one.
+pub reached-more : (top planes : ℕ) (there more : List PartName) → ((p : PartName) → present there p ≡ true → present more p ≡ true)
+    → (k : ℕ) → reached top planes more k ≤ reached top planes there k
+reached-more top planes there more all k = cases (decLt (reached top planes there k) planes)
+  where
+    cases : Dec (reached top planes there k < planes) → reached top planes more k ≤ reached top planes there k
+    cases (no l) = omega (arith, reached-within top planes more k)
+    cases (yes l) =
+        let r : ℕ = reached top planes there k in
+        let u : usable top planes more (at r k) ≡ true
+        = every-usable top planes more _ (λ q n a b. all q (usable-every top planes there _ (reached-usable top planes there k l) q n a b)) in
+        leb-true _ _ (sym (usable-reached top planes more r k l) ∙ u)
+
 -- Before any part is there, no plane is reached.
 pub reached-none : (top planes k : ℕ) → 1 ≤ k → k ≤ top → reached top planes [] k ≡ planes
 reached-none top planes k a b = cases (decLt (reached top planes [] k) planes)

@@ -14,7 +14,7 @@ use Rattle.rules.specs.Document.Passes.{PartName}
 use Rattle.rules.specs.Document.Layout.{readNumber, nameOf}
 use Rattle.rules.specs.Document.Numbers.{partNumber, readPart, Ending, tail, fault, Reading, goOn, readFrom, readParts}
 use Rattle.rules.specs.Laws.Bytes.Numbers.{numberFrom-cut}
-use Rattle.rules.specs.Promises.Refusals.{PartCase, Walk, MORE, TAIL, FAULT, Parts}
+use Rattle.rules.specs.Promises.Refusals.{PartCase, Walk, MORE, TAIL, CUT, FAULT, Parts}
 use Rattle.rules.specs.Laws.Reading.PartCases.{part-case, part-is}
 use Rattle.rules.specs.Laws.Reading.Stands.{readPart-stands}
 
@@ -47,6 +47,7 @@ readFrom-enough (suc m) (suc n) h s before place a b =
     go (part.Part p) e r =
         let t = readPart-stands h s before place p e in
         ap (λ (x : Reading). record { parts = p ∷ x .parts; ending = x .ending }) (r p (omega (arith, t .after, t .end)))
+    go (part.Cut p) e r = refl
     go part.Tail e r = refl
     go (part.Refused f) e r = refl
 
@@ -73,6 +74,10 @@ module _ (h : Header) (s : List ℕ) (before : PartName) (place : ℕ) where
   unfolding goOn
   partsFrom-tail e = partsFrom-step ∙ rw e
 
+  pub partsFrom-cut : (p : Part) → readPart h s before place ≡ part.Cut p → partsFrom h s before place ≡ record { parts = []; ending = tail (length s - place) }
+  unfolding goOn
+  partsFrom-cut p e = partsFrom-step ∙ rw e
+
   pub partsFrom-fault : (r : Refusal) → readPart h s before place ≡ part.Refused r → partsFrom h s before place ≡ record { parts = []; ending = fault r }
   unfolding goOn
   partsFrom-fault r e = partsFrom-step ∙ rw e
@@ -94,6 +99,7 @@ module _ (h : Header) (s : List ℕ) where
       cases (part.Part p) e r =
           let t = readPart-stands h s before place p e in
           MORE (subst (PartCase h s before place) e (part-case h s before place)) (r p (omega (arith, t .after, t .end)))
+      cases (part.Cut p) e r = CUT (subst (PartCase h s before place) e (part-case h s before place))
       cases part.Tail e r = TAIL (subst (PartCase h s before place) e (part-case h s before place))
       cases (part.Refused q) e r = FAULT (subst (PartCase h s before place) e (part-case h s before place))
 
@@ -107,6 +113,7 @@ module _ (h : Header) (s : List ℕ) where
       partsFrom-part h s before place p (part-is h s before place _ c)
       ∙ ap (λ (r : Reading). record { parts = p ∷ r .parts; ending = r .ending }) (partsFrom-is w)
   partsFrom-is (TAIL {before = before} {place = place} c) = partsFrom-tail h s before place (part-is h s before place _ c)
+  partsFrom-is (CUT {before = before} {place = place} {p = p} c) = partsFrom-cut h s before place p (part-is h s before place _ c)
   partsFrom-is (FAULT {before = before} {place = place} {r = r} c) = partsFrom-fault h s before place r (part-is h s before place _ c)
 
   pub parts-is : (ps : List Part) (e : Ending) → h .end ≤ length s → Parts h s ps e → readParts h s ≡ record { parts = ps; ending = e }

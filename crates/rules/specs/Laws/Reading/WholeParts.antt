@@ -31,6 +31,7 @@ parts-whole (suc m) h s before place = cases (readPart h s before place) refl (�
         → ((p : Part) → WholeParts h s (nameOf p) (p .end) (readFrom m h s (nameOf p) (p .end) .parts))
         → WholeParts h s before place (goOn s place x (λ p. readFrom m h s (nameOf p) (p .end)) .parts)
     cases (part.Part p) e r = (e, r p)
+    cases (part.Cut p) e r = tt
     cases part.Tail e r = tt
     cases (part.Refused why) e r = tt
 

@@ -7,27 +7,30 @@ use Prim.Native.Nat.{ℕ, _+_, _-_, _≤_, _<_}
 use native.Mathlib.Omega.{arith}
 use lib.Dec.{leb}
 use lib.ListN.{length, take, drop, length-append}
-use lib.Seq.{take-append-add, take-all, drop-append-seam}
+use lib.Seq.{take-append-add, take-all, drop-append-seam, length-take-le}
 use borrow.Author.Tests.{leb-true, leb-false}
 use Rattle.rules.specs.declared.Size.{Size}
 use Rattle.rules.specs.declared.Header.{Header}
 use Rattle.rules.specs.declared.HeaderRead.the-variants as header
+use Rattle.rules.specs.declared.PartRead.the-variants as part
 use Rattle.rules.specs.Document.Notation.{flat}
 use Rattle.rules.specs.Document.Pyramid.{mostPlanes, legalSize}
 use Rattle.rules.specs.Document.Passes.{PartName}
 use Rattle.rules.specs.Document.Layout.{headerBytes, CodedPart, partBytes}
-use Rattle.rules.specs.Document.Numbers.{readHeader, follows, tail, readParts, topLevel}
-use Rattle.rules.specs.Promises.Vocabulary.{Named, ReadsAs, names, kept, wholeIn, tailIn, arrived, headerOf, recordBytes, partsAt, selection}
+use Rattle.rules.specs.Document.Numbers.{readHeader, follows, tail, readParts, behind, topLevel}
+use Rattle.rules.specs.Promises.Vocabulary.{Named, ReadsAs, names, kept, headBytes, wholeIn, tailIn, cutIn, arrived, headerOf, recordBytes}
+use Rattle.rules.specs.Promises.Vocabulary.{partsAt, selection}
 use Rattle.rules.specs.Laws.Counting.Booleans.{not-test, selection-both}
 use Rattle.rules.specs.Laws.Counting.Sums.{All, all-then, map-all}
 use Rattle.rules.specs.Laws.Reading.Parts.{InOrder, After, follows-after, after-follows, order-front, order-behind, legal-head}
-use Rattle.rules.specs.Laws.Bytes.PartBack.{reads-header}
-use Rattle.rules.specs.Laws.Bytes.RecordBack.{beforeAll, LegalParts, reads-record, reads-cut-record}
+use Rattle.rules.specs.Laws.Bytes.PartBack.{reads-header, cutAt}
+use Rattle.rules.specs.Laws.Bytes.RecordBack.{beforeAll, LegalParts, cut-bytes, reads-record, uncut-behind, reads-cut-record, behind-cut-record}
 
 -- The two cases: all is there, or the part q is cut and nothing comes behind it.
 pub record AllThere (n : ℕ) (ps : List CodedPart) : Type 0 where
   pub parts : wholeIn n ps ≡ ps
   pub none : tailIn n ps ≡ 0
+  pub uncut : cutIn n ps ≡ []
   pub bytes : length (flat partBytes ps) ≤ n
 
 pub record CutIn (n : ℕ) (ps : List CodedPart) : Type 0 where
@@ -35,11 +38,12 @@ pub record CutIn (n : ℕ) (ps : List CodedPart) : Type 0 where
   pub later : List CodedPart
   pub parts : ps ≡ wholeIn n ps ++ q ∷ later
   pub short : tailIn n ps < length (partBytes q)
+  pub cut : cutIn n ps ≡ cond (leb (length (headBytes q)) (tailIn n ps)) (q ∷ []) []
   pub bytes : n ≡ length (flat partBytes (wholeIn n ps)) + tailIn n ps
 
 pub all-or-cut : (n : ℕ) (ps : List CodedPart) → AllThere n ps ⊎ CutIn n ps
-unfolding wholeIn tailIn flat
-all-or-cut n [] = inl (record { parts = refl; none = refl; bytes = omega arith })
+unfolding wholeIn tailIn cutIn flat
+all-or-cut n [] = inl (record { parts = refl; none = refl; uncut = refl; bytes = omega arith })
 all-or-cut n (p ∷ ps) = by (leb (length (partBytes p)) n) refl (all-or-cut (n - length (partBytes p)) ps)
   where
     all : List ℕ
@@ -51,6 +55,7 @@ all-or-cut n (p ∷ ps) = by (leb (length (partBytes p)) n) refl (all-or-cut (n 
         inl (record {
           parts = rw e (ap (λ x. p ∷ x) (t .parts));
           none = rw e (t .none);
+          uncut = rw e (t .uncut);
           bytes = omega (arith, t .bytes, length-append (partBytes p) (flat partBytes ps), leb-true (length (partBytes p)) n e);
         })
     by true e (inr c) =
@@ -60,10 +65,11 @@ all-or-cut n (p ∷ ps) = by (leb (length (partBytes p)) n) refl (all-or-cut (n 
           later = c .later;
           parts = rw e (ap (λ x. p ∷ x) (c .parts));
           short = rw e (c .short);
+          cut = rw e (c .cut);
           bytes = rw e (omega (arith, c .bytes, length-append (partBytes p) (flat partBytes w), leb-true (length (partBytes p)) n e));
         })
     by false e r =
-        inr (record { q = p; later = ps; parts = rw e; short = rw e (leb-false (length (partBytes p)) n e); bytes = rw e (omega arith) })
+        inr (record { q = p; later = ps; parts = rw e; short = rw e (leb-false (length (partBytes p)) n e); cut = rw e; bytes = rw e (omega arith) })
 
 module _ {z : Size} {planes : ℕ} {ps : List CodedPart} {cut : ℕ} {bytes : List ℕ} (r : ReadsAs z planes ps cut bytes) where
   pub header-read : legalSize z ≡ true → planes ≤ mostPlanes → readHeader bytes ≡ header.Header (headerOf z planes)
@@ -72,19 +78,36 @@ module _ {z : Size} {planes : ℕ} {ps : List CodedPart} {cut : ℕ} {bytes : Li
   pub parts-stand : drop (length (headerBytes z planes)) bytes ≡ flat partBytes ps ++ r .rest
   parts-stand = ap (drop (length (headerBytes z planes))) (r .stand) ∙ drop-append-seam (headerBytes z planes) (flat partBytes ps ++ r .rest)
 
+-- Where nothing is left behind the parts, nothing stands there.
+pub none-behind : {z : Size} {planes : ℕ} {ps : List CodedPart} {bytes : List ℕ} → ReadsAs z planes ps 0 bytes → legalSize z ≡ true → planes ≤ mostPlanes
+    → LegalParts (headerOf z planes) (beforeAll planes) ps → behind (headerOf z planes) bytes (partsAt (length (headerBytes z planes)) ps) ≡ part.Tail
+none-behind {z} {planes} {ps} r ok l legal-ps =
+    ap (λ x. behind (headerOf z planes) x (partsAt (length (headerBytes z planes)) ps))
+    (r .stand ∙ ap (λ x. headerBytes z planes ++ (flat partBytes ps ++ x)) (no-length (r .rest) (r .left)))
+    ∙ uncut-behind z planes ok l ps legal-ps
+  where
+    no-length : (xs : List ℕ) → length xs ≡ 0 → xs ≡ []
+    no-length [] e = refl
+    no-length (x ∷ xs) e = absurd (omega arith)
+
 -- What arrived reads as the parts that are whole in it, with a tail of what is there of one more.
-arrived-stands : (n : ℕ) (ps : List CodedPart) → (rest : List ℕ) × (take n (flat partBytes ps) ≡ flat partBytes (wholeIn n ps) ++ rest)
-unfolding wholeIn flat
-arrived-stands n [] = (take n [], refl)
+arrived-stands : (n : ℕ) (ps : List CodedPart)
+    → (rest : List ℕ) × (take n (flat partBytes ps) ≡ flat partBytes (wholeIn n ps) ++ rest) × (length rest ≡ tailIn n ps)
+unfolding wholeIn tailIn flat
+arrived-stands n [] = ([], take-all n [] (omega arith), refl)
 arrived-stands n (p ∷ ps) = by (leb (length (partBytes p)) n) refl (arrived-stands (n - length (partBytes p)) ps)
   where
     len : ℕ
     len = length (partBytes p)
 
     by : (b : Bool) → leb (length (partBytes p)) n ≡ b
-        → (rest : List ℕ) × (take (n - len) (flat partBytes ps) ≡ flat partBytes (wholeIn (n - len) ps) ++ rest)
+        → (rest : List ℕ) × (take (n - len) (flat partBytes ps) ≡ flat partBytes (wholeIn (n - len) ps) ++ rest) × (length rest ≡ tailIn (n - len) ps)
         → (rest : List ℕ) × (take n (partBytes p ++ flat partBytes ps) ≡ flat partBytes (cond b (p ∷ wholeIn (n - len) ps) []) ++ rest)
-    by false e r = (take n (partBytes p ++ flat partBytes ps), refl)
+        × (length rest ≡ cond b (tailIn (n - len) ps) n)
+    by false e r =
+        let short : n ≤ length (partBytes p ++ flat partBytes ps)
+        = omega (arith, leb-false len n e, length-append (partBytes p) (flat partBytes ps)) in
+        (take n (partBytes p ++ flat partBytes ps), refl, length-take-le n (partBytes p ++ flat partBytes ps) short)
     by true e r =
         let m : n ≡ len + (n - len) = omega (arith, leb-true len n e) in (
           r .0,
@@ -92,6 +115,7 @@ arrived-stands n (p ∷ ps) = by (leb (length (partBytes p)) n) refl (arrived-st
               ∙ take-append-add (partBytes p) (flat partBytes ps) (n - len)
               ∙ ap (λ x. partBytes p ++ x) (r .1)
               ∙ sym (append-assoc (partBytes p) (flat partBytes (wholeIn (n - len) ps)) (r .0)),
+          r .2,
         )
 
 module _ (z : Size) (planes : ℕ) (ps : List CodedPart) (ok : legalSize z ≡ true) (l : planes ≤ mostPlanes)
@@ -101,6 +125,7 @@ module _ (z : Size) (planes : ℕ) (ps : List CodedPart) (ok : legalSize z ≡ t
       record {
         rest = [];
         stand = ap (λ x. headerBytes z planes ++ x) (sym (append-nil (flat partBytes ps)));
+        left = refl;
         parts-read = reads-record z planes ok l ps legal-ps;
       }
 
@@ -137,8 +162,34 @@ module _ (z : Size) (planes : ℕ) (ps : List CodedPart) (ok : legalSize z ≡ t
           rest = arrived-stands n ps .0;
           stand =
               take-append-add (headerBytes z planes) (flat partBytes ps) n ∙ ap (λ x. headerBytes z planes ++ x) (arrived-stands n ps .1);
+          left = arrived-stands n ps .2;
           parts-read = ⊎-elim reads-all reads-cut (all-or-cut n ps);
         }
+
+    -- and what stands behind them where a part is cut
+    pub cut-stands : (c : CutIn n ps)
+        → drop (length (headerBytes z planes) + length (flat partBytes (wholeIn n ps))) (arrived z planes ps n) ≡ take (tailIn n ps) (partBytes (c .q))
+    unfolding arrived
+    cut-stands c =
+        let w : List CodedPart = wholeIn n ps in
+        let m : front + n ≡ length (recordBytes z planes w) + tailIn n ps
+        = omega (arith, c .bytes, length-append (headerBytes z planes) (flat partBytes w)) in
+        ap₂ (λ i x. drop (front + length (flat partBytes w)) (take i (recordBytes z planes x))) m (c .parts)
+        ∙ ap₂ drop (sym (length-append (headerBytes z planes) (flat partBytes w)))
+        (cut-bytes z planes w (c .q) (c .later) (tailIn n ps) (omega (arith, c .short)))
+        ∙ drop-append-seam (recordBytes z planes w) (take (tailIn n ps) (partBytes (c .q)))
+
+    pub cut-behind : (c : CutIn n ps)
+        → behind (headerOf z planes) (arrived z planes ps n) (partsAt (length (headerBytes z planes)) (wholeIn n ps))
+        ≡ cutAt (length (headerBytes z planes) + length (flat partBytes (wholeIn n ps))) (tailIn n ps) (c .q)
+    unfolding arrived
+    cut-behind c =
+        let w : List CodedPart = wholeIn n ps in
+        let m : front + n ≡ length (recordBytes z planes w) + tailIn n ps
+        = omega (arith, c .bytes, length-append (headerBytes z planes) (flat partBytes w)) in
+        ap₂ (λ i x. behind (headerOf z planes) (take i (recordBytes z planes x)) (partsAt front w)) m (c .parts)
+        ∙ behind-cut-record z planes ok l w (c .q) (c .later) (subst (LegalParts (headerOf z planes) (beforeAll planes)) (c .parts) legal-ps)
+        (tailIn n ps) (c .short)
 
 -- Selections of lists put together, of all and of none.
 selection-append : (t : CodedPart → Bool) (xs ys : List CodedPart) → selection t (xs ++ ys) ≡ selection t xs ++ selection t ys

@@ -13,13 +13,13 @@ use Rattle.rules.specs.declared.Header.{Header}
 use Rattle.rules.specs.Document.Notation.{flat}
 use Rattle.rules.specs.Document.Pyramid.{Family, family}
 use Rattle.rules.specs.Document.Passes.{Event, pass, Course, State, after, PartName, truth, coded, decoded}
-use Rattle.rules.specs.Document.Layout.{CodedPart, partBytes, codedParts, bitAt, bodyOf, nameOf, usable}
+use Rattle.rules.specs.Document.Layout.{CodedPart, partBytes, codedParts, bytesFor, bitAt, bodyOf, bitsThere, nameOf, usable}
 use Rattle.rules.specs.Document.Numbers.{headed, topLevel}
 use Rattle.rules.specs.Document.Calls.{going, used, onward, decodeParts}
 use Rattle.rules.specs.Laws.Counting.Sums.{All}
 use Rattle.rules.specs.Laws.Reading.Parts.{InOrder, After, follows-after}
 use Rattle.rules.specs.Laws.Pass.Simulation.{spoken, course, drawn, bitsOf, eventsOf, coded-course, decoded-course, after-course}
-use Rattle.rules.specs.Laws.Bytes.BodyBack.{packed-bit}
+use Rattle.rules.specs.Laws.Bytes.BodyBack.{packed-bit, packed-length}
 use Rattle.rules.specs.Laws.Bytes.PartBack.{part-body, next-stands}
 use Rattle.rules.specs.Promises.Vocabulary.{partAt, partsAt, selection}
 use Rattle.rules.specs.Laws.Rounding.Known.{follower-passed}
@@ -28,7 +28,7 @@ use Rattle.rules.specs.Laws.State.Agreement.{listsWith, Alike, alike-use
 use Rattle.rules.specs.Laws.Rounding.Rebuilt.{rebuilt}
 
 module _ (F : Family) (mag : ℕ → ℕ) (neg : ℕ → Bool) (p : PartName) where
-  coded-spoken : (s : State) → coded F mag neg p s .side ≡ bitsOf F mag neg p s
+  pub coded-spoken : (s : State) → coded F mag neg p s .side ≡ bitsOf F mag neg p s
   unfolding course
   coded-spoken s = ap (λ c. c .side) (coded-course F mag neg p s)
 
@@ -54,11 +54,20 @@ module _ (h : Header) (bytes : List ℕ) (there : List PartName) (mag : ℕ → 
       abbrev events : List Event
       events = eventsOf F mag neg (q .name) s
 
-      fits : decoded F (q .name) (bitAt (bodyOf bytes (partAt place q))) s v
+      all-there : bitsThere bytes (partAt place q) ≡ length (q .bits)
+      unfolding bitsThere
+      all-there =
+          let long : length (bodyOf bytes (partAt place q)) ≡ bytesFor (length (q .bits))
+          = ap length (part-body bytes place q rest stands) ∙ packed-length (q .bits) in
+          let count : partAt place q .bits ≡ length (q .bits) = unfold partAt headed in refl in
+          omega arith
+
+      fits : decoded F (q .name) (bitAt (bodyOf bytes (partAt place q))) (bitsThere bytes (partAt place q)) s v
           ≡ course (s (q .name .level)) events (record { taken = length (q .bits); pyramid = drawn (q .name .plane) events v })
       fits =
-          decoded-course F mag neg (q .name) s (bitAt (bodyOf bytes (partAt place q))) v (λ i l.
+          decoded-course F mag neg (q .name) s (bitAt (bodyOf bytes (partAt place q))) (bitsThere bytes (partAt place q)) v (λ i l.
           ap (λ b. bitAt b i) (part-body bytes place q rest stands) ∙ packed-bit (q .bits) i ∙ ap (λ b. getD b i false) same)
+          (omega (arith, all-there, ap length same))
           ∙ ap (λ b. course (s (q .name .level)) events (record { taken = length b; pyramid = drawn (q .name .plane) events v })) (sym same)
 
       onward-usable : usable (topLevel h) (h .planes) there (q .name) ≡ true

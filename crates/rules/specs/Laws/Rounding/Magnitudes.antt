@@ -20,15 +20,17 @@ use Rattle.rules.specs.declared.Decoded.{Decoded}
 use Rattle.rules.specs.declared.Header.{Header}
 use Rattle.rules.specs.declared.HeaderRead.the-variants as header
 use Rattle.rules.specs.declared.Part.{Part}
+use Rattle.rules.specs.declared.PartRead.{PartRead}
+use Rattle.rules.specs.declared.PartRead.the-variants as part
 use Rattle.rules.specs.declared.Refusal.the-variants as refusal
 use Rattle.rules.specs.Document.Pyramid.{Family, family, area, levels, levelOf, legalSize, magnitude, mostPlanes}
 use Rattle.rules.specs.Document.Passes.{Entry, Lists, Course, listed, listing, passed, State, after, start, PartName}
 use Rattle.rules.specs.Document.Passes.{Reader, signed, grown, written, decoder, decoded}
-use Rattle.rules.specs.Document.Layout.{nameOf, bitAt, bodyOf, usable}
-use Rattle.rules.specs.Document.Numbers.{readHeader, follows, Ending, readParts}
+use Rattle.rules.specs.Document.Layout.{nameOf, bitAt, bodyOf, bitsThere, usable}
+use Rattle.rules.specs.Document.Numbers.{readHeader, follows, Ending, readPart, readParts, behindFrom}
 use Rattle.rules.specs.Document.Calls.{Result, refused, accepted, Progress, going, unfit, used, onward, decodeParts, Picture, pictured, decodedParts}
-use Rattle.rules.specs.Document.Calls.{workFor, decoding, decodeOut, Decoding, decodePlaces, AfsDecode}
-use Rattle.rules.specs.Promises.Vocabulary.{mostDecoded, at, Named}
+use Rattle.rules.specs.Document.Calls.{usedCut, tailOnward, workFor, decoding, decodeOut, Decoding, decodePlaces, AfsDecode}
+use Rattle.rules.specs.Promises.Vocabulary.{mostDecoded, at, LegalHead}
 use Rattle.rules.specs.Laws.Counting.Sums.{sum, one-most, is, All, sum-append, is-same, from-once}
 use Rattle.rules.specs.Laws.Family.Lawful.{Lawful}
 use Rattle.rules.specs.Laws.Pass.Steps.{signNoted, bitNoted}
@@ -36,8 +38,9 @@ use Rattle.rules.specs.Laws.Pass.Kept.{Kept, kept-pass}
 use Rattle.rules.specs.Laws.Pass.Levels.{Placed, levelClaims, levels-fates}
 use Rattle.rules.specs.Laws.Pass.Lists.{Sorted, sorted-kept, setWeight, listsWeight, courseWeight, weight-kept}
 use Rattle.rules.specs.Laws.Calls.Results.{unless-accepted, onHeader-accepted, onEnding-accepted, accepted-same}
-use Rattle.rules.specs.Laws.Reading.Stands.{HeaderStands, readHeader-stands, header-legal, header-planes}
-use Rattle.rules.specs.Laws.Reading.WholeParts.{WholeParts, readParts-whole, whole-in-order, whole-named}
+use Rattle.rules.specs.Laws.Reading.Stands.{HeaderStands, readHeader-stands, header-legal, header-planes, readPart-stands}
+use Rattle.rules.specs.Laws.Reading.CutPart.{readPart-cut}
+use Rattle.rules.specs.Laws.Reading.WholeParts.{WholeParts, readParts-whole}
 use Rattle.rules.specs.Laws.Rounding.Run.{blank-same}
 use Rattle.rules.specs.Laws.Calls.Exports.{afsDecode-short, afsDecode-decodes}
 use Rattle.rules.specs.Laws.Family.Sizes.{legal}
@@ -45,13 +48,15 @@ use Rattle.rules.specs.Laws.Offspring.Lawful.{lawful}
 use Rattle.rules.specs.Laws.State.Weight.{weight-part}
 use Rattle.rules.specs.Laws.State.Parts.{OfLevel, decoded-sound}
 use Rattle.rules.specs.Laws.State.Record.{SoundLists, start-sound}
-use Rattle.rules.specs.Laws.Reading.Parts.{InOrder, After, follows-after}
+use Rattle.rules.specs.Laws.Reading.Parts.{After, follows-after}
 use Rattle.rules.specs.Laws.Rounding.TowardZero.{signed-magnitude}
 
--- A coefficient that is written, and what is added to one.
-set-magnitude : (v : List ℤ) (p q : ℕ) (y : ℤ) (P : ℕ → Type 0) → (q ≡ p → P (natAbs y)) → P (magnitude v q) → P (magnitude (set v p y) q)
+-- A coefficient that is written, if its bits are there, and what is added to one.
+set-magnitude : (b : Bool) (v : List ℤ) (p q : ℕ) (y : ℤ) (P : ℕ → Type 0) → (q ≡ p → P (natAbs y)) → P (magnitude v q)
+    → P (magnitude (cond b (set v p y) v) q)
 unfolding magnitude
-set-magnitude v p q y P new old = by (ℕ-discrete q p) (decLt p (length v))
+set-magnitude false v p q y P new old = old
+set-magnitude true v p q y P new old = by (ℕ-discrete q p) (decLt p (length v))
   where
     by : Dec (q ≡ p) → Dec (p < length v) → P (natAbs (getD (set v p y) q (pos 0)))
     by (no n) l = rw (getD-set-other v p q y (pos 0) n) old
@@ -76,7 +81,7 @@ unfolding sum
 sum-cons a q p ks = omega arith
 
 -- Pass (n, k) of lists l, whatever its bits, over the pyramid v: where it stands with ks still to refine.
-module _ {F : Family} (L : Lawful F) (n k most : ℕ) (bit : ℕ → Bool) (l : Lists) (v : List ℤ) where
+module _ {F : Family} (L : Lawful F) (n k most : ℕ) (bit : ℕ → Bool) (there : ℕ) (l : Lists) (v : List ℤ) where
   record Growth (c : Course Reader) (ks : List ℕ) : Type 0 where
     small : (q : ℕ) → F .level q ≡ k → magnitude (c .side .pyramid) q + 2 ^ n + 2 ^ n * sum (is q) ks ≤ most
     elsewhere : (q : ℕ) → F .level q ≢ k → magnitude (c .side .pyramid) q ≡ magnitude v q
@@ -91,73 +96,96 @@ module _ {F : Family} (L : Lawful F) (n k most : ℕ) (bit : ℕ → Bool) (l : 
   Stands c ps es ks = Sorted (levelClaims F k) c ps es × Once c ps es × Growth c ks
 
   module _ (once : (q : ℕ) → listsWeight F (is q) l ≤ 1) (enough : (q : ℕ) → F .level q ≡ k → 2 * 2 ^ n ≤ most) where
-    growth-found : (c : Course Reader) (p : ℕ) (ps : List ℕ) (es : List Entry) (ks : List ℕ) (s : Bool) (t : ℕ) → F .level p ≡ k → Once c (p ∷ ps) es
+    growth-found : (c : Course Reader) (p : ℕ) (ps : List ℕ) (es : List Entry) (ks : List ℕ) (b s : Bool) (t : ℕ) → F .level p ≡ k → Once c (p ∷ ps) es
         → Growth c ks
         → Growth (record {
           lip = c .lip;
           lsp = c .lsp ++ (p ∷ []);
           lis = c .lis;
           moved = c .moved;
-          side = record { taken = t; pyramid = set (c .side .pyramid) p (signed s (2 ^ n)) };
+          side = record { taken = t; pyramid = cond b (set (c .side .pyramid) p (signed s (2 ^ n))) (c .side .pyramid) };
         }) ks
     unfolding sum courseWeight listsWeight
-    growth-found c p ps es ks s t here o h =
+    growth-found c p ps es ks b s t here o h =
         let none : sum (is p) ks ≡ 0 = omega (arith, o p, once p, is-same p, h .among p) in
         record {
           small = λ q e.
-              set-magnitude (c .side .pyramid) p q (signed s (2 ^ n)) (λ x. x + 2 ^ n + 2 ^ n * sum (is q) ks ≤ most)
+              set-magnitude b (c .side .pyramid) p q (signed s (2 ^ n)) (λ x. x + 2 ^ n + 2 ^ n * sum (is q) ks ≤ most)
               (λ i. rw (i, none, signed-magnitude s (2 ^ n)) (omega (arith, enough p here))) (h .small q e);
           elsewhere = λ q d.
-              set-magnitude (c .side .pyramid) p q (signed s (2 ^ n)) (λ x. x ≡ magnitude v q) (λ i. absurd (d (ap (F .level) i ∙ here))) (h .elsewhere q d);
+              set-magnitude b (c .side .pyramid) p q (signed s (2 ^ n)) (λ x. x ≡ magnitude v q) (λ i. absurd (d (ap (F .level) i ∙ here))) (h .elsewhere q d);
           among = λ q. omega (arith, h .among q, sum-append (is q) (c .lsp) (p ∷ []));
           placed = h .placed;
         }
 
-    growth-refined : (c : Course Reader) (p : ℕ) (ks : List ℕ) (b : Bool) (t : ℕ) → Growth c (p ∷ ks)
+    growth-refined : (c : Course Reader) (p : ℕ) (ks : List ℕ) (b on : Bool) (t : ℕ) → Growth c (p ∷ ks)
         → Growth (record {
           lip = c .lip;
           lsp = c .lsp;
           lis = c .lis;
           moved = c .moved;
-          side = record { taken = t; pyramid = set (c .side .pyramid) p (grown b (2 ^ n) (getD (c .side .pyramid) p (pos 0))) };
+          side = record {
+            taken = t;
+            pyramid = cond b (set (c .side .pyramid) p (grown on (2 ^ n) (getD (c .side .pyramid) p (pos 0)))) (c .side .pyramid);
+          };
         }) ks
     unfolding sum All magnitude
-    growth-refined c p ks b t h =
+    growth-refined c p ks b on t h =
         let x : ℤ = getD (c .side .pyramid) p (pos 0) in
         let one : 2 ^ n * is p p ≡ 2 ^ n = rw (is-same p) (omega arith) in
         record {
           small = λ q e.
-              set-magnitude (c .side .pyramid) p q (grown b (2 ^ n) x) (λ m. m + 2 ^ n + 2 ^ n * sum (is q) ks ≤ most)
-              (λ i. rw i (omega (arith, grown-most b (2 ^ n) x, h .small p (h .placed .0), sum-cons (2 ^ n) p p ks, one)))
+              set-magnitude b (c .side .pyramid) p q (grown on (2 ^ n) x) (λ m. m + 2 ^ n + 2 ^ n * sum (is q) ks ≤ most)
+              (λ i. rw i (omega (arith, grown-most on (2 ^ n) x, h .small p (h .placed .0), sum-cons (2 ^ n) p p ks, one)))
               (omega (arith, h .small q e, sum-cons (2 ^ n) q p ks));
           elsewhere = λ q d.
-              set-magnitude (c .side .pyramid) p q (grown b (2 ^ n) x) (λ m. m ≡ magnitude v q) (λ i. absurd (d (ap (F .level) i ∙ h .placed .0)))
+              set-magnitude b (c .side .pyramid) p q (grown on (2 ^ n) x) (λ m. m ≡ magnitude v q) (λ i. absurd (d (ap (F .level) i ∙ h .placed .0)))
               (h .elsewhere q d);
           among = λ q. omega (arith, h .among q);
           placed = h .placed .1;
         }
 
-    under-kept : Kept F k (listing (decoder bit n)) Stands
+    under-kept : Kept F k (listing (decoder bit there n)) Stands
     unfolding All listed signNoted bitNoted written
     under-kept =
-        let S : Kept F k (listing (decoder bit n)) (λ c ps es ks. Sorted (levelClaims F k) c ps es) = sorted-kept (levels-fates L k (decoder bit n)) in
-        let W : (q : ℕ) → Kept F k (listing (decoder bit n)) (λ c ps es ks.
+        let S : Kept F k (listing (decoder bit there n)) (λ c ps es ks. Sorted (levelClaims F k) c ps es)
+        = sorted-kept (levels-fates L k (decoder bit there n)) in
+        let W : (q : ℕ) → Kept F k (listing (decoder bit there n)) (λ c ps es ks.
         courseWeight F (is q) c + sum (is q) ps + sum (setWeight F (is q)) es ≡ listsWeight F (is q) l)
-        = λ q. weight-kept L (is q) k (decoder bit n) (listsWeight F (is q) l) in
+        = λ q. weight-kept L (is q) k (decoder bit there n) (listsWeight F (is q) l) in
         record {
-          insignificant = λ c p ps es ks b h.
-              (S .insignificant c p ps es ks b (h .0), (λ q. W q .insignificant c p ps es ks b (h .1 q)), same c _ ks refl refl (h .2));
+          insignificant = λ c p ps es ks b h. (
+            S .insignificant c p ps es ks b (h .0),
+            (λ q. W q .insignificant c p ps es ks b (h .1 q)),
+            same c _ ks refl (kept-as (leb (suc (c .side .taken)) there) _) (h .2),
+          );
           significant = λ c p ps es ks b h. (
             S .significant c p ps es ks b (h .0),
             (λ q. W q .significant c p ps es ks b (h .1 q)),
-            growth-found c p ps es ks _ _ (h .0 .tests .0) (h .1) (h .2),
+            growth-found c p ps es ks (leb (suc (suc (c .side .taken))) there) _ _ (h .0 .tests .0) (h .1) (h .2),
           );
-          moving = λ c e es ks i h. (S .moving c e es ks i (h .0), (λ q. W q .moving c e es ks i (h .1 q)), same c _ ks refl refl (h .2));
-          staying = λ c e es ks i b h. (S .staying c e es ks i b (h .0), (λ q. W q .staying c e es ks i b (h .1 q)), same c _ ks refl refl (h .2));
+          moving = λ c e es ks i h. (
+            S .moving c e es ks i (h .0),
+            (λ q. W q .moving c e es ks i (h .1 q)),
+            same c _ ks refl (kept-as (leb (c .side .taken) there) _) (h .2),
+          );
+          staying = λ c e es ks i b h. (
+            S .staying c e es ks i b (h .0),
+            (λ q. W q .staying c e es ks i b (h .1 q)),
+            same c _ ks refl (kept-as (leb (suc (c .side .taken)) there) _) (h .2),
+          );
           opening = λ c e es ks i b h. (S .opening c e es ks i b (h .0), (λ q. W q .opening c e es ks i b (h .1 q)), same c _ ks refl refl (h .2));
-          refining = λ c p ks h. (S .refining c p ks (h .0), (λ q. W q .refining c p ks (h .1 q)), growth-refined c p ks _ _ (h .2));
+          refining = λ c p ks h. (
+            S .refining c p ks (h .0),
+            (λ q. W q .refining c p ks (h .1 q)),
+            growth-refined c p ks (leb (suc (c .side .taken)) there) _ _ (h .2),
+          );
         }
       where
+        kept-as : (b : Bool) (w : List ℤ) → w ≡ cond b w w
+        kept-as true w = refl
+        kept-as false w = refl
+
         same : (c d : Course Reader) (ks : List ℕ) → c .lsp ≡ d .lsp → c .side .pyramid ≡ d .side .pyramid → Growth c ks → Growth d ks
         same c d ks e f h =
             record { small = rw (← f) (h .small); elsewhere = rw (← f) (h .elsewhere); among = rw (← e) (h .among); placed = h .placed }
@@ -180,7 +208,7 @@ module _ {F : Family} (L : Lawful F) (n k most : ℕ) (bit : ℕ → Bool) (l : 
       },
     )
 
-    passed-under : Growth (passed F k (decoder bit n) l (record { taken = 0; pyramid = v })) []
+    passed-under : Growth (passed F k (decoder bit there n) l (record { taken = 0; pyramid = v })) []
     unfolding passed
     passed-under = kept-pass (under-kept once (λ q e. omega (arith, before q e, twice))) L l _ begins .2
 
@@ -246,7 +274,7 @@ module _ (h : Header) (ok : legalSize (h .size) ≡ true) (bytes : List ℕ) (th
     walked q = omega (arith, i .1 q, pow-mono (behind-falls b (nameOf p) f (levelOf z q)))
 
     abbrev c : Course Reader
-    c = decoded (family z) (nameOf p) (bitAt (bodyOf bytes p)) st v
+    c = decoded (family z) (nameOf p) (bitAt (bodyOf bytes p)) (bitsThere bytes p) st v
 
     here-before : (q : ℕ) → levelOf z q ≡ nameOf p .level → magnitude v q + 2 ^ suc (nameOf p .plane) ≤ most
     here-before q e = omega (arith, subst (λ (j : ℕ). magnitude v q + 2 ^ planeBehind b j ≤ most) e (i .1 q), pow-mono (behind-above b (nameOf p) f))
@@ -264,37 +292,58 @@ module _ (h : Header) (ok : legalSize (h .size) ≡ true) (bytes : List ℕ) (th
     decoded-values : (q : ℕ) → magnitude (c .side .pyramid) q + 2 ^ planeBehind (nameOf p) (levelOf z q) ≤ most
     unfolding decoded sum
     decoded-values q =
-        let g = passed-under (lawful z (legal z ok)) (nameOf p .plane) (nameOf p .level) most (bitAt (bodyOf bytes p)) (st (nameOf p .level)) v
-        (i .0 .placed (nameOf p .level)) once-here here-before in
+        let g = passed-under (lawful z (legal z ok)) (nameOf p .plane) (nameOf p .level) most (bitAt (bodyOf bytes p)) (bitsThere bytes p)
+        (st (nameOf p .level)) v (i .0 .placed (nameOf p .level)) once-here here-before in
         by g (ℕ-discrete (levelOf z q) (nameOf p .level))
       where
-        by : Growth (lawful z (legal z ok)) (nameOf p .plane) (nameOf p .level) most (bitAt (bodyOf bytes p)) (st (nameOf p .level)) v c []
+        by : Growth (lawful z (legal z ok)) (nameOf p .plane) (nameOf p .level) most (bitAt (bodyOf bytes p)) (bitsThere bytes p) (st (nameOf p .level)) v c []
             → Dec (levelOf z q ≡ nameOf p .level) → magnitude (c .side .pyramid) q + 2 ^ planeBehind (nameOf p) (levelOf z q) ≤ most
         by g (yes e) = rw (e, behind-own (nameOf p)) (omega (arith, g .small q e))
         by g (no d) = omega (arith, g .elsewhere q d, walked q)
+
+    decoded-fits : (t : Bool) → Under (nameOf p) (cond t (going (after (p .level .0) c st) (c .side .pyramid)) (unfit (p .place)))
+    unfolding Under
+    decoded-fits true = (unfold nameOf in decoded-sound (lawful z (legal z ok)) (i .0) o (bitAt (bodyOf bytes p)) (bitsThere bytes p) v, decoded-values)
+    decoded-fits false = tt
 
     onward-going : Under (nameOf p) (onward h bytes there p (going st v))
     unfolding onward Under
     onward-going = by (usable (levels z) (h .planes) there (nameOf p))
       where
-        fit : (t : Bool) → Under (nameOf p) (cond t (going (after (p .level .0) c st) (c .side .pyramid)) (unfit (p .place)))
-        fit true = (unfold nameOf in decoded-sound (lawful z (legal z ok)) (i .0) o (bitAt (bodyOf bytes p)) v, decoded-values)
-        fit false = tt
-
         by : (t : Bool) → Under (nameOf p) (cond t (used p st c) (going st v))
-        by true = unfold used in fit (eqb (c .side .taken) (p .bits))
+        by true = unfold used in decoded-fits (eqb (c .side .taken) (p .bits))
         by false = (i .0, walked)
 
-  decodeParts-under : (b : PartName) (ps : List Part) → InOrder b (map nameOf ps) → All (Named (levels z) (h .planes)) (map nameOf ps)
-      → (g : Progress) → Under b g → (last : PartName) × Under last (decodeParts h bytes there ps g)
-  unfolding InOrder All decodeParts onward Under
-  decodeParts-under b [] o n g i = (b, i)
-  decodeParts-under b (p ∷ ps) o n g i =
-      decodeParts-under (nameOf p) ps (o .1) (n .1) (onward h bytes there p g) (next g i)
+    cut-going : Under (nameOf p) (tailOnward h bytes there (part.Cut p) (going st v))
+    unfolding tailOnward Under
+    cut-going = by (usable (levels z) (h .planes) (there ++ (nameOf p ∷ [])) (nameOf p))
+      where
+        by : (t : Bool) → Under (nameOf p) (cond t (usedCut h bytes there p st c) (going st v))
+        by true = unfold usedCut in decoded-fits (leb (bitsThere bytes p) (c .side .taken))
+        by false = (i .0, walked)
+
+  tail-under : (b : PartName) (place : ℕ) (g : Progress) → Under b g → (x : PartRead) → readPart h bytes b place ≡ x
+      → (last : PartName) × Under last (tailOnward h bytes there x g)
+  unfolding tailOnward Under
+  tail-under b place g i (part.Part p) e = (b, i)
+  tail-under b place g i part.Tail e = (b, i)
+  tail-under b place g i (part.Refused r) e = (b, i)
+  tail-under b place (unfit at) i (part.Cut p) e = (b, tt)
+  tail-under b place (going st v) i (part.Cut p) e =
+      let l : LegalHead h b (nameOf p) (p .bits) = readPart-cut h bytes b place p e .legal in
+      (nameOf p, cut-going b p (l .in-order) (record { from1 = l .named .from1; upTo = l .named .upTo }) st v i)
+
+  parts-under : (b : PartName) (place : ℕ) (ps : List Part) → WholeParts h bytes b place ps → (g : Progress) → Under b g
+      → (last : PartName) × Under last (tailOnward h bytes there (behindFrom h bytes b place ps) (decodeParts h bytes there ps g))
+  unfolding WholeParts decodeParts behindFrom onward Under
+  parts-under b place [] w g i = tail-under b place g i (readPart h bytes b place) refl
+  parts-under b place (p ∷ ps) w g i =
+      let st = readPart-stands h bytes b place p (w .0) in
+      parts-under (nameOf p) (p .end) ps (w .1) (onward h bytes there p g) (next (st .legal) g i)
     where
-      next : (g : Progress) → Under b g → Under (nameOf p) (onward h bytes there p g)
-      next (unfit at) i = tt
-      next (going st v) i = onward-going b p (o .0) (record { from1 = n .0 .from1; upTo = n .0 .upTo }) st v i
+      next : LegalHead h b (nameOf p) (p .bits) → (g : Progress) → Under b g → Under (nameOf p) (onward h bytes there p g)
+      next l (unfit at) i = tt
+      next l (going st v) i = onward-going b p (l .in-order) (record { from1 = l .named .from1; upTo = l .named .upTo }) st v i
 
 -- What decoding accepted came of this.
 going-accepted : (h : Header) (there : List PartName) (e : Ending) (g : Progress) (x : Picture) → pictured h there e g ≡ accepted x
@@ -319,8 +368,7 @@ module _ (s : List ℕ) (room work : ℕ) (x : Picture) (e : decoding s room wor
       let ok : legalSize (h .size) ≡ true = header-legal stands in
       let first : PartName = record { plane = h .planes; level = 0 } in
       let whole : WholeParts h s first (h .end) (readParts h s .parts) = readParts-whole h s in
-      let u = decodeParts-under h ok s there first (readParts h s .parts) (whole-in-order h s first (h .end) (readParts h s .parts) whole)
-      (whole-named h s first (h .end) (readParts h s .parts) whole)
+      let u = parts-under h ok s there first (h .end) (readParts h s .parts) whole
       (going (start (h .size)) (replicate (area (h .size)) (pos 0))) (start-sound (h .size) (legal (h .size) ok), blank-under (h .size) (h .planes)) in
       let v = subst (Under h ok s there (u .0)) (g .1) (u .1) in
       (h, a .1, λ q. omega (arith, v .1 q, pow-some (planeBehind (u .0) (levelOf (h .size) q))))

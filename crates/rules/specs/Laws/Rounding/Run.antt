@@ -17,17 +17,19 @@ use Rattle.rules.specs.Document.Notation.{count}
 use Rattle.rules.specs.Document.Pyramid.{legalSize, area, levels, levelOf, family, below0, magnitude, negative, mostPlanes}
 use Rattle.rules.specs.Document.Passes.{State, start, from, PartName, partNames, signed}
 use Rattle.rules.specs.Document.Layout.{headerBytes, CodedPart, partsWith, nameOf, reached}
-use Rattle.rules.specs.Document.Numbers.{tail, topLevel}
-use Rattle.rules.specs.Document.Calls.{accepted, unless, workFor, onHeader, onEnding, Progress, going, unfit, decodeParts, levelPlaces, reachedPlane}
-use Rattle.rules.specs.Document.Calls.{reachedPlanes, planeIn, skippedParts, skippedCounts, countIn, pictured, decodedParts, decoding}
+use Rattle.rules.specs.Document.Numbers.{tail, behind, topLevel}
+use Rattle.rules.specs.Document.Calls.{Picture, accepted, unless, workFor, onHeader, onEnding, Progress, going, unfit, decodeParts, tailOnward}
+use Rattle.rules.specs.Document.Calls.{levelPlaces, reachedPlane, reachedPlanes, planeIn, skippedParts, skippedCounts, countIn}
+use Rattle.rules.specs.Document.Calls.{pictured, decodedParts, decoding}
 use Rattle.rules.specs.Laws.Counting.Sums.{sum, one, one-most, is, _∈_, All, Every, all-then, all-every, from-length, from-all, from-once}
 use Rattle.rules.specs.Laws.Family.Sizes.{legal}
-use Rattle.rules.specs.Promises.Vocabulary.{Legal, present, headerOf, partsAt, selection, Stated, names, kept, wholeIn, tailIn, arrived, towardZero}
-use Rattle.rules.specs.Promises.Vocabulary.{Rounded, ReadsAs, Named}
+use Rattle.rules.specs.Promises.Vocabulary.{Legal, present, headerOf, partsAt, selection, Stated, names, kept, towardZero}
+use Rattle.rules.specs.Promises.Vocabulary.{RoundedAt, at-reached, Rounded, ReadsAs, Named}
 use Rattle.rules.specs.Laws.Offspring.Level.{level-most, level-least}
 use Rattle.rules.specs.Laws.Offspring.Lawful.{lawful}
 use Rattle.rules.specs.Laws.Offspring.Start.{start-top, start-else}
 use Rattle.rules.specs.Laws.State.Parts.{partNames-levels, codedParts-bits}
+use Rattle.rules.specs.Laws.State.Sound.{Sound}
 use Rattle.rules.specs.Laws.State.Record.{start-sound}
 use Rattle.rules.specs.Laws.Reading.Parts.{InOrder, absent, names-named, names-in-order}
 use Rattle.rules.specs.Laws.Reading.Usable.{usable-there, usable-reached, reached-within, reached-falls}
@@ -35,9 +37,9 @@ use Rattle.rules.specs.Laws.Reading.Skipped.{used-and-skipped-there, ski
 use Rattle.rules.specs.Laws.Bytes.RecordBack.{beforeAll, LegalParts, parts-names, selection-legal, coded-legal}
 use Rattle.rules.specs.Laws.Rounding.TowardZero.{signed-magnitude, signed-sign}
 use Rattle.rules.specs.Laws.Rounding.KnownState.{known-value}
-use Rattle.rules.specs.Laws.Rounding.Rebuilt.{rebuilt, OnTheWay, Ended, rebuilt-ends}
+use Rattle.rules.specs.Laws.Rounding.Rebuilt.{rebuilt, Ended, rebuilt-ends}
 use Rattle.rules.specs.Laws.Rounding.Followed.{Arrives, decodes-rebuilt}
-use Rattle.rules.specs.Laws.Rounding.Arrival.{header-read, parts-stand, arrived-reads, arrived-selection, legal-order, legal-named}
+use Rattle.rules.specs.Laws.Rounding.Arrival.{header-read, parts-stand, none-behind, legal-order, legal-named}
 
 -- The reached planes and the counts, place by place.
 pub map-from : {X : Type 0} (f : ℕ → X) (d : X) (a m i : ℕ) → i < m → getD (map f (from a m)) i d ≡ f (a + i)
@@ -171,6 +173,64 @@ module _ (z : Size) (ok : legalSize z ≡ true) (planes : ℕ) (few : planes ≤
   unfolding one
   counted q l = omega (arith, from-once q (area z), ap one (lt-ltb q (area z) l))
 
+  -- The run over the parts, with some of them there: where it comes to, and what then stands in the pyramid.
+  module _ (there : List PartName) where
+    abbrev reaches : ℕ → ℕ
+    reaches k = reached (levels z) planes there k
+
+    abbrev run : Progress
+    run = rebuilt (family z) (magnitude pyramid) (negative pyramid) reaches (partNames (levels z) planes) (start z) blank
+
+    pub record Run : Type 0 where
+      pub lists : State
+      pub drawn : List ℤ
+      pub runs : rebuilt (family z) (magnitude pyramid) (negative pyramid) (λ k. reached (levels z) planes there k) (partNames (levels z) planes) (start z)
+          (replicate (area z) (pos 0)) ≡ going lists drawn
+      pub sound : Sound (family z) (levels z) (from 0 (area z)) lists
+      pub sized : length drawn ≡ area z
+      pub value : (q : ℕ) → q < area z
+          → getD drawn q (pos 0) ≡ signed (negative pyramid q) (towardZero (reached (levels z) planes there (levelOf z q)) (magnitude pyramid q))
+
+    pub run-of : Run
+    unfolding Ended
+    run-of =
+        by run refl
+        (rebuilt-ends (lawful z Z) (magnitude pyramid) (negative pyramid) reaches (levels z) all (area z) once inside planes
+        (λ j a b. reached-within (levels z) planes there j) small (start z) (start-sound z Z) (start-fresh z) blank
+        (length-replicate (area z) (pos 0)) (blank-same (pos 0) (area z)))
+      where
+        by : (g : Progress) → run ≡ g → Ended (family z) (magnitude pyramid) (negative pyramid) reaches (levels z) all (area z) g → Run
+        by (unfit place) e w = absurd w
+        by (going s v) e w =
+            record {
+              lists = s;
+              drawn = v;
+              runs = e;
+              sound = w .sound;
+              sized = w .sized;
+              value = λ q l.
+                  known-value (magnitude pyramid) (negative pyramid) (w .sound) reaches (reached-falls (levels z) planes there) (w .known) q (counted q l)
+                  (level-least z Z q l) (level-most z q);
+            }
+
+  -- Bytes that read as these parts, and where decoding comes to by what stands behind them.
+  pub record Onward (ps : List CodedPart) (cut : ℕ) (bytes : List ℕ) : Type 0 where
+    pub read : ReadsAs z planes ps cut bytes
+    pub lists : State
+    pub printed : List ℤ
+    pub on : tailOnward (headerOf z planes) bytes (names ps) (behind (headerOf z planes) bytes (partsAt (length (headerBytes z planes)) ps))
+        (going (run-of (names ps) .lists) (run-of (names ps) .drawn)) ≡ going lists printed
+
+  -- What then is to be shown of that pyramid.
+  pub record RoundedTo (part there : List PartName) (v : List ℤ) : Type 0 where
+    pub sized : length v ≡ area z
+    pub plane : ℕ → ℕ
+    pub rounds : (q : ℕ) → q < area z → RoundedAt part (levelOf z q) (reached (levels z) planes there (levelOf z q)) (plane q)
+    pub value : (q : ℕ) → q < area z → getD v q (pos 0) ≡ signed (negative pyramid q) (towardZero (plane q) (magnitude pyramid q))
+
+  abbrev pictureOf : List PartName → ℕ → List ℤ → Picture
+  pictureOf there cut v = record { pyramid = v; tail = cut; reached = reachedPlanes h there; skipped = skippedCounts h there }
+
   -- The parts that pass a test, as they are read from some bytes.
   module _ (keep : PartName → Bool) where
     abbrev there : List PartName
@@ -178,6 +238,9 @@ module _ (z : Size) (ok : legalSize z ≡ true) (planes : ℕ) (few : planes ≤
 
     abbrev R : ℕ → ℕ
     R k = reached (levels z) planes there k
+
+    abbrev W : Run there
+    W = run-of there
 
     module _ {cut : ℕ} {bytes : List ℕ} (read : ReadsAs z planes (kept keep (partsWith z planes pyramid)) cut bytes) where
       arrive : All (Arrives h bytes there (magnitude pyramid) (negative pyramid) R (reached-falls (levels z) planes there) keep) (partNames (levels z) planes)
@@ -198,45 +261,50 @@ module _ (z : Size) (ok : legalSize z ≡ true) (planes : ℕ) (few : planes ≤
           (beforeAll planes) (names-in-order (levels z) planes (beforeAll planes) (omega arith)) arrive
           (start z) (start z) (λ k l. refl) blank (length (headerBytes z planes)) (read .rest) (parts-stand read)
 
-    ends : Ended (family z) (magnitude pyramid) (negative pyramid) R (levels z) all (area z)
-        (rebuilt (family z) (magnitude pyramid) (negative pyramid) R (partNames (levels z) planes) (start z) blank)
-    ends =
-        rebuilt-ends (lawful z Z) (magnitude pyramid) (negative pyramid) R (levels z) all (area z) once inside planes
-        (λ j a b. reached-within (levels z) planes there j) small (start z) (start-sound z Z) (start-fresh z) blank
-        (length-replicate (area z) (pos 0)) (blank-same (pos 0) (area z))
-
-    -- decoding, where the header and these parts are what is read
-    module _ {cut : ℕ} {bytes : List ℕ} (read : ReadsAs z planes (kept keep (partsWith z planes pyramid)) cut bytes) (room work : ℕ)
-        (sizes : Stated z room work) where
-      accepts-read : (s : State) (v : List ℤ)
-          → rebuilt (family z) (magnitude pyramid) (negative pyramid) R (partNames (levels z) planes) (start z) blank ≡ going s v
-          → decoding bytes room work ≡ accepted (record { pyramid = v; tail = cut; reached = reachedPlanes h there; skipped = skippedCounts h there })
+    -- decoding, where the header and these parts are what is read, and what stands behind them leads on
+    module _ {cut : ℕ} {bytes : List ℕ} (o : Onward (kept keep (partsWith z planes pyramid)) cut bytes) (room work : ℕ) (sizes : Stated z room work) where
+      accepts-read : decoding bytes room work ≡ accepted (pictureOf there cut (o .printed))
       unfolding decoding onHeader unless decodedParts pictured onEnding
-      accepts-read s v e =
+      accepts-read =
           let same : map nameOf (partsAt (length (headerBytes z planes)) (kept keep (partsWith z planes pyramid))) ≡ there
           = parts-names (length (headerBytes z planes)) (kept keep (partsWith z planes pyramid)) in
           rw (
-            header-read read ok few,
+            header-read (o .read) ok few,
             eq-eqb room (area z) (sizes .whole),
             le-leb (workFor z) work (sizes .enough),
-            read .parts-read,
+            o .read .parts-read,
             same,
-            decodes read,
-            e,
+            decodes (o .read),
+            W .runs,
+            o .on,
           )
 
-      pub rounded-read : Rounded z planes pyramid (names (kept keep (partsWith z planes pyramid))) cut (decoding bytes room work)
-      unfolding Ended
-      rounded-read = by (rebuilt (family z) (magnitude pyramid) (negative pyramid) R (partNames (levels z) planes) (start z) blank) refl ends
+      rounded-read-by : (part : List PartName) → RoundedTo part there (o .printed) → Rounded z planes pyramid there part cut (decoding bytes room work)
+      rounded-read-by part r =
+          record {
+            picture = pictureOf there cut (o .printed);
+            accepts = accepts-read;
+            sized = r .sized;
+            plane = r .plane;
+            rounds = r .rounds;
+            values = r .value;
+            magnitudes = λ q l. unfold magnitude in ap natAbs (r .value q l) ∙ signed-magnitude (negative pyramid q) (m q);
+            signs = λ q l some.
+                unfold magnitude negative in
+                ap below0 (r .value q l)
+                ∙ signed-sign (negative pyramid q) (m q) (omega (arith, ap natAbs (r .value q l), signed-magnitude (negative pyramid q) (m q)));
+            six = reports-six h there;
+            reports = λ k a b. reports-level h there k a b (omega (arith, Z .few));
+            beyond = reports-beyond h there;
+            six-counts = counts-six h there;
+            skips = λ k a b. counts-level h there k a (omega (arith, Z .few));
+            used-and-skipped = λ k a b. counts-all h there (beforeAll planes) in-order all-named k a b (omega (arith, Z .few));
+            skips-beyond = counts-beyond h there all-named;
+            tail = refl;
+          }
         where
           m : ℕ → ℕ
-          m q = towardZero (R (levelOf z q)) (magnitude pyramid q)
-
-          value : (s : State) (v : List ℤ) → OnTheWay (family z) (magnitude pyramid) (negative pyramid) R (levels z) all (area z) R s v
-              → (q : ℕ) → q < area z → getD v q (pos 0) ≡ signed (negative pyramid q) (m q)
-          value s v w q l =
-              known-value (magnitude pyramid) (negative pyramid) (w .sound) R (reached-falls (levels z) planes there) (w .known) q (counted q l)
-              (level-least z Z q l) (level-most z q)
+          m q = towardZero (r .plane q) (magnitude pyramid q)
 
           all-named : All (Named (levels z) planes) there
           all-named = legal-named h (beforeAll planes) (kept keep (partsWith z planes pyramid)) (kept-legal z ok planes pyramid keep)
@@ -244,41 +312,43 @@ module _ (z : Size) (ok : legalSize z ≡ true) (planes : ℕ) (few : planes ≤
           in-order : InOrder (beforeAll planes) there
           in-order = legal-order h (beforeAll planes) (kept keep (partsWith z planes pyramid)) (kept-legal z ok planes pyramid keep)
 
-          by : (g : Progress) → rebuilt (family z) (magnitude pyramid) (negative pyramid) R (partNames (levels z) planes) (start z) blank ≡ g
-              → Ended (family z) (magnitude pyramid) (negative pyramid) R (levels z) all (area z) g
-              → Rounded z planes pyramid there cut (decoding bytes room work)
-          by (unfit place) e w = absurd w
-          by (going s v) e w =
-              record {
-                picture = record { pyramid = v; tail = cut; reached = reachedPlanes h there; skipped = skippedCounts h there };
-                accepts = accepts-read s v e;
-                sized = w .sized;
-                values = value s v w;
-                magnitudes = λ q l. unfold magnitude in ap natAbs (value s v w q l) ∙ signed-magnitude (negative pyramid q) (m q);
-                signs = λ q l some.
-                    unfold magnitude negative in
-                    ap below0 (value s v w q l)
-                    ∙ signed-sign (negative pyramid q) (m q) (omega (arith, ap natAbs (value s v w q l), signed-magnitude (negative pyramid q) (m q)));
-                six = reports-six h there;
-                reports = λ k a b. reports-level h there k a b (omega (arith, Z .few));
-                beyond = reports-beyond h there;
-                six-counts = counts-six h there;
-                skips = λ k a b. counts-level h there k a (omega (arith, Z .few));
-                used-and-skipped = λ k a b. counts-all h there (beforeAll planes) in-order all-named k a b (omega (arith, Z .few));
-                skips-beyond = counts-beyond h there all-named;
-                tail = refl;
-              }
+  -- The same of parts that are such a selection.
+  module _ (keep : PartName → Bool) (ps : List CodedPart) (e : kept keep (partsWith z planes pyramid) ≡ ps) {cut : ℕ} {bytes : List ℕ}
+      (o : Onward ps cut bytes) (room work : ℕ) (sizes : Stated z room work) where
+    pub onward-accepts : decoding bytes room work
+        ≡ accepted (record {
+          pyramid = o .printed;
+          tail = cut;
+          reached = reachedPlanes (headerOf z planes) (names ps);
+          skipped = skippedCounts (headerOf z planes) (names ps);
+        })
+    onward-accepts =
+        subst (λ l. (o : Onward l cut bytes) → decoding bytes room work ≡ accepted (pictureOf (names l) cut (o .printed))) e
+        (λ o. accepts-read keep o room work sizes) o
 
-  -- Any selection of the parts, and any number of bytes of it.
-  pub rounded-arrived : (keep : PartName → Bool) (n room work : ℕ) → Stated z room work
-      → Rounded z planes pyramid (names (wholeIn n (kept keep (partsWith z planes pyramid)))) (tailIn n (kept keep (partsWith z planes pyramid)))
-      (decoding (arrived z planes (kept keep (partsWith z planes pyramid)) n) room work)
-  rounded-arrived keep n room work sizes =
+    pub rounded-by : (part : List PartName) → RoundedTo part (names ps) (o .printed)
+        → Rounded z planes pyramid (names ps) part cut (decoding bytes room work)
+    rounded-by part r =
+        subst (λ l. (o : Onward l cut bytes) → RoundedTo part (names l) (o .printed) → Rounded z planes pyramid (names l) part cut (decoding bytes room work)) e
+        (λ o. rounded-read-by keep o room work sizes part) o r
+
+  -- Where what stands behind them isn't used, and so where nothing stands there.
+  pub unused-rounded : (ps : List CodedPart) (part : List PartName) → RoundedTo part (names ps) (run-of (names ps) .drawn)
+  unused-rounded ps part =
+      let W : Run (names ps) = run-of (names ps) in
+      record { sized = W .sized; plane = λ q. reached (levels z) planes (names ps) (levelOf z q); rounds = λ q l. at-reached; value = W .value }
+
+  pub rounded-read : (keep : PartName → Bool) {bytes : List ℕ} → ReadsAs z planes (kept keep (partsWith z planes pyramid)) 0 bytes → (room work : ℕ)
+      → Stated z room work
+      → Rounded z planes pyramid (names (kept keep (partsWith z planes pyramid))) [] 0 (decoding bytes room work)
+  unfolding tailOnward
+  rounded-read keep read room work sizes =
       let ps : List CodedPart = kept keep (partsWith z planes pyramid) in
-      let some : (left : PartName → Bool) × (kept left (partsWith z planes pyramid) ≡ wholeIn n ps)
-      = arrived-selection keep n (beforeAll planes) (partsWith z planes pyramid) (legal-order h (beforeAll planes) ps (kept-legal z ok planes pyramid keep)) in
-      subst (λ x. Rounded z planes pyramid (names x) (tailIn n ps) (decoding (arrived z planes ps n) room work)) (some .1)
-      (rounded-read (some .0)
-      (subst (λ x. ReadsAs z planes x (tailIn n ps) (arrived z planes ps n)) (sym (some .1))
-      (arrived-reads z planes ps ok few (kept-legal z ok planes pyramid keep) n))
-      room work sizes)
+      rounded-by keep ps refl
+      (record {
+        read = read;
+        lists = run-of (names ps) .lists;
+        printed = run-of (names ps) .drawn;
+        on = rw (none-behind read ok few (kept-legal z ok planes pyramid keep));
+      })
+      room work sizes [] (unused-rounded ps [])

@@ -4,11 +4,12 @@ use mathlib.Core.Bool.{Bool, true, false, cond}
 use mathlib.Core.Logic.{_≢_, inl, inr}
 use Prim.Native.Nat.{ℕ, zero, suc, _+_, _-_, _*_, _/_, _%_, _^_, _≤_, _<_}
 use native.Mathlib.Omega.{arith}
+use native.Mathlib.Decide.{decLe}
 use native.Mathlib.Nat.{div-eq-of-lt-le, div-eq-of-lt, div-add-mod', mod-lt, pow-suc}
 use native.Mathlib.Numerals.{add-one}
 use lib.Dec.{ltb, eqb}
 use lib.IntN.{ℤ, pos, negsuc, natAbs, negℤ, subℕ, _-ℤ_}
-use lib.Pow.{pow-pos, shr-shr, split}
+use lib.Pow.{pow-pos, pow-mono, shr-shr, split}
 use borrow.Author.Tests.{ltb-true, ltb-false, eqb-true, eqb-false}
 use Rattle.rules.specs.Document.Pyramid.{below0}
 use Rattle.rules.specs.Document.Passes.{signed, grown}
@@ -116,3 +117,19 @@ rounded-near m (negsuc x) = by (towardZero m (suc x)) (toward-most m (suc x)) (t
     by : (t : ℕ) → t ≤ suc x → suc x < t + 2 ^ m → Near m (negℤ (pos t)) (negsuc x)
     by zero l h = record { distance = near-neg m x zero l h; no-greater = omega arith; sign = inl refl }
     by (suc t) l h = record { distance = near-neg m x (suc t) l h; no-greater = l; sign = inr refl }
+
+-- What is near by a lower plane is near by a higher one.
+pub near-above : {n m : ℕ} {x y : ℤ} → n ≤ m → Near n x y → Near m x y
+near-above {n} {m} l a = record { distance = omega (arith, a .distance, pow-mono {i = n} {j = m} l); no-greater = a .no-greater; sign = a .sign }
+
+-- A lower plane rounds less away.
+toward-step : (n x : ℕ) → towardZero (suc n) x ≤ towardZero n x
+toward-step n x = omega (arith, toward-next n x)
+
+pub toward-falls : (n m x : ℕ) → n ≤ m → towardZero m x ≤ towardZero n x
+toward-falls n zero x l = let e : n ≡ 0 = omega arith in rw e (omega arith)
+toward-falls n (suc m) x l = by (decLe n m) (toward-falls n m x)
+  where
+    by : Dec (n ≤ m) → (n ≤ m → towardZero m x ≤ towardZero n x) → towardZero (suc m) x ≤ towardZero n x
+    by (yes i) r = omega (arith, r i, toward-step m x)
+    by (no i) r = let e : n ≡ suc m = omega arith in rw e (omega arith)

@@ -133,6 +133,7 @@ module _ (h : Header) (s : List ℕ) where
           let st = readPart-stands h s before place p f in
           append-assoc (wholeOf s p) _ (drop (length s - k) s) ∙ ap (λ (l : List ℕ). wholeOf s p ++ l) (r p (st .within) i)
           ∙ whole-rest p (omega (arith, st .placed, st .after, st .end)) ∙ ap (λ (n : ℕ). drop n s) (st .placed)
+      go (part.Cut p) f i r = tail-rest place k l i
       go part.Tail f i r = tail-rest place k l i
       go (part.Refused q) f i r = absurd (let z : _≡_ {A = ℕ} 0 1 = cc in omega arith)
 

@@ -48,10 +48,10 @@ module _ {F : Family} (L : Lawful F) {top : ℕ} {all : List ℕ} {s : State} (h
     coded-bits = omega (arith, coded-taken, levelCount-most F all (p .level))
 
   -- One part of the decoder, whatever its bits.
-  module _ (bit : ℕ → Bool) (v : List ℤ) where
-    pub decoded-sound : Sound F top all (after (p .level) (decoded F p bit s v) s)
+  module _ (bit : ℕ → Bool) (there : ℕ) (v : List ℤ) where
+    pub decoded-sound : Sound F top all (after (p .level) (decoded F p bit there s v) s)
     unfolding decoded
-    decoded-sound = sound-after L h (p .level) (o .from1) (o .upTo) (decoder bit (p .plane)) (record { taken = 0; pyramid = v })
+    decoded-sound = sound-after L h (p .level) (o .from1) (o .upTo) (decoder bit there (p .plane)) (record { taken = 0; pyramid = v })
 
 -- All parts of the coder.
 partsOfPlane-levels : (top n k : ℕ) → k ≤ top → All (OfLevel top) (partsOfPlane n k)
