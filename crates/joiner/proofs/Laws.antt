@@ -2,13 +2,16 @@
 use mathlib.Core.Path.{_≡_, refl, ap, ap₂, sym, _∙_, subst}
 use mathlib.Core.List.{List, [], _∷_, _++_, map, append-assoc, append-nil}
 use mathlib.Core.Bool.{Bool, true, false, cond, not, true≢false}
-use mathlib.Core.Logic.{_↔_, _≢_}
+use mathlib.Core.Logic.{_↔_, _≢_, inl, inr}
 use Prim.Native.Nat.{ℕ, zero, suc, _+_, _-_, _^_, _≤_, _<_}
 use native.Mathlib.Omega.{arith}
 use native.Mathlib.Decide.{decLt}
 use lib.ListN.{length, take, drop, length-append, length-replicate}
 use borrow.Author.Tests.{le-leb, lt-leb, eq-eqb, ne-eqb, not-false}
 use lib.Seq.{sets, length-sets, length-take-le}
+use types.Run.{OneOf}
+use denote.Enum.Declared.{tagOf}
+use Rattle.rules.proofs.PartRead.{the-type}
 use Rattle.rules.specs.declared.Refusal.{Refusal}
 use Rattle.rules.specs.declared.Refusal.the-variants as refusal
 use Rattle.rules.specs.declared.Verdict.the-variants.{Accepted, Refused}
@@ -29,7 +32,7 @@ use Rattle.rules.specs.Laws.Reading.Parts.{After, InOrder, same-name, name-same
 use Rattle.rules.specs.Laws.Counting.Booleans.{not-test}
 use Rattle.rules.specs.Laws.Family.Sizes.{legal}
 use Rattle.rules.specs.Laws.Reading.Stands.{readHeader-stands, header-legal, readPart-stands}
-use Rattle.rules.specs.Laws.Reading.Walk.{partsFrom, readParts-from, partsFrom-part, partsFrom-tail, partsFrom-fault}
+use Rattle.rules.specs.Laws.Reading.Walk.{partsFrom, readParts-from, partsFrom-part, partsFrom-tail, partsFrom-cut, partsFrom-fault}
 use Rattle.rules.specs.Laws.Serving.Selection.{whole-length}
 use Rattle.rules.specs.Laws.Bytes.Output.{clipped, clipped-nothing, clipped-length, clipped-append, clipped-fits}
 use Rattle.rules.specs.declared.Plane.{Plane}
@@ -147,6 +150,7 @@ module _ (h : Header) (s : List ℕ) (x : PartName) (ns : List PartName) (hand :
 
       by : (y : PartRead) → readPart h s before (hand .place) ≡ y → Offered h s x ns hand (offerOf hand x y)
       by (part.Part p) f = part-by p f (sameName x (nameOf p)) refl
+      by (part.Cut p) f = offered-end (ap (λ (y : Reading). y .parts) (partsFrom-cut h s before (hand .place) p f))
       by part.Tail f = offered-end (ap (λ (y : Reading). y .parts) (partsFrom-tail h s before (hand .place) f))
       by (part.Refused q) f = offered-end (ap (λ (y : Reading). y .parts) (partsFrom-fault h s before (hand .place) q f))
 
@@ -586,6 +590,10 @@ module _ (a b : List ℕ) (v : Survey) (e : v ≡ surveyOf a) where
     both-read k =
         record { one = first-read; two = subst (λ (x : Survey). x .verdict ≡ Accepted → Readable b (x .header)) (sym g) (surveyed-read b) k }
 
+-- a tail, a part that is cut, or a fault
+abbrev NoPart : PartRead → Type 0
+NoPart r = OneOf (2 ∷ 1 ∷ 3 ∷ []) (tagOf the-type r)
+
 -- What is read, part or none, as it is offered.
 module _ (h : Header) (s : List ℕ) (hand : Cursor) (plane : Plane) (level : Level) (r : PartRead)
     (e : r ≡ nextOf h s hand) where
@@ -595,11 +603,16 @@ module _ (h : Header) (s : List ℕ) (hand : Cursor) (plane : Plane) (level : Le
   offers : (y : PartRead) → r ≡ y → (o : Offer) → o ≡ offerOf hand (nameBy plane level) y → o ≡ expected
   offers y f o g = g ∙ ap (offerOf hand (nameBy plane level)) (sym f ∙ e)
 
-  pub offers-end : r ≡ part.Tail → (o : Offer) → o ≡ noOffer hand → o ≡ expected
-  offers-end f o g = offers part.Tail f o g
-
-  pub offers-fault : (q : Refusal) → r ≡ part.Refused q → (o : Offer) → o ≡ noOffer hand → o ≡ expected
-  offers-fault q f o g = offers (part.Refused q) f o g
+  pub offers-none : NoPart r → (o : Offer) → o ≡ noOffer hand → o ≡ expected
+  offers-none d o g = cases r refl d
+    where
+      cases : (y : PartRead) → r ≡ y → NoPart y → o ≡ expected
+      cases (part.Part p) f (inl d) = absurd (omega arith)
+      cases (part.Part p) f (inr (inl d)) = absurd (omega arith)
+      cases (part.Part p) f (inr (inr d)) = absurd (omega arith)
+      cases (part.Cut p) f d = offers (part.Cut p) f o g
+      cases part.Tail f d = offers part.Tail f o g
+      cases (part.Refused q) f d = offers (part.Refused q) f o g
 
   module _ (p : Part) (f : r ≡ part.Part p) where
     pub offers-ordered : p .place ≤ p .end

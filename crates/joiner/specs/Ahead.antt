@@ -47,6 +47,7 @@ noOffer hand = record { place = 0; count = 0; hand = hand }
 abbrev pub offerOf : Cursor → PartName → PartRead → Offer
 offerOf hand x (part.Part p) =
     cond (sameName x (nameOf p)) (record { place = p .place; count = p .end - p .place; hand = pastOf p }) (noOffer hand)
+offerOf hand x (part.Cut p) = noOffer hand
 offerOf hand x part.Tail = noOffer hand
 offerOf hand x (part.Refused r) = noOffer hand
 

@@ -64,8 +64,7 @@ fn offered(bytes: &[u8], h: Header, hand: Cursor, plane: Plane, level: Level) ->
     ensures { λ r. ⌜ r ≡ offerOf hand (nameBy plane level) (nextOf h (now (bytes .entry)) hand) ⌝ }
 {
     match hand.next(bytes, h) {
-        PartRead::Tail => nothing(hand),
-        PartRead::Refused(_) => nothing(hand),
+        PartRead::Tail | PartRead::Cut(_) | PartRead::Refused(_) => nothing(hand),
         PartRead::Part(p) => {
             let own_plane = p.plane;
             let own_level = p.level;

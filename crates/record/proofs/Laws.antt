@@ -6,7 +6,8 @@ use mathlib.Core.Bool.{Bool, true, false, cond, _&&_, and-true, and-false, or-fa
 use Prim.Native.Nat.{ℕ, _+_, _-_, _*_, _/_, _^_, _≤_, _<_}
 use lib.Dec.{leb, ltb, eqb}
 use borrow.Author.Tests.{eq-eqb, ne-eqb, le-leb, lt-leb, lt-ltb, le-ltb, leb-true}
-use lib.ListN.{length, take, drop}
+use lib.ListN.{length, take, drop, length-drop}
+use lib.Seq.{take-all}
 use native.Mathlib.Omega.{arith}
 use types.Run.{OneOf}
 use mir.Syntax.{w64}
@@ -27,7 +28,7 @@ use Rattle.rules.specs.declared.HeaderRead.{HeaderRead}
 use Rattle.rules.specs.declared.HeaderRead.the-variants as header
 use Rattle.rules.specs.Document.Pyramid.{legalSize, mostPlanes, mostArea, area}
 use Rattle.rules.specs.Document.Passes.{PartName}
-use Rattle.rules.specs.Document.Layout.{readNumber, version, bytesFor, padClear, bodyOf, nameOf}
+use Rattle.rules.specs.Document.Layout.{readNumber, version, bytesFor, padClear, bodyOf, bitsThere, nameOf}
 use Rattle.rules.specs.Document.Numbers.{headNumber, judgedHeader, mostBits, partNumber, follows, legalHead, judgedPart, topLevel, partMost}
 use Rattle.record.specs.declared.Name.{Name}
 use Rattle.record.specs.Named.{nameBy, named, unreadHeader, unread, wholePart}
@@ -88,6 +89,24 @@ unfolding bodyOf
 body-between s p e =
     let f : p .end - p .body ≡ bytesFor (p .bits) = omega arith in
     ap (λ (n : ℕ). take n (drop (p .body) s)) f
+
+-- Where the bytes end before it does, all that is left of them.
+pub body-cut : (s : List ℕ) (p : Part) → p .end ≡ p .body + bytesFor (p .bits) → length s < p .end
+    → take (length s - p .body) (drop (p .body) s) ≡ bodyOf s p
+unfolding bodyOf
+body-cut s p e l =
+    let left : length (drop (p .body) s) ≡ length s - p .body = length-drop (p .body) s in
+    take-all (length s - p .body) (drop (p .body) s) (omega arith) ∙ sym (take-all (bytesFor (p .bits)) (drop (p .body) s) (omega arith))
+
+-- The bits there, by the body that is.
+module _ (s : List ℕ) (p : Part) (body : List ℕ) (e : body ≡ bodyOf s p) where
+  pub bits-all : p .bits / 8 < length body → p .bits ≡ bitsThere s p
+  unfolding bitsThere
+  bits-all l = omega (arith, ap length e)
+
+  pub bits-eight : length body ≤ p .bits / 8 → 8 * length body ≡ bitsThere s p
+  unfolding bitsThere
+  bits-eight l = omega (arith, ap length e)
 
 -- all of a head's tests but that of the bit count
 abbrev ofName : Header → PartName → PartName → Bool
@@ -154,7 +173,7 @@ part-step place x y go v end r e f u = u ∙ ap (λ (n : Number). partNumber pla
 
 -- Behind the three numbers: the head, then the body and its padding.
 module _ (s : List ℕ) (p : Part) where
-  pub whole-cut : length s < p .end → part.Tail ≡ wholePart s p
+  pub whole-cut : length s < p .end → part.Cut p ≡ wholePart s p
   unfolding wholePart
   whole-cut l = rw (lt-leb (p .end) (length s) l)
 

@@ -34,4 +34,4 @@ unread place x = partNumber place x (λ v end. part.Tail)
 -- What is left to judge of a part whose head is legal.
 unfoldable pub wholePart : List ℕ → Part → PartRead
 wholePart s p =
-    cond (leb (p .end) (length s)) (cond (padClear (bodyOf s p) (p .bits)) (part.Part p) (part.Refused (refusal.Pad (p .place)))) part.Tail
+    cond (leb (p .end) (length s)) (cond (padClear (bodyOf s p) (p .bits)) (part.Part p) (part.Refused (refusal.Pad (p .place)))) (part.Cut p)

@@ -3,7 +3,7 @@ ghost use mathlib.Core.Path.{_≡_};
 ghost use mathlib.Core.Bool.{true};
 ghost use Prim.Native.Nat.{_+_, _^_, _≤_, _<_};
 ghost use lib.ListN.{length};
-ghost use Rattle.rules.specs.Document.Layout.{bytesFor, bodyOf};
+ghost use Rattle.rules.specs.Document.Layout.{bytesFor, bodyOf, bitsThere};
 ghost use Rattle.rules.specs.Document.Numbers.{judgedHeader, readSizes, readHeader, follows, legalHead, readPart};
 ghost use Rattle.rules.specs.Document.Pyramid.{legalSize};
 ghost use Rattle.record.specs.Named.{named, nameBy, unreadHeader, unread, wholePart};
@@ -126,6 +126,30 @@ pub fn body(bytes: &[u8], p: Part) -> &[u8]
     &bytes[start..end]
 }
 
+// Of a part's body what is there: all of a whole part's, the first bytes of one that is cut.
+pub fn there(bytes: &[u8], p: Part) -> &[u8]
+    requires { ⌜ (p .end ≡ p .body + bytesFor (p .bits)) × (p .body ≤ length (now bytes)) ⌝ }
+    ensures { λ r. ⌜ now r ≡ bodyOf (now (bytes .entry)) p ⌝ }
+{
+    if p.end <= bytes.len() {
+        return body(bytes, p);
+    }
+    let start = p.body;
+    &bytes[start..]
+}
+
+// How many of a part's bits are there: eight for each byte, but no more than it has.
+pub fn bits_there(bytes: &[u8], p: Part) -> usize
+    requires { ⌜ (p .end ≡ p .body + bytesFor (p .bits)) × (p .body ≤ length (now bytes)) ⌝ }
+    ensures { λ r. ⌜ r ≡ bitsThere (now (bytes .entry)) p ⌝ }
+{
+    let body = there(bytes, p);
+    if p.bits / 8 < body.len() {
+        return p.bits;
+    }
+    8 * body.len()
+}
+
 // What a number without a value makes of a part: one with too many bytes or in long form refuses it, one cut off leaves a tail.
 fn no_value(number: Number, place: usize) -> PartRead
     ensures { λ r. ⌜ r ≡ unread place number ⌝ }
@@ -138,13 +162,13 @@ fn no_value(number: Number, place: usize) -> PartRead
     }
 }
 
-// A part with a legal head: whole, cut short, or with a padding bit set.
+// A part with a legal head: whole, cut in its body, or with a padding bit set.
 fn whole_part(bytes: &[u8], p: Part) -> PartRead
     requires { ⌜ (p .end ≡ p .body + bytesFor (p .bits)) × (p .bits < 2 ^ 40) ⌝ }
     ensures { λ r. ⌜ r ≡ wholePart (now (bytes .entry)) p ⌝ }
 {
     if bytes.len() < p.end {
-        return PartRead::Tail;
+        return PartRead::Cut(p);
     }
     let place = p.place;
     if bits::padding_clear(body(bytes, p), p.bits) {

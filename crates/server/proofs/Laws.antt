@@ -30,7 +30,7 @@ use Rattle.rules.specs.Laws.Counting.Sums.{flat-append}
 use Rattle.rules.specs.Laws.Bytes.Output.{clipped, clipped-nothing, clipped-length, clipped-append, clipped-fits}
 use Rattle.rules.specs.Laws.Serving.Selection.{whole-length}
 use Rattle.record.specs.declared.walk.Cursor.{Cursor}
-use Rattle.record.specs.Walk.{firstOf, nextOf, pastOf, Stands, stands-first, stands-legal, next-stands, stands-past, stands-tail, stands-fault}
+use Rattle.record.specs.Walk.{firstOf, nextOf, pastOf, Stands, stands-first, stands-legal, next-stands, Short, stands-past, stands-short, stands-fault}
 use Rattle.server.specs.declared.Ended.{Ended}
 use Rattle.server.specs.declared.Ended.the-variants.{Whole, Fault}
 use Rattle.server.specs.Walk.{Refusing, Copies, Kept, Begun, endOf, result, Walked}
@@ -158,10 +158,10 @@ module _ (s : List ℕ) (h : Header) (level : Level) (plane : Plane) where
       walking-same = ap length (w .holds) ∙ clipped-length room (bytes (w .seen)) ∙ lent
 
       module _ (found : PartRead) (e : found ≡ nextOf h s c) where
-        pub walking-whole : found ≡ part.Tail → Walked s h level plane first (Whole written (length s - c .place)) out
+        pub walking-whole : Short found → Walked s h level plane first (Whole written (length s - c .place)) out
         unfolding endOf
         walking-whole f =
-            let all : readParts h s ≡ record { parts = w .seen; ending = tail (length s - c .place) } = stands-tail h s c found e (w .seen) (w .stands) f in
+            let all : readParts h s ≡ record { parts = w .seen; ending = tail (length s - c .place) } = stands-short h s c found e (w .seen) (w .stands) f in
             record {
               ends = rw all (ap (λ (n : ℕ). Whole n (length s - c .place)) (w .count));
               same = walking-same;

@@ -82,7 +82,9 @@ fn walk(bytes: &[u8], h: Header, level: Level, plane: Plane, out: &mut [u8]) -> 
     let mut written = h.end;
     loop {
         match cursor.next(bytes, h) {
-            PartRead::Tail => return Ended::Whole(written, bytes.len() - cursor.place),
+            PartRead::Tail | PartRead::Cut(_) => {
+                return Ended::Whole(written, bytes.len() - cursor.place);
+            }
             PartRead::Refused(r) => return Ended::Fault(r),
             PartRead::Part(p) => {
                 written = keep(bytes, p, level, plane, out, written);

@@ -16,7 +16,7 @@ use Rattle.rules.specs.declared.PartRead.the-variants as part
 use Rattle.rules.specs.Document.Pyramid.{legalSize}
 use Rattle.rules.specs.Document.Numbers.{readHeader, readParts}
 use Rattle.record.specs.declared.walk.Cursor.{Cursor}
-use Rattle.record.specs.Walk.{firstOf, nextOf, pastOf, Stands, stands-first, stands-legal, stands-past, stands-tail, stands-fault}
+use Rattle.record.specs.Walk.{firstOf, nextOf, pastOf, Stands, stands-first, stands-legal, Short, stands-past, stands-short, stands-fault}
 use Rattle.survey.specs.declared.Survey.{Survey}
 use Rattle.survey.specs.Surveyed.{refusedWith, walkedWith, headedWith, surveyOf, partBehind, partAt}
 
@@ -42,11 +42,11 @@ module _ (s : List ℕ) (h : Header) (c : Cursor) (parts : ℕ) (v : Surveying s
           counts = omega (arith, one, v .counts);
         }
 
-    pub surveying-whole : found ≡ part.Tail
+    pub surveying-whole : Short found
         → record { verdict = Accepted; header = h; parts = parts; tail = length s - c .place } ≡ walkedWith h (readParts h s)
     surveying-whole f =
         ap (λ (n : ℕ). record { verdict = Accepted; header = h; parts = n; tail = length s - c .place }) (v .counts)
-        ∙ ap (walkedWith h) (sym (stands-tail h s c found e (v .seen) (v .stands) f))
+        ∙ ap (walkedWith h) (sym (stands-short h s c found e (v .seen) (v .stands) f))
 
     pub surveying-fault : (q : Refusal) (a : Survey) → found ≡ part.Refused q → a ≡ refusedWith q → a ≡ walkedWith h (readParts h s)
     surveying-fault q a f g = g ∙ ap (walkedWith h) (sym (stands-fault h s c found e (v .seen) (v .stands) q f))

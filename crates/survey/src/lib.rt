@@ -48,7 +48,7 @@ fn walk(bytes: &[u8], h: Header) -> Survey
     let mut parts = 0;
     loop {
         match cursor.next(bytes, h) {
-            PartRead::Tail => {
+            PartRead::Tail | PartRead::Cut(_) => {
                 return Survey {
                     verdict: Verdict::Accepted,
                     header: h,

@@ -22,9 +22,6 @@ loop-holds c = search (needs, walking-first)
 next-requires : tie.Need-next-requires Inv-loop μ-loop
 next-requires c κs = search (needs, walking-legal)
 
-enum-told : tie.Need-enum-told Inv-loop μ-loop
-enum-told c = search needs
-
 sub-t12 : tie.Need-sub-t12 Inv-loop μ-loop
 sub-t12 c = search needs
 
@@ -60,5 +57,5 @@ loop-again c = search (needs, walking-past)
 
 pub walk-spec : {M : Type 1} → statement M
 walk-spec =
-    tie.close (tie.spec Inv-loop μ-loop first-requires loop-holds next-requires enum-told sub-t12 same-length returns enum-known-r same-length-2
-    returns-2 enum-known-p keep-requires past-requires loop-less loop-again)
+    tie.close (tie.spec Inv-loop μ-loop first-requires loop-holds next-requires sub-t12 same-length returns enum-known-r same-length-2 returns-2
+    enum-known-p keep-requires past-requires loop-less loop-again)

@@ -22,9 +22,6 @@ loop-holds c = search (needs, surveying-first)
 next-requires : tie.Need-next-requires Inv-loop μ-loop
 next-requires c κs = search (needs, surveying-legal)
 
-enum-told : tie.Need-enum-told Inv-loop μ-loop
-enum-told c = search needs
-
 sub-t10 : tie.Need-sub-t10 Inv-loop μ-loop
 sub-t10 c = search needs
 
@@ -57,5 +54,5 @@ loop-again c = search (needs, surveying-past)
 
 pub walk-spec : {M : Type 1} → statement M
 walk-spec =
-    tie.close (tie.spec Inv-loop μ-loop first-requires loop-holds next-requires enum-told sub-t10 returns enum-known-r refused-requires returns-2
-    enum-known-p past-requires add-parts loop-less loop-again)
+    tie.close (tie.spec Inv-loop μ-loop first-requires loop-holds next-requires sub-t10 returns enum-known-r refused-requires returns-2 enum-known-p
+    past-requires add-parts loop-less loop-again)
