@@ -17,7 +17,7 @@ use Rattle.rules.specs.declared.Header.{Header}
 use Rattle.rules.specs.Document.Pyramid.{family, area, levels, levelOf}
 use Rattle.rules.specs.Document.Passes.{Entry, typeA, typeB, Side, Course, members, passed, State, after, from, bandLL, PartName}
 use Rattle.rules.specs.Document.Passes.{Reader, decoded}
-use Rattle.rules.specs.Document.Layout.{bitAt, bodyOf, nameOf, usable}
+use Rattle.rules.specs.Document.Layout.{bitAt, bodyOf, bitsThere, nameOf, usable}
 use Rattle.rules.specs.Document.Calls.{Progress, going, unfit, used}
 use Rattle.rules.specs.Laws.Counting.Sums.{sum, one, is, All, Every, sum-map, sum-same, sum-pointwise, is-yes, is-no, all-then, all-map}
 use Rattle.rules.specs.Laws.Counting.Sums.{every-all, from-all, from-once, sum-once}
@@ -192,10 +192,10 @@ module _ (h : Header) (Z : Legal (h .size)) (bytes : List ℕ) (there : List Par
   tree-onward-sound p o (going s v) i = by (usable (levels (h .size)) (h .planes) there (nameOf p))
     where
       c : Course Reader
-      c = decoded (trees (h .size)) (nameOf p) (bitAt (bodyOf bytes p)) s v
+      c = decoded (trees (h .size)) (nameOf p) (bitAt (bodyOf bytes p)) (bitsThere bytes p) s v
 
       fit : (b : Bool) → TreeProgress (h .size) (cond b (going (after (p .level .0) c s) (c .side .pyramid)) (unfit (p .place)))
-      fit true = unfold nameOf in decoded-sound (trees-lawful (h .size) Z) i o (bitAt (bodyOf bytes p)) v
+      fit true = unfold nameOf in decoded-sound (trees-lawful (h .size) Z) i o (bitAt (bodyOf bytes p)) (bitsThere bytes p) v
       fit false = tt
 
       by : (b : Bool) → TreeProgress (h .size) (cond b (used p s c) (going s v))
