@@ -70,7 +70,7 @@ put-next out vs at bits b =
 
 module _ (z : Size) (Z : Legal z) (plane : Plane) (level : Level) (counts : Counts) (at : BitPosition) (work : List ℕ) (a : 1 ≤ level .0) where
   abbrev R : Run
-  R = runOf Codes z plane level counts at
+  R = runOf Codes z plane level counts at at
 
   abbrev k : ℕ
   k = level .0

@@ -1,7 +1,7 @@
 -- A part that was run by the decoder: the words of its level draw what document 01's decoder draws.
 use mathlib.Core.Path.{_≡_, refl, sym, ap, _∙_, subst}
 use mathlib.Core.List.{List}
-use mathlib.Core.Bool.{Bool, true, false, cond}
+use mathlib.Core.Bool.{Bool, true, false, true≢false, cond}
 use mathlib.Core.Logic.{_≢_}
 use Prim.Native.Nat.{ℕ, _+_, _-_, _*_, _≤_, _<_, _^_}
 use native.Mathlib.Nat.{zero-add}
@@ -11,10 +11,12 @@ use lib.ListN.{length, getD, set, length-set, length-map}
 use lib.Seq.{getD-set-same, getD-set-other, ext-getD}
 use lib.Pow.{pow-pos}
 use lib.IntN.{ℤ, pos}
+use lib.Dec.{leb}
 use borrow.Author.Tests.{le-leb}
 use Rattle.rules.specs.declared.Size.{Size}
 use Rattle.rules.specs.declared.Plane.{Plane}
 use Rattle.rules.specs.declared.Level.{Level}
+use Rattle.bits.specs.declared.BitPosition.{BitPosition}
 use Rattle.rules.specs.Document.Pyramid.{area, mostPlanes}
 use Rattle.rules.specs.Document.Passes.{Event, toLip, toLsp, stays, moves, refined, Course, State, from, signed, grown, written, Reader, decoder, decoded}
 use Rattle.rules.specs.Document.Layout.{bitAt}
@@ -114,9 +116,18 @@ module _ (z : Size) (Z : Legal z) (k : ℕ) (a : 1 ≤ k) (work : List ℕ) wher
       still x i (yes j) g = d (sym here ∙ ap (localWord start (set (c .values) (p - start) w)) (sym j) ∙ g)
       still x i (no j) g = D .proper x i (sym (word-kept start (c .values) p w x (at p e) (at x i) j) ∙ g)
 
-module _ (z : Size) (Z : Legal z) (plane : Plane) (level : Level) (counts : Counts) (work : List ℕ) (a : 1 ≤ level .0) where
+-- a word is drawn on both sides, or on neither
+while-there : {z : Size} {k : ℕ} {work : List ℕ} {c : Chan} {r : Reader} {vs : List ℕ} {v : List ℤ} (x y : Bool) → x ≡ y
+    → Drawn z k work (chan (c .bytes) vs (c .at)) (record { taken = r .taken; pyramid = v }) → Drawn z k work c r
+    → Drawn z k work (chan (c .bytes) (cond x vs (c .values)) (c .at)) (record { taken = r .taken; pyramid = cond y v (r .pyramid) })
+while-there true true e N D = N
+while-there false false e N D = D
+while-there true false e N D = absurd (true≢false e)
+while-there false true e N D = absurd (true≢false (sym e))
+
+module _ (z : Size) (Z : Legal z) (plane : Plane) (level : Level) (counts : Counts) (work : List ℕ) (until : BitPosition) (a : 1 ≤ level .0) where
   abbrev R : Run
-  R = runOf Reads z plane level counts (record { at = 0 })
+  R = runOf Reads z plane level counts (record { at = 0 }) until
 
   abbrev k : ℕ
   k = level .0
@@ -126,28 +137,38 @@ module _ (z : Size) (Z : Legal z) (plane : Plane) (level : Level) (counts : Coun
 
   module _ (body : List ℕ) where
     abbrev reader : Reader → Event → Reader
-    reader r e = decoder (bitAt body) (plane .0) .note e r
+    reader r e = decoder (bitAt body) (until .at) (plane .0) .note e r
+
+    abbrev there : ℕ → Bool
+    there at = leb at (until .at)
+
+    drawn-there : {c : Chan} {r : Reader} {vs : List ℕ} {v : List ℤ}
+        → Drawn z k work (chan (c .bytes) vs (c .at)) (record { taken = r .taken; pyramid = v }) → Drawn z k work c r
+        → Drawn z k work (chan (c .bytes) (cond (there (c .at)) vs (c .values)) (c .at))
+        (record { taken = r .taken; pyramid = cond (there (r .taken)) v (r .pyramid) })
+    drawn-there {c} {r} N D = while-there (there (c .at)) (there (r .taken)) (ap (λ (t : ℕ). there t) (D .taken)) N D
 
     draws-note : (e : Event) → EventOf (trees z) k e → (c : Chan) (r : Reader) → Drawn z k work c r
         → Drawn z k work (side R s body .note e c) (reader r e)
     unfolding side noted drawn written EventOf
-    draws-note (toLip p) i c r D = D
+    draws-note (toLip p) i c r D = drawn-there D D
     draws-note (toLsp p b) i c r D =
         rw (le-leb (levelStart z k) p (level-place z Z k p i a .1))
-        (drawn-set z Z k a work D p i (wordOf b (2 ^ plane .0)) (signed b (2 ^ plane .0)) (found-proper b (plane .0)) (value-word b (2 ^ plane .0)))
-    draws-note (stays e) i c r D = D
-    draws-note (moves e) i c r D = D
+        (drawn-there
+        (drawn-set z Z k a work D p i (wordOf b (2 ^ plane .0)) (signed b (2 ^ plane .0)) (found-proper b (plane .0)) (value-word b (2 ^ plane .0))) D)
+    draws-note (stays e) i c r D = drawn-there D D
+    draws-note (moves e) i c r D = drawn-there D D
     draws-note (refined p b) i c r D =
         let first = level-place z Z k p i a .1 in
         let w : ℕ = getD (c .values) (p - levelStart z k) 0 in
         let same = word-local (levelStart z k) (c .values) p first in
         let d : w ≢ 1 = λ e. D .proper p i (same ∙ e) in
         rw (le-leb (levelStart z k) p first)
-        (drawn-set z Z k a work D p i (w + cond b (2 * 2 ^ plane .0) 0) (grown b (2 ^ plane .0) (getD (r .pyramid) p (pos 0)))
+        (drawn-there (drawn-set z Z k a work D p i (w + cond b (2 * 2 ^ plane .0) 0) (grown b (2 ^ plane .0) (getD (r .pyramid) p (pos 0)))
         (refined-proper b (plane .0) w d)
-        (value-refined w (2 ^ plane .0) b d ∙ ap (grown b (2 ^ plane .0)) (sym (D .own p i ∙ ap valueOf same))))
+        (value-refined w (2 ^ plane .0) b d ∙ ap (grown b (2 ^ plane .0)) (sym (D .own p i ∙ ap valueOf same)))) D)
 
-    decoder-agrees : Agreeing (QuestionOf (trees z) k) (EventOf (trees z) k) (side R s body) (decoder (bitAt body) (plane .0)) (Drawn z k work)
+    decoder-agrees : Agreeing (QuestionOf (trees z) k) (EventOf (trees z) k) (side R s body) (decoder (bitAt body) (until .at) (plane .0)) (Drawn z k work)
     unfolding side
     decoder-agrees =
         record {
@@ -196,7 +217,7 @@ module _ (z : Size) (Z : Legal z) (plane : Plane) (level : Level) (counts : Coun
       c = courseIn R body work counts out
 
       abbrev d : Course Reader
-      d = courseD body z plane level work counts
+      d = courseD body until z plane level work counts
 
       alike : Related (Drawn z k work) c d
       unfolding decoded
@@ -227,7 +248,7 @@ module _ (z : Size) (Z : Legal z) (plane : Plane) (level : Level) (counts : Coun
         proper x h (yes i) e = left .proper x i (word-here z Z work′ k x i a ∙ e)
         proper x h (no i) e = W .proper x h (sym (words-kept x h i) ∙ e)
 
-      pub decoded-part : PartDecoded body z plane level work counts r work′
+      pub decoded-part : PartDecoded body until z plane level work counts r work′
       decoded-part =
           record {
             lists = record { lists = λ j. P .lists .lists j ∙ ap (λ (t : State). t j) (after-related _ k c d (stateOf z work counts) alike) };

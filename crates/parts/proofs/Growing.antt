@@ -72,38 +72,39 @@ module _ (run : Run) {F : Family} (L : Lawful F) (k bound : ℕ) (large : 2 * 2 
   abbrev Small : List ℕ → List ℕ → List Entry → List ℕ → Type 0
   Small = Growing run F k bound
 
-  growing-found : (p : ℕ) (b : Bool) (vs ps : List ℕ) (es : List Entry) (ks : List ℕ) → Small vs (p ∷ ps) es ks → Small (noted run (toLsp p b) vs) ps es ks
+  growing-found : (at p : ℕ) (b : Bool) (vs ps : List ℕ) (es : List Entry) (ks : List ℕ) → Small vs (p ∷ ps) es ks
+      → Small (noted run at (toLsp p b) vs) ps es ks
   unfolding sum
-  growing-found p b vs ps es ks h =
+  growing-found at p b vs ps es ks h =
       record {
         small = λ q.
             let a : ℕ = 2 * 2 ^ run .plane .0 in
             let alone : q ≡ p → sum (is q) ks ≡ 0 = λ e. omega (arith, h .once q, is-yes q p (sym e)) in
             let room : ℕ = bound - 1 - a * sum (is q) ks in
             let fits : q ≡ p → a + 1 ≤ room = λ e. omega (arith, ap (λ (y : ℕ). a * y) (alone e), large) in
-            omega (arith, found-most run p b vs q room fits (omega (arith, h .small q)), h .small q);
+            omega (arith, found-most run at p b vs q room fits (omega (arith, h .small q)), h .small q);
         once = λ q. omega (arith, h .once q);
       }
 
-  growing-refined : (p : ℕ) (b : Bool) (vs ks : List ℕ) → Small vs [] [] (p ∷ ks) → Small (noted run (refined p b) vs) [] [] ks
+  growing-refined : (at p : ℕ) (b : Bool) (vs ks : List ℕ) → Small vs [] [] (p ∷ ks) → Small (noted run at (refined p b) vs) [] [] ks
   unfolding sum
-  growing-refined p b vs ks h =
-      record { small = λ q. omega (arith, refined-most run p b vs q, h .small q); once = λ q. omega (arith, h .once q) }
+  growing-refined at p b vs ks h =
+      record { small = λ q. omega (arith, refined-most run at p b vs q, h .small q); once = λ q. omega (arith, h .once q) }
 
   growing-kept : (s body : List ℕ) → Kept F k (listing (side run s body)) (λ c ps es ks. Small (c .side .values) ps es ks)
   unfolding listed signNoted bitNoted side sum
   growing-kept s body = record {
     insignificant = λ c p ps es ks b h.
-        record { small = rw (quiet-toLip run p (c .side .values)) (h .small); once = λ q. omega (arith, h .once q) };
-    significant = λ c p ps es ks b h. growing-found p _ (c .side .values) ps es ks h;
-    moving = λ c e es ks i h. record { small = rw (quiet-moves run e (c .side .values)) (h .small); once = λ q. omega (arith, h .once q) };
-    staying = λ c e es ks i b h. record { small = rw (quiet-stays run e (c .side .values)) (h .small); once = λ q. omega (arith, h .once q) };
+        record { small = rw (quiet-toLip run (c .side .at + 1) p (c .side .values)) (h .small); once = λ q. omega (arith, h .once q) };
+    significant = λ c p ps es ks b h. growing-found _ p _ (c .side .values) ps es ks h;
+    moving = λ c e es ks i h. record { small = rw (quiet-moves run (c .side .at) e (c .side .values)) (h .small); once = λ q. omega (arith, h .once q) };
+    staying = λ c e es ks i b h. record { small = rw (quiet-stays run (c .side .at + 1) e (c .side .values)) (h .small); once = λ q. omega (arith, h .once q) };
     opening = λ c e es ks i b h.
         record {
           small = h .small;
           once = λ q. omega (arith, h .once q, sum-append (setWeight F (is q)) es (added F e), set-splits F L (is q) e);
         };
-    refining = λ c p ks h. growing-refined p _ (c .side .values) ks h;
+    refining = λ c p ks h. growing-refined _ p _ (c .side .values) ks h;
   }
 
 -- Where every word is under b, each is under b + 2^18 after a part.

@@ -36,10 +36,10 @@ use Rattle.parts.proofs.States.{state-in, state-out, state-same, lists-
 use Rattle.parts.proofs.Parts.{level-fits, away-next, values-lent, lists-lent, pass-is, moved-none, moved-some}
 
 module _ (role : Role) {z : Size} {plane : Plane} {level : Level} {work : List ℕ} {counts : Counts} (D : Ready z plane level work counts)
-    (from : BitPosition) (six : Places counts) {body out work₁ out₁ : List ℕ} {r : Stand}
-    (T : Lent (runOf role z plane level counts from) body work out (record { fill = fillOf counts (level .0); at = from }) work₁ out₁ r) where
+    (from until : BitPosition) (six : Places counts) {body out work₁ out₁ : List ℕ} {r : Stand}
+    (T : Lent (runOf role z plane level counts from until) body work out (record { fill = fillOf counts (level .0); at = from }) work₁ out₁ r) where
   abbrev run : Run
-  run = runOf role z plane level counts from
+  run = runOf role z plane level counts from until
 
   abbrev k : ℕ
   k = level .0
@@ -69,7 +69,7 @@ module _ (role : Role) {z : Size} {plane : Plane} {level : Level} {work : List �
   room = omega (arith, D .room, T .same)
 
   ran-course : course (run .stretch) (lentOf z k work₁) out₁ r ≡ c
-  ran-course = T .ran .makes ∙ pass-is role D from body out
+  ran-course = T .ran .makes ∙ pass-is role D from until body out
 
   gone-count : length (c .moved) ≡ r .fill .moved
   gone-count = ap (λ x. length (x .moved)) (sym ran-course) ∙ moved-length (run .stretch) (lentOf z k work₁) (r .fill) (T .ran .fits)
@@ -82,10 +82,10 @@ module _ (role : Role) {z : Size} {plane : Plane} {level : Level} {work : List �
 
   -- how far the next level's LIS goes now
   gone-none : k < 2 → r .fill .moved ≡ 0
-  gone-none h = sym gone-count ∙ ap length (moved-none role D from C x₀ h)
+  gone-none h = sym gone-count ∙ ap length (moved-none role D from until C x₀ h)
 
   gone-some : 2 ≤ k → countAt (counts .lis) (k - 1) + r .fill .moved ≤ setRoom (levelSize z (k - 1))
-  gone-some h = omega (arith, moved-some role D from C x₀ h, gone-count)
+  gone-some h = omega (arith, moved-some role D from until C x₀ h, gone-count)
 
   U : Untouched run (r .fill .moved) work work₁
   unfolding stretchFor
@@ -111,11 +111,11 @@ module _ (role : Role) {z : Size} {plane : Plane} {level : Level} {work : List �
   next-before : 2 ≤ k → (i : ℕ) → i < lisFrom (levelSize z (k - 1)) + countAt (counts .lis) (k - 1) → i < 4 * levelSize z (k - 1) → Same (k - 1) i
   unfolding maximaFrom stretchFor
   next-before h i l g =
-      same-at (k - 1) i g (U .others _ (omega (arith, next-start z L k h b)) (omega (arith, next-start z L k h b, away-next role D from h)))
+      same-at (k - 1) i g (U .others _ (omega (arith, next-start z L k h b)) (omega (arith, next-start z L k h b, away-next role D from until h)))
 
   next-behind : 2 ≤ k → (i : ℕ) → lisFrom (levelSize z (k - 1)) + countAt (counts .lis) (k - 1) + r .fill .moved ≤ i → i < 4 * levelSize z (k - 1)
       → Same (k - 1) i
-  next-behind h i l g = same-at (k - 1) i g (U .rest _ (omega (arith, next-start z L k h b, away-next role D from h)))
+  next-behind h i l g = same-at (k - 1) i g (U .rest _ (omega (arith, next-start z L k h b, away-next role D from until h)))
 
   -- the level's own
   own-values : reads run ≡ false → (i : ℕ) → i < levelSize z k → Same k i
@@ -180,7 +180,7 @@ module _ (role : Role) {z : Size} {plane : Plane} {level : Level} {work : List �
       let f = T .ran .fits in
       state-in z work₁ left k a b
       ∙ rw (n .0, n .1, n .2)
-      (sym (lists-lent role D from work₁ (r .fill .lip) (r .fill .kept) (r .fill .lsp) (f .lip) (omega (arith, f .kept, f .visits)) (f .lsp))
+      (sym (lists-lent role D from until work₁ (r .fill .lip) (r .fill .kept) (r .fill .lsp) (f .lip) (omega (arith, f .kept, f .visits)) (f .lsp))
       ∙ held-ends (run .stretch) (lentOf z k work₁) (r .fill))
       ∙ ap own ran-course
 
@@ -193,7 +193,7 @@ module _ (role : Role) {z : Size} {plane : Plane} {level : Level} {work : List �
       let m : ℕ = levelSize z j in
       ap (map entry)
       (seg-seg (4 * levelStart z j) (4 * m) (m + m + m + countAt (counts .lis) j) (r .fill .moved) work₁ (omega (arith, gone-some h))
-      ∙ ap (λ (y : ℕ). seg y (r .fill .moved) work₁) (omega (arith, next-start z L k h b, away-next role D from h))
+      ∙ ap (λ (y : ℕ). seg y (r .fill .moved) work₁) (omega (arith, next-start z L k h b, away-next role D from until h))
       ∙ sym (seg-seg (4 * levelStart z k) (lentTo z k - 4 * levelStart z k) (run .stretch .away) (r .fill .moved) work₁ (omega (arith, U .ends))))
       ∙ sym (held-moved (run .stretch) (lentOf z k work₁) (r .fill))
       ∙ ap (λ y. y .moved) ran-course
@@ -223,7 +223,7 @@ module _ (role : Role) {z : Size} {plane : Plane} {level : Level} {work : List �
 
   none-handed : (j : ℕ) → k < 2 → handed c (s j) ≡ s j
   none-handed j h =
-      ap (λ es. record { lip = s j .lip; lis = s j .lis ++ es; lsp = s j .lsp }) (moved-none role D from C x₀ h)
+      ap (λ es. record { lip = s j .lip; lis = s j .lis ++ es; lsp = s j .lsp }) (moved-none role D from until C x₀ h)
       ∙ ap (λ es. record { lip = s j .lip; lis = es; lsp = s j .lsp }) (append-nil (s j .lis))
 
   lists-left : (j : ℕ) → stateOf z work₁ left j ≡ after k c s j
@@ -248,7 +248,7 @@ module _ (role : Role) {z : Size} {plane : Plane} {level : Level} {work : List �
         lists = record { lists = λ j. ap (λ x. stateOf z work₁ x j) e ∙ lists-left j };
         same = T .same;
         side =
-            ap₂ (λ vs (x : BitPosition). chan out₁ vs (x .at)) (sym (values-lent role D from work₁)) i ∙ ap (λ x. x .side) ran-course;
+            ap₂ (λ vs (x : BitPosition). chan out₁ vs (x .at)) (sym (values-lent role D from until work₁)) i ∙ ap (λ x. x .side) ran-course;
         words = words-same;
         maxima = maxima-same;
       }

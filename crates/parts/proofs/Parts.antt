@@ -33,7 +33,7 @@ use Rattle.lists.specs.Lists.{held-begins, held-known}
 use Rattle.testing.specs.declared.Role.{Role}
 use Rattle.testing.specs.declared.Run.{Run}
 use Rattle.testing.specs.declared.Stand.{Stand}
-use Rattle.testing.specs.Exchange.{Chan, chan, familyOf, reads, side, side-kept}
+use Rattle.testing.specs.Exchange.{Chan, chan, familyOf, reads, side, side-kept, Silent}
 use Rattle.testing.specs.Growing.{Growth}
 use Rattle.passes.specs.Steps.{hasMember, Queued, Fresh, listsOf, passOf}
 use Rattle.parts.specs.declared.Counts.{Counts}
@@ -121,9 +121,9 @@ module _ {z : Size} {p : Plane} {l : Level} {work : List ℕ} {counts : Counts} 
 
 -- the pass of a part
 module _ (role : Role) {z : Size} {plane : Plane} {level : Level} {work : List ℕ} {counts : Counts} (D : Ready z plane level work counts)
-    (from : BitPosition) where
+    (from until : BitPosition) where
   abbrev run : Run
-  run = runOf role z plane level counts from
+  run = runOf role z plane level counts from until
 
   abbrev k : ℕ
   k = level .0
@@ -261,7 +261,8 @@ module _ (role : Role) {z : Size} {plane : Plane} {level : Level} {work : List �
         once = o;
       }
 
-  module _ (place : from .at + 4 * levelSize z k < 2 ^ 62) (words : reads run ≡ true → Words z (2 ^ 29) work) (body out : List ℕ) where
+  module _ (place : from .at + 4 * levelSize z k < 2 ^ 62) (words : reads run ≡ true → Words z (2 ^ 29) work) (body out : List ℕ)
+      (silent : Silent run body) where
     part-fresh : Fresh run body (lent work) out begun
     unfolding stretchFor
     part-fresh =
@@ -295,6 +296,7 @@ module _ (role : Role) {z : Size} {plane : Plane} {level : Level} {work : List �
           growth = λ r.
               subst (λ x. Growth (levelStart z k) (plane .0) (2 ^ 30) (valuesIn (levelSize z k) (lent work)) (x .lsp)) (sym found)
               (growth (words r));
+          silent = silent;
         }
 
     pub part-lending : {f : Fill} → f ≡ fillOf counts k → Lending run body work out (record { fill = f; at = from })

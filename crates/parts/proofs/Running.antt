@@ -25,7 +25,8 @@ use Rattle.testing.specs.declared.Run.{Run}
 use Rattle.testing.specs.declared.Stand.{Stand}
 use Rattle.parts.specs.declared.Counts.{Counts}
 use Rattle.parts.specs.declared.Passed.{Passed}
-use Rattle.parts.specs.Standing.{countAt, Places, fillOf, withLists, Ready, ReadyToCode, PartCoded, ReadyToDecode, PartDecoded}
+use Rattle.testing.specs.Exchange.{Silent}
+use Rattle.parts.specs.Standing.{countAt, Places, fillOf, withLists, Ready, ReadyToCode, PartCoded, ReadyToDecode, Quiet, PartDecoded}
 use Rattle.parts.specs.Workspace.{stretchFor, withMoved, Counting, Cutting, Lending, Lent, runOf, Running, PartRun}
 use Rattle.parts.proofs.Levels.{size-place, stretch-length}
 use Rattle.parts.proofs.Parts.{level-fits, part-lending}
@@ -59,7 +60,7 @@ module _ (z : Size) (k : ℕ) (counts : Counts) {n : ℕ} (e : n ≡ levelSize z
       (g ∙ ap₂ (λ (x y : ℕ). 4 * x + lisFrom y + f .left) e i
       ∙ ap (λ (x : Fill). 4 * levelSize z k + lisFrom (levelSize z (k - 1)) + x .left) j))
 
-pub run-is : {role : Role} {z : Size} {plane : Plane} {level : Level} (counts : Counts) {from : BitPosition} {t : Stretch} {f : Fill}
+pub run-is : {role : Role} {z : Size} {plane : Plane} {level : Level} (counts : Counts) {from until : BitPosition} {t : Stretch} {f : Fill}
     {first parents elders : ℕ} → f ≡ fillOf counts (level .0) → t ≡ stretchFor z (level .0) counts → first ≡ levelStart z (level .0)
     → parents ≡ span z (level .0 + 1) → elders ≡ span z (level .0 + 2)
     → _≡_ {A = Run} (record {
@@ -73,7 +74,8 @@ pub run-is : {role : Role} {z : Size} {plane : Plane} {level : Level} (counts : 
       elders = elders;
       olds = f .left;
       from = from;
-    }) (runOf role z plane level counts from)
+      until = until;
+    }) (runOf role z plane level counts from until)
 run-is counts e i a b c = cc
 
 -- the part of a run
@@ -87,11 +89,11 @@ module _ {run : Run} {body work out : List ℕ} {counts : Counts} (H : Running r
   pub running-lends : {f : Fill} → f ≡ fillOf counts k → Lending run body work out (record { fill = f; at = run .from })
   running-lends {f} e =
       subst (λ x. Lending x body work out (record { fill = f; at = run .from })) (sym (H .runs))
-      (part-lending (run .role) (H .ready) (run .from) (H .place) (H .words) body out e)
+      (part-lending (run .role) (H .ready) (run .from) (run .until) (H .place) (H .words) body out (subst (λ x. Silent x body) (H .runs) (H .silent)) e)
 
   module _ (six : Places counts) {f : Fill} (e : f ≡ fillOf counts k) {work₁ out₁ : List ℕ} {r : Stand}
       (T : Lent run body work out (record { fill = f; at = run .from }) work₁ out₁ r) {own : Counts} (i : own ≡ withLists counts k (r .fill)) where
-    lent-run : Lent (runOf (run .role) (run .z) (run .plane) (run .level) counts (run .from)) body work out
+    lent-run : Lent (runOf (run .role) (run .z) (run .plane) (run .level) counts (run .from) (run .until)) body work out
         (record { fill = fillOf counts k; at = run .from }) work₁ out₁ r
     lent-run =
         subst (λ x. Lent x body work out (record { fill = fillOf counts k; at = run .from }) work₁ out₁ r) (H .runs)
@@ -99,12 +101,12 @@ module _ {run : Run} {body work out : List ℕ} {counts : Counts} (H : Running r
 
     pub running-more : Counting own (run .level) (r .fill .moved)
     running-more =
-        record { coarser = running-few .0; level = running-few .1; few = rw i (more-fits (run .role) (H .ready) (run .from) six lent-run) }
+        record { coarser = running-few .0; level = running-few .1; few = rw i (more-fits (run .role) (H .ready) (run .from) (run .until) six lent-run) }
 
     pub running-done : {p : Passed} → p .counts ≡ withMoved own k (r .fill .moved) → p .at ≡ r .at → PartRun run body work counts out p work₁ out₁
     running-done {p} g h =
         subst (λ x. PartRun x body work counts out p work₁ out₁) (sym (H .runs))
-        (part-run (run .role) (H .ready) (run .from) six lent-run (g ∙ ap (λ x. withMoved x k (r .fill .moved)) i) h)
+        (part-run (run .role) (H .ready) (run .from) (run .until) six lent-run (g ∙ ap (λ x. withMoved x k (r .fill .moved)) i) h)
 
 -- A part that is coded or decoded can be cut and run.
 module _ {z : Size} {plane : Plane} {level : Level} {work : List ℕ} {counts : Counts} (D : Ready z plane level work counts) where
@@ -125,7 +127,7 @@ module _ {z : Size} {plane : Plane} {level : Level} {work : List ℕ} {counts : 
   part-place at h = omega (arith, h, size-place z (legal z (D .legal)) (level .0) (D .coarser) (D .level))
 
 module _ {z : Size} {plane : Plane} {level : Level} {work : List ℕ} {counts : Counts} {run : Run} {body out : List ℕ} where
-  pub coding-runs : {at : BitPosition} → ReadyToCode z plane level work counts at → run ≡ runOf Codes z plane level counts at
+  pub coding-runs : {at : BitPosition} → ReadyToCode z plane level work counts at → run ≡ runOf Codes z plane level counts at at
       → Running run body work counts out
   coding-runs {at} C e =
       subst (λ x. Running x body work counts out) (sym e)
@@ -134,30 +136,33 @@ module _ {z : Size} {plane : Plane} {level : Level} {work : List ℕ} {counts : 
         runs = refl;
         place = part-place (C .ready) (at .at) (C .place);
         words = λ h. absurd (true≢false (sym h));
+        silent = record { bits = λ h. absurd (true≢false (sym h)) };
       })
 
-  pub decoding-runs : ReadyToDecode z plane level work counts → run ≡ runOf Reads z plane level counts (record { at = 0 })
-      → Running run body work counts out
-  decoding-runs D e =
+  pub decoding-runs : {until : BitPosition} → ReadyToDecode z plane level work counts × Quiet body until
+      → run ≡ runOf Reads z plane level counts (record { at = 0 }) until → Running run body work counts out
+  decoding-runs (D, Q) e =
       subst (λ x. Running x body work counts out) (sym e)
       (record {
         ready = D .ready;
         runs = refl;
         place = part-place (D .ready) 0 (omega (arith, area-bound z (D .ready .legal)));
         words = λ h. D .words;
+        silent = record { bits = λ h. Q .bits };
       })
 
   module _ {work′ out′ : List ℕ} {r : Passed} where
-    pub coding-done : {at : BitPosition} → ReadyToCode z plane level work counts at → run ≡ runOf Codes z plane level counts at
+    pub coding-done : {at : BitPosition} → ReadyToCode z plane level work counts at → run ≡ runOf Codes z plane level counts at at
         → PartRun run body work counts out r work′ out′ → PartCoded z plane level work counts out at r work′ out′
     coding-done {at} C e P =
         coded-part z (legal z (C .ready .legal)) plane level counts at work (C .ready .coarser)
         (subst (λ x. PartRun x body work counts out r work′ out′) e P) (C .ready)
 
-    pub decoding-done : ReadyToDecode z plane level work counts → run ≡ runOf Reads z plane level counts (record { at = 0 })
-        → PartRun run body work counts out r work′ out′ → PartDecoded body z plane level work counts r work′
-    decoding-done D e P =
+    pub decoding-done : {until : BitPosition} → ReadyToDecode z plane level work counts × Quiet body until
+        → run ≡ runOf Reads z plane level counts (record { at = 0 }) until
+        → PartRun run body work counts out r work′ out′ → PartDecoded body until z plane level work counts r work′
+    decoding-done {until} (D, Q) e P =
         let Z = legal z (D .ready .legal) in
-        decoded-part z Z plane level counts work (D .ready .coarser)
+        decoded-part z Z plane level counts work until (D .ready .coarser)
         (subst (λ x. PartRun x body work counts out r work′ out′) e P) D
         (omega (arith, stretch-length z Z work (level .0) (D .ready .coarser) (D .ready .level) (D .ready .room)))

@@ -1,7 +1,7 @@
 -- What the workspace holds between parts, and what one part makes of it: the contracts of `start`, `code_part` and `decode_part`.
 use mathlib.Core.Path.{_≡_, fun-ext}
 use mathlib.Core.List.{List, []}
-use mathlib.Core.Bool.{Bool, true, cond, _&&_}
+use mathlib.Core.Bool.{Bool, true, false, cond, _&&_}
 use Prim.Native.Nat.{ℕ, _+_, _-_, _*_, _≤_, _<_, _^_}
 use lib.Dec.{leb}
 use lib.ListN.{length, getD, set}
@@ -108,14 +108,18 @@ pub record ReadyToDecode (z : Size) (n : Plane) (k : Level) (work : List ℕ) (c
   pub ready : Ready z n k work counts
   pub words : Words z (2 ^ 29) work
 
--- the decoder's course over this part
-abbrev pub courseD : List ℕ → Size → Plane → Level → List ℕ → Counts → Course Reader
-courseD body z n k work counts = decoded (trees z) (named n k) (bitAt body) (stateOf z work counts) (drawnIn z work)
+-- Bits of a body behind a place are 0.
+pub record Quiet (body : List ℕ) (until : BitPosition) : Type 0 where
+  pub bits : (i : ℕ) → until .at ≤ i → bitAt body i ≡ false
 
-pub record PartDecoded (body : List ℕ) (z : Size) (n : Plane) (k : Level) (work : List ℕ) (counts : Counts)
+-- the decoder's course over this part, whose bits that are there end at a place
+abbrev pub courseD : List ℕ → BitPosition → Size → Plane → Level → List ℕ → Counts → Course Reader
+courseD body until z n k work counts = decoded (trees z) (named n k) (bitAt body) (until .at) (stateOf z work counts) (drawnIn z work)
+
+pub record PartDecoded (body : List ℕ) (until : BitPosition) (z : Size) (n : Plane) (k : Level) (work : List ℕ) (counts : Counts)
     (r : Passed) (work′ : List ℕ) : Type 0 where
-  pub lists : Agree (stateOf z work′ (r .counts)) (after (k .0) (courseD body z n k work counts) (stateOf z work counts))
+  pub lists : Agree (stateOf z work′ (r .counts)) (after (k .0) (courseD body until z n k work counts) (stateOf z work counts))
   pub same : length work′ ≡ length work
-  pub taken : r .at .at ≡ courseD body z n k work counts .side .taken
-  pub draws : drawnIn z work′ ≡ courseD body z n k work counts .side .pyramid
+  pub taken : r .at .at ≡ courseD body until z n k work counts .side .taken
+  pub draws : drawnIn z work′ ≡ courseD body until z n k work counts .side .pyramid
   pub grows : (b : ℕ) → Words z b work → Words z (b + 2 * 2 ^ mostPlanes) work′

@@ -22,7 +22,7 @@ use Rattle.testing.specs.declared.Run.{Run}
 use Rattle.testing.specs.declared.Stand.{Stand}
 use Rattle.parts.specs.declared.Counts.{Counts}
 use Rattle.parts.specs.declared.Passed.{Passed}
-use Rattle.testing.specs.Exchange.{Chan, chan, familyOf, side, reads}
+use Rattle.testing.specs.Exchange.{Chan, chan, familyOf, side, reads, Silent}
 use Rattle.passes.specs.Steps.{Fresh, Ran}
 use Rattle.parts.specs.Standing.{countAt, withSets, stateOf, Agree, Ready}
 
@@ -70,8 +70,8 @@ pub record Lent (run : Run) (body work out : List ℕ) (w : Stand) (work′ out�
   pub same : length work′ ≡ length work
 
 -- a part
-abbrev pub runOf : Role → Size → Plane → Level → Counts → BitPosition → Run
-runOf role z plane level counts from =
+abbrev pub runOf : Role → Size → Plane → Level → Counts → BitPosition → BitPosition → Run
+runOf role z plane level counts from until =
     record {
       role = role;
       z = z;
@@ -83,13 +83,15 @@ runOf role z plane level counts from =
       elders = span z (level .0 + 2);
       olds = countAt (counts .lis) (level .0);
       from = from;
+      until = until;
     }
 
 pub record Running (run : Run) (body work : List ℕ) (counts : Counts) (out : List ℕ) : Type 0 where
   pub ready : Ready (run .z) (run .plane) (run .level) work counts
-  pub runs : run ≡ runOf (run .role) (run .z) (run .plane) (run .level) counts (run .from)
+  pub runs : run ≡ runOf (run .role) (run .z) (run .plane) (run .level) counts (run .from) (run .until)
   pub place : run .from .at + 4 * levelSize (run .z) (run .level .0) < 2 ^ 62
   pub words : reads run ≡ true → Words (run .z) (2 ^ 29) work
+  pub silent : Silent run body
 
 -- what the pass makes of the level's lists, its values and the output
 abbrev pub courseIn : Run → List ℕ → List ℕ → Counts → List ℕ → Course Chan

@@ -8,7 +8,7 @@ ghost use lib.ListN.{length};
 ghost use Rattle.rules.specs.Document.Pyramid.{legalSize, levels};
 ghost use Rattle.rules.specs.Document.Passes.{bandLL};
 ghost use Rattle.rules.specs.Document.Calls.{levelPlaces, workFor};
-ghost use Rattle.parts.specs.Standing.{Places, fillOf, withLists, Started, ReadyToCode, PartCoded, ReadyToDecode, PartDecoded};
+ghost use Rattle.parts.specs.Standing.{Places, fillOf, withLists, Started, ReadyToCode, PartCoded, ReadyToDecode, Quiet, PartDecoded};
 ghost use Rattle.parts.specs.Workspace.{lentTo, stretchFor, withMoved, Counting, Cutting, Lending, Lent, runOf, Running, PartRun};
 ghost use Rattle.parts.specs.Begin.{empty, rowOf, bandAt, InBand, Listing, Listed};
 use bits::BitPosition;
@@ -206,10 +206,18 @@ fn run_part(run: Run, body: &[u8], work: &mut [u32], counts: Counts, out: &mut [
     Passed { counts: next, at }
 }
 
-// The run of a part that goes on at a place.
-fn run_of(role: Role, z: Size, plane: Plane, level: Level, counts: Counts, from: BitPosition) -> Run
+// The run of a part whose bits go on at a place, and of which those that are there end at another.
+fn run_of(
+    role: Role,
+    z: Size,
+    plane: Plane,
+    level: Level,
+    counts: Counts,
+    from: BitPosition,
+    until: BitPosition,
+) -> Run
     requires { ⌜ Cutting z level counts ⌝ }
-    ensures { λ r. ⌜ r ≡ runOf role z plane level counts from ⌝ }
+    ensures { λ r. ⌜ r ≡ runOf role z plane level counts from until ⌝ }
 {
     let fill = fill_of(counts, level);
     let olds = fill.left;
@@ -224,6 +232,7 @@ fn run_of(role: Role, z: Size, plane: Plane, level: Level, counts: Counts, from:
         elders: shape::span_of(z, Depth(level.0 + 2)),
         olds,
         from,
+        until,
     }
 }
 
@@ -241,23 +250,32 @@ pub fn code_part(
     ensures { λ r. ⌜ PartCoded z plane level (now (work .entry)) counts (now (out .entry)) at r (now (work .exit)) (now (out .exit)) ⌝ }
 {
     let body = [0u8; 1];
-    let run = run_of(Role::Codes, z, plane, level, counts, at);
+    let run = run_of(Role::Codes, z, plane, level, counts, at, at);
     run_part(run, &body, work, counts, out)
 }
 
-// One part decoded from its body: the coefficients drawn, and the lists after it. The decoder writes no bit.
+// One part decoded from its body, as far as its bits are there: the coefficients drawn, and the lists after it. The decoder writes no bit.
 pub fn decode_part(
     body: &[u8],
+    until: BitPosition,
     z: Size,
     plane: Plane,
     level: Level,
     work: &mut [u32],
     counts: Counts,
 ) -> Passed
-    requires { ⌜ ReadyToDecode z plane level (now work) counts ⌝ }
-    ensures { λ r. ⌜ PartDecoded (now (body .entry)) z plane level (now (work .entry)) counts r (now (work .exit)) ⌝ }
+    requires { ⌜ ReadyToDecode z plane level (now work) counts × Quiet (now body) until ⌝ }
+    ensures { λ r. ⌜ PartDecoded (now (body .entry)) until z plane level (now (work .entry)) counts r (now (work .exit)) ⌝ }
 {
     let mut unwritten = [0u8; 1];
-    let run = run_of(Role::Reads, z, plane, level, counts, BitPosition { at: 0 });
+    let run = run_of(
+        Role::Reads,
+        z,
+        plane,
+        level,
+        counts,
+        BitPosition { at: 0 },
+        until,
+    );
     run_part(run, body, work, counts, &mut unwritten)
 }

@@ -332,7 +332,7 @@ module _ (run : Run) (P : Proper run) where
       kept-noted : C .note (stays e) (C .reply (set? e) (chan out vs (w .at .at)) .next) ≡ chan out₁ vs (bit .next .at)
       kept-noted =
           ap (C .note (stays e)) (R .next vs) ∙ notes run s body (stays e) out₁ vs (bit .next .at)
-          ∙ ap (λ x. chan out₁ x (bit .next .at)) (quiet-stays run e vs)
+          ∙ ap (λ x. chan out₁ x (bit .next .at)) (quiet-stays run (bit .next .at) e vs)
 
       kept-makes : {s′ : List ℕ} {f : Fill} → bit .bit ≡ false → SetKept (run .stretch) s (w .fill) e s′ f
           → visitsOf run body s′ (held (run .stretch) s′ f .todo) (course (run .stretch) s′ out₁ (record { fill = f; at = bit .next }))

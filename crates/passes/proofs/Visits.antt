@@ -156,7 +156,7 @@ module _ (run : Run) (P : Proper run) where
           M = subst (λ y. SetMoved (run .stretch) s y e s′ g) i M₀
 
           moved-noted : C .note (moves e) (chan out vs (w .at .at)) ≡ chan out vs (w .at .at)
-          moved-noted = notes run s body (moves e) out vs (w .at .at) ∙ ap (λ x. chan out x (w .at .at)) (quiet-moves run e vs)
+          moved-noted = notes run s body (moves e) out vs (w .at .at) ∙ ap (λ x. chan out x (w .at .at)) (quiet-moves run (w .at .at) e vs)
 
           moved-makes : visitsOf run body s′ (held (run .stretch) s′ g .todo) (course (run .stretch) s′ out (record { fill = g; at = w .at }))
               ≡ visitsOf run body s (held (run .stretch) s (w .fill) .todo) c

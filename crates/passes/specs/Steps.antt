@@ -17,7 +17,7 @@ use Rattle.lists.specs.declared.Stretch.{Stretch}
 use Rattle.lists.specs.Lists.{known, held, Fits, Beside}
 use Rattle.testing.specs.declared.Run.{Run}
 use Rattle.testing.specs.declared.Stand.{Stand}
-use Rattle.testing.specs.Exchange.{Chan, chan, familyOf, reads, side, Around}
+use Rattle.testing.specs.Exchange.{Chan, chan, familyOf, reads, side, Silent, Around}
 use Rattle.testing.specs.Finding.{course}
 use Rattle.testing.specs.Growing.{Growth}
 
@@ -139,8 +139,8 @@ abbrev pub passOf : Run → List ℕ → List ℕ → List ℕ → Stand → Cou
 passOf run body s out w =
     passed (familyOf run) (run .level .0) (side run s body) (listsOf run s w) (chan out (valuesIn (run .stretch .n) s) (w .at .at))
 
--- Before a pass: there is room for it, and behind the stretch for all that will move out; nothing of LIS was visited, and no word is too large to be
--- refined.
+-- Before a pass: there is room for it, and behind the stretch for all that will move out; nothing of LIS was visited, no word is too large to be
+-- refined, and bits that aren't there are 0.
 pub record Fresh (run : Run) (body s out : List ℕ) (w : Stand) : Type 0 where
   pub proper : Proper run
   pub fits : Fits (run .stretch) s (w .fill)
@@ -154,6 +154,7 @@ pub record Fresh (run : Run) (body s out : List ℕ) (w : Stand) : Type 0 where
   pub moved : w .fill .moved ≡ 0
   pub place : w .at .at ≡ run .from .at
   pub growth : reads run ≡ true → Growth (run .first) (run .plane .0) (2 ^ 30) (valuesIn (run .stretch .n) s) (held (run .stretch) s (w .fill) .lsp)
+  pub silent : Silent run body
 
 -- A pass was run.
 pub record Ran (run : Run) (body s out : List ℕ) (w : Stand) (s′ out′ : List ℕ) (r : Stand) : Type 0 where

@@ -31,7 +31,7 @@ unfolding triedAll
 one-tried C p s = refl
 
 -- lists are as they were where a value was noted
-module _ {run : Run} {e : Event} {s s′ : List ℕ} (N : Noted run e s s′) where
+module _ {run : Run} {at : ℕ} {e : Event} {s s′ : List ℕ} (N : Noted run at e s s′) where
   abbrev n : ℕ
   n = run .stretch .n
 
@@ -86,7 +86,7 @@ module _ (run : Run) (body : List ℕ) (x : ℕ) (s out : List ℕ) (w : Stand) 
   insignificant-side : found .bit ≡ false → tried C x y ≡ chan out₁ vs (found .next .at)
   insignificant-side h =
       tried-insignificant C x y (R .bit vs ∙ h) ∙ ap (C .note (toLip x)) (R .next vs) ∙ notes run s body (toLip x) out₁ vs (found .next .at)
-      ∙ ap (λ v. chan out₁ v (found .next .at)) (quiet-toLip run x vs)
+      ∙ ap (λ v. chan out₁ v (found .next .at)) (quiet-toLip run (found .next .at) x vs)
 
   tested-insignificant : {s′ : List ℕ} {f : Fill} → found .bit ≡ false → LipPushed (run .stretch) s (w .fill) x s′ f
       → Tested run body (x ∷ []) s out w s′ out₁ (record { fill = f; at = found .next })
@@ -111,7 +111,7 @@ module _ (run : Run) (body : List ℕ) (x : ℕ) (s out : List ℕ) (w : Stand) 
       }
 
   module _ (sign : BitRead) (out₂ : List ℕ) (s₁ : List ℕ) (Q : Replied (side run s body) (negative? x) out₁ (found .next) sign out₂)
-      (h : found .bit ≡ true) (N : Noted run (toLsp x (sign .bit)) s s₁) where
+      (h : found .bit ≡ true) (N : Noted run (sign .next .at) (toLsp x (sign .bit)) s s₁) where
     significant-side : tried C x y ≡ chan out₂ (valuesIn (run .stretch .n) s₁) (sign .next .at)
     unfolding signNoted
     significant-side =
@@ -149,7 +149,7 @@ module _ (run : Run) (body : List ℕ) (x : ℕ) (s out : List ℕ) (w : Stand) 
         }
 
 -- a coefficient, found or not
-pub noted-by-fits : {bit : Bool} {run : Run} {x : ℕ} {negative : Bool} {f : Fill} {s s′ : List ℕ} → NotedBy bit run x negative f s s′
+pub noted-by-fits : {bit : Bool} {run : Run} {at x : ℕ} {negative : Bool} {f : Fill} {s s′ : List ℕ} → NotedBy bit run at x negative f s s′
     → Fits (run .stretch) s f → Fits (run .stretch) s′ f
 noted-by-fits {bit} {run} {f = f} {s′ = s′} N g = by bit refl
   where
@@ -158,7 +158,7 @@ noted-by-fits {bit} {run} {f = f} {s′ = s′} N g = by bit refl
     by false e = N .missed e .fits
 
 pub tested-by : {run : Run} {body : List ℕ} {x : ℕ} {s out : List ℕ} {w : Stand} {r : Told} {s₁ out′ s′ : List ℕ} {f : Fill}
-    → Answered (side run s body) x out (w .at) r out′ → NotedBy (r .found) run x (r .negative) (w .fill) s s₁
+    → Answered (side run s body) x out (w .at) r out′ → NotedBy (r .found) run (r .next .at) x (r .negative) (w .fill) s s₁
     → PushedBy (r .found) (run .stretch) s₁ (w .fill) x s′ f → Fits (run .stretch) s (w .fill)
     → Tested run body (x ∷ []) s out w s′ out′ (record { fill = f; at = r .next })
 tested-by {run} {body} {x} {s} {out} {w} {r} {s₁} {out′} {s′} {f} A N P g = by (r .found) refl

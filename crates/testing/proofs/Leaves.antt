@@ -7,6 +7,9 @@ use native.Mathlib.Omega.{arith}
 use lib.Dec.{leb, ltb, eqb}
 use lib.ListN.{length, getD, set}
 use borrow.Author.Tests.{le-leb, lt-leb}
+use native.Mathlib.Nat.{add-zero}
+use native.Mathlib.Decide.{decLe}
+use lib.Seq.{set-getD}
 use Rattle.rules.specs.Document.Passes.{Entry, significant?, negative?, bit?, set?, Event, toLsp, refined}
 use Rattle.coefficients.specs.Words.{wordOf}
 use Rattle.stretches.specs.Cut.{lipFrom, valuesIn, maximaIn, ValueSet, ButAt, SetOr}
@@ -71,64 +74,100 @@ module _ (run : Run) (s : List ℕ) where
   unfolding answer wordsTell
   says-set e i = rw i
 
--- what is noted: by the coder nothing, by the decoder a word of the level
-module _ (run : Run) (s : List ℕ) where
-  unchanged : (e : Event) → valuesIn (run .stretch .n) s ≡ noted run e (valuesIn (run .stretch .n) s) → Noted run e s s
+-- what is noted: by the coder nothing, by the decoder a word of the level, while bits are there
+module _ (run : Run) (at : ℕ) (s : List ℕ) where
+  unchanged : (e : Event) → valuesIn (run .stretch .n) s ≡ noted run at e (valuesIn (run .stretch .n) s) → Noted run at e s s
   unchanged e h = record { long = refl; values = h; others = λ i l. refl }
 
-  pub noted-coder : (e : Event) → run .role ≡ Codes → Noted run e s s
+  pub noted-coder : (e : Event) → run .role ≡ Codes → Noted run at e s s
   unfolding noted
   noted-coder e h = unchanged e (rw h)
 
-  module _ (x : ℕ) (b : Bool) (r : run .role ≡ Reads) where
-    found-outside : x < run .first → Noted run (toLsp x b) s s
-    unfolding noted drawn
-    found-outside l = unchanged (toLsp x b) (rw (r, lt-leb (run .first) x l))
+  pub noted-past : (e : Event) → run .role ≡ Reads → run .until .at < at → Noted run at e s s
+  unfolding noted
+  noted-past e r l = unchanged e (rw (r, lt-leb at (run .until .at) l))
 
-    pub refined-outside : x < run .first → Noted run (refined x b) s s
+  module _ (x : ℕ) (b : Bool) (r : run .role ≡ Reads) (there : at ≤ run .until .at) where
+    found-outside : x < run .first → Noted run at (toLsp x b) s s
     unfolding noted drawn
-    refined-outside l = unchanged (refined x b) (rw (r, lt-leb (run .first) x l))
+    found-outside l = unchanged (toLsp x b) (rw (r, le-leb at (run .until .at) there, lt-leb (run .first) x l))
+
+    inside-none : x < run .first → Noted run at (refined x b) s s
+    unfolding noted drawn
+    inside-none l = unchanged (refined x b) (rw (r, le-leb at (run .until .at) there, lt-leb (run .first) x l))
 
     module _ {w : ℕ} {s′ : List ℕ} (l : run .first ≤ x) (drew : ValueSet (run .stretch .n) s (x - run .first) w s′) where
-      found-drawn : w ≡ wordOf b (2 ^ run .plane .0) → Noted run (toLsp x b) s s′
+      found-drawn : w ≡ wordOf b (2 ^ run .plane .0) → Noted run at (toLsp x b) s s′
       unfolding noted drawn
       found-drawn e =
           record {
             long = drew .long;
-            values = drew .values ∙ ap (λ (y : ℕ). set (valuesIn (run .stretch .n) s) (x - run .first) y) e ∙ rw (r, le-leb (run .first) x l);
+            values =
+                drew .values ∙ ap (λ (y : ℕ). set (valuesIn (run .stretch .n) s) (x - run .first) y) e
+                ∙ rw (r, le-leb at (run .until .at) there, le-leb (run .first) x l);
             others = drew .others;
           }
 
-      pub refined-drawn : {old : ℕ} → old ≡ getD (valuesIn (run .stretch .n) s) (x - run .first) 0 → w ≡ old + cond b (2 * 2 ^ run .plane .0) 0
-          → Noted run (refined x b) s s′
+      refined-there : {old : ℕ} → old ≡ getD (valuesIn (run .stretch .n) s) (x - run .first) 0 → w ≡ old + cond b (2 * 2 ^ run .plane .0) 0
+          → Noted run at (refined x b) s s′
       unfolding noted drawn
-      refined-drawn o e =
+      refined-there o e =
           record {
             long = drew .long;
-            values = drew .values ∙ ap (λ (y : ℕ). set (valuesIn (run .stretch .n) s) (x - run .first) y) e ∙ rw (r, o, le-leb (run .first) x l);
+            values =
+                drew .values ∙ ap (λ (y : ℕ). set (valuesIn (run .stretch .n) s) (x - run .first) y) e
+                ∙ rw (r, o, le-leb at (run .until .at) there, le-leb (run .first) x l);
             others = drew .others;
           }
 
+-- a refinement, whether its bit is there or not: one that isn't is 0, and adds nothing
+module _ (run : Run) (at : ℕ) (s : List ℕ) (x : ℕ) (b : Bool) (r : run .role ≡ Reads) where
+  pub refined-outside : x < run .first → Noted run at (refined x b) s s
+  refined-outside l = by (decLe at (run .until .at))
+    where
+      by : Dec (at ≤ run .until .at) → Noted run at (refined x b) s s
+      by (yes there) = inside-none run at s x b r there l
+      by (no past) = noted-past run at s (refined x b) r (omega arith)
+
+  module _ {w old : ℕ} {s′ : List ℕ} (l : run .first ≤ x) (drew : ValueSet (run .stretch .n) s (x - run .first) w s′)
+      (o : old ≡ getD (valuesIn (run .stretch .n) s) (x - run .first) 0) (e : w ≡ old + cond b (2 * 2 ^ run .plane .0) 0) where
+    unfolded : b ≡ false → w ≡ getD (valuesIn (run .stretch .n) s) (x - run .first) 0
+    unfolded h = e ∙ ap (λ (d : Bool). old + cond d (2 * 2 ^ run .plane .0) 0) h ∙ add-zero old ∙ o
+
+    pub refined-drawn : (reads run ≡ true → run .until .at < at → b ≡ false) → Noted run at (refined x b) s s′
+    refined-drawn silent = by (decLe at (run .until .at))
+      where
+        by : Dec (at ≤ run .until .at) → Noted run at (refined x b) s s′
+        by (yes there) = refined-there run at s x b r there l drew o e
+        by (no past) =
+            let vs = valuesIn (run .stretch .n) s in
+            let same = drew .values ∙ ap (set vs (x - run .first)) (unfolded (silent (ap reading r) (omega arith))) ∙ set-getD vs (x - run .first) 0 in
+            record { long = drew .long; values = same ∙ noted-past run at s (refined x b) r (omega arith) .values; others = drew .others }
+
 -- what is noted of a coefficient, found or not
-module _ (run : Run) (f : Fill) (s : List ℕ) (x : ℕ) (bit negative : Bool) (g : Fits (run .stretch) s f) where
-  pub tested-coder : run .role ≡ Codes → NotedBy bit run x negative f s s
-  tested-coder h = record { found = λ e. noted-coder run s (toLsp x negative) h; missed = λ e. spared-none (run .stretch) s f g }
+module _ (run : Run) (at : ℕ) (f : Fill) (s : List ℕ) (x : ℕ) (bit negative : Bool) (g : Fits (run .stretch) s f) where
+  pub tested-coder : run .role ≡ Codes → NotedBy bit run at x negative f s s
+  tested-coder h = record { found = λ e. noted-coder run at s (toLsp x negative) h; missed = λ e. spared-none (run .stretch) s f g }
 
-  pub tested-outside : run .role ≡ Reads → x < run .first → NotedBy bit run x negative f s s
-  tested-outside h l = record { found = λ e. found-outside run s x negative h l; missed = λ e. spared-none (run .stretch) s f g }
+  pub tested-past : run .role ≡ Reads → run .until .at < at → NotedBy bit run at x negative f s s
+  tested-past h l = record { found = λ e. noted-past run at s (toLsp x negative) h l; missed = λ e. spared-none (run .stretch) s f g }
 
-  pub tested-drawn : {w spare : ℕ} {s′ : List ℕ} → run .role ≡ Reads → run .first ≤ x → f .lip < run .stretch .n
+  pub tested-outside : run .role ≡ Reads → at ≤ run .until .at → x < run .first → NotedBy bit run at x negative f s s
+  tested-outside h there l = record { found = λ e. found-outside run at s x negative h there l; missed = λ e. spared-none (run .stretch) s f g }
+
+  pub tested-drawn : {w spare : ℕ} {s′ : List ℕ} → run .role ≡ Reads → at ≤ run .until .at → run .first ≤ x → f .lip < run .stretch .n
       → w ≡ wordOf negative (2 ^ run .plane .0) → spare ≡ lipFrom (run .stretch .n) + f .lip
-      → SetOr bit (run .stretch .n) s (x - run .first) w spare s′ → NotedBy bit run x negative f s s′
-  tested-drawn {s′ = s′} h l room e p drew =
+      → SetOr bit (run .stretch .n) s (x - run .first) w spare s′ → NotedBy bit run at x negative f s s′
+  tested-drawn {s′ = s′} h there l room e p drew =
       record {
-        found = λ d. found-drawn run s x negative h l (drew .written d) e;
+        found = λ d. found-drawn run at s x negative h there l (drew .written d) e;
         missed = λ d. spared-at g room (subst (λ (i : ℕ). ButAt i s s′) p (drew .spared d));
       }
 
-pub spare-inside : {t : Stretch} {s : List ℕ} {f : Fill} {spare : ℕ} → Fits t s f → f .lip < t .n → spare ≡ lipFrom (t .n) + f .lip → spare < length s
+pub spare-inside : {t : Stretch} {s : List ℕ} {f : Fill} {spare : ℕ} → Fits t s f → f .lip < t .n → spare ≡ lipFrom (t .n) + f .lip
+    → (4 * t .n ≤ length s) × (spare < length s)
 unfolding lipFrom
-spare-inside g room e = omega (arith, g .room)
+spare-inside g room e = (g .room, omega (arith, g .room))
 
 pub word-small : (run : Run) (vs : List ℕ) (x : ℕ) {old : ℕ} → run .role ≡ Reads → run .first ≤ x → old ≡ getD vs (x - run .first) 0
     → (reads run ≡ true → localWord (run .first) vs x < 2 ^ 30) → old < 2 ^ 31

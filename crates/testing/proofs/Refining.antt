@@ -1,5 +1,5 @@
 -- Step 3: what the refinement of a coefficient makes of a side, the loop over LSP, and how large a word is in its midst.
-use mathlib.Core.Bool.{true}
+use mathlib.Core.Bool.{true, false}
 use mathlib.Core.Path.{_≡_, refl, sym, ap, ap₂, _∙_, subst}
 use mathlib.Core.List.{List, [], _∷_, _++_}
 use Prim.Native.Nat.{ℕ, _+_, _-_, _*_, _≤_, _<_, _^_}
@@ -15,12 +15,18 @@ use Rattle.stretches.specs.Seg.{seg, seg-same}
 use Rattle.stretches.specs.Cut.{lspFrom, maximaFrom, valuesIn, values-same, maxima-same}
 use Rattle.lists.specs.Lists.{known, known-add, known-none, known-length}
 use Rattle.testing.specs.declared.Run.{Run}
-use Rattle.testing.specs.Exchange.{Chan, chan, localWord, wordAt, side, notes, Replied, Noted, noted-values, side-kept, reads}
+use Rattle.testing.specs.Exchange.{Chan, chan, localWord, wordAt, side, notes, Replied, Noted, noted-values, side-kept, reads, Silent}
 use Rattle.testing.specs.Growing.{refined-most}
 use Rattle.testing.specs.Finding.{Refining, Refined}
 
+-- A bit that was asked for and isn't there is 0.
+pub asked-silent : (run : Run) (body s out : List ℕ) (at : BitPosition) (x : ℕ) {r : BitRead} {out′ : List ℕ}
+    → Replied (side run s body) (bit? x) out at r out′ → Silent run body → reads run ≡ true → run .until .at < r .next .at → r .bit ≡ false
+unfolding side
+asked-silent run body s out at x R S h l = sym (R .bit []) ∙ rw h (S .bits h (at .at) (omega (arith, R .place)))
+
 pub refined-one : (run : Run) (body s out : List ℕ) (at : BitPosition) (x : ℕ) {bit : BitRead} {s₁ out₁ : List ℕ}
-    → Replied (side run s body) (bit? x) out at bit out₁ → Noted run (refined x (bit .bit)) s s₁
+    → Replied (side run s body) (bit? x) out at bit out₁ → Noted run (bit .next .at) (refined x (bit .bit)) s s₁
     → Refined run body (x ∷ []) s out at s₁ out₁ (bit .next)
 unfolding sharpenedAll sharpened bitNoted
 refined-one run body s out at x {bit} {s₁} {out₁} R N =
@@ -94,7 +100,7 @@ module _ (run : Run) (s body : List ℕ) where
 
   sharpened-most : (x : ℕ) (y : Chan) (q : ℕ) → localWord (run .first) (sharpened C x y .values) q ≤ localWord (run .first) (y .values) q + a * is q x
   unfolding sharpened bitNoted side
-  sharpened-most x y q = refined-most run x _ (y .values) q
+  sharpened-most x y q = refined-most run _ x _ (y .values) q
 
   sharpenedAll-most : (ps : List ℕ) (y : Chan) (q : ℕ)
       → localWord (run .first) (sharpenedAll C ps y .values) q ≤ localWord (run .first) (y .values) q + a * sum (is q) ps

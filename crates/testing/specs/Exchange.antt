@@ -5,7 +5,7 @@
 --   wordAt run s x      the word of x in the stretch s
 --   largestAt run s e   what the stretch s keeps as the maximum of a set
 --   answer run s q      the coder's answer
---   noted run e vs      the values after an event
+--   noted run at e vs   the values after an event that bits up to the place at tell
 use mathlib.Core.Path.{_≡_, refl, sym, ap, _∙_, fun-ext}
 use mathlib.Core.Bool.{Bool, true, false, cond}
 use mathlib.Core.List.{List}
@@ -76,30 +76,32 @@ drawn run (moves e) vs = vs
 drawn run (refined x b) vs =
     cond (leb (run .first) x) (set vs (x - run .first) (getD vs (x - run .first) 0 + cond b (2 * 2 ^ run .plane .0) 0)) vs
 
-unfoldable pub noted : Run → Event → List ℕ → List ℕ
-noted run e vs = cond (reads run) (drawn run e vs) vs
+-- only of bits that are there; W1: "A significance bit whose sign didn't arrive leaves its coefficient 0."
+unfoldable pub noted : Run → ℕ → Event → List ℕ → List ℕ
+noted run at e vs = cond (reads run) (cond (leb at (run .until .at)) (drawn run e vs) vs) vs
 
-either : {X : Type 0} (b : Bool) (x : X) → cond b x x ≡ x
-either true x = refl
-either false x = refl
+either : {X : Type 0} (b c : Bool) (x : X) → cond b (cond c x x) x ≡ x
+either true true x = refl
+either true false x = refl
+either false c x = refl
 
 -- what is noted of what stays as it is: nothing
-pub quiet-toLip : (run : Run) (x : ℕ) (vs : List ℕ) → noted run (toLip x) vs ≡ vs
+pub quiet-toLip : (run : Run) (at x : ℕ) (vs : List ℕ) → noted run at (toLip x) vs ≡ vs
 unfolding noted drawn
-quiet-toLip run x vs = either (reads run) vs
+quiet-toLip run at x vs = either (reads run) (leb at (run .until .at)) vs
 
-pub quiet-stays : (run : Run) (e : Entry) (vs : List ℕ) → noted run (stays e) vs ≡ vs
+pub quiet-stays : (run : Run) (at : ℕ) (e : Entry) (vs : List ℕ) → noted run at (stays e) vs ≡ vs
 unfolding noted drawn
-quiet-stays run e vs = either (reads run) vs
+quiet-stays run at e vs = either (reads run) (leb at (run .until .at)) vs
 
-pub quiet-moves : (run : Run) (e : Entry) (vs : List ℕ) → noted run (moves e) vs ≡ vs
+pub quiet-moves : (run : Run) (at : ℕ) (e : Entry) (vs : List ℕ) → noted run at (moves e) vs ≡ vs
 unfolding noted drawn
-quiet-moves run e vs = either (reads run) vs
+quiet-moves run at e vs = either (reads run) (leb at (run .until .at)) vs
 
 -- what the coder notes: nothing
-pub quiet-coder : (run : Run) (e : Event) (vs : List ℕ) → reads run ≡ false → noted run e vs ≡ vs
+pub quiet-coder : (run : Run) (at : ℕ) (e : Event) (vs : List ℕ) → reads run ≡ false → noted run at e vs ≡ vs
 unfolding noted
-quiet-coder run e vs h = rw h
+quiet-coder run at e vs h = rw h
 
 module _ (run : Run) (s body : List ℕ) where
   unfoldable pub side : Side Chan
@@ -109,11 +111,11 @@ module _ (run : Run) (s body : List ℕ) where
           bit = cond (reads run) (bitAt body (x .at)) (answer run s q);
           next = chan (cond (reads run) (x .bytes) (setBit (x .bytes) (x .at) (answer run s q))) (x .values) (x .at + 1);
         };
-        note = λ e x. chan (x .bytes) (noted run e (x .values)) (x .at);
+        note = λ e x. chan (x .bytes) (noted run (x .at) e (x .values)) (x .at);
       }
 
   -- bytes and place stay as they are where something is noted
-  pub notes : (e : Event) (out vs : List ℕ) (t : ℕ) → side .note e (chan out vs t) ≡ chan out (noted run e vs) t
+  pub notes : (e : Event) (out vs : List ℕ) (t : ℕ) → side .note e (chan out vs t) ≡ chan out (noted run t e vs) t
   unfolding side
   notes e out vs t = refl
 
@@ -135,10 +137,14 @@ module _ (run : Run) (s body out : List ℕ) (at : BitPosition) where
   unfolding side
   replied-said q r h e b n o = record { bit = λ vs. rw (b, e, h); next = λ vs. rw (n, o, e, h); place = n }
 
--- An event was noted in the stretch: in its values, and nowhere else.
-pub record Noted (run : Run) (e : Event) (s s′ : List ℕ) : Type 0 where
+-- Bits that aren't there are read as 0: so refining by them changes nothing.
+pub record Silent (run : Run) (body : List ℕ) : Type 0 where
+  pub bits : reads run ≡ true → (i : ℕ) → run .until .at ≤ i → bitAt body i ≡ false
+
+-- An event, told by bits up to a place, was noted in the stretch: in its values, and nowhere else.
+pub record Noted (run : Run) (at : ℕ) (e : Event) (s s′ : List ℕ) : Type 0 where
   pub long : length s′ ≡ length s
-  pub values : valuesIn (run .stretch .n) s′ ≡ noted run e (valuesIn (run .stretch .n) s)
+  pub values : valuesIn (run .stretch .n) s′ ≡ noted run at e (valuesIn (run .stretch .n) s)
   pub others : (i : ℕ) → run .stretch .n ≤ i → getD s′ i 0 ≡ getD s i 0
 
 -- What a pass leaves as it was, but for lists and, by the decoder, values; so many sets have moved out by now.
@@ -163,13 +169,14 @@ around-then a b l =
 pub around-beside : {run : Run} {m : ℕ} {s s′ : List ℕ} → Beside (run .stretch) m s s′ → Around run m s s′
 around-beside b = record { long = b .long; values = λ r i h. b .values i h; others = b .others; rest = b .rest }
 
-pub noted-values : {run : Run} {e : Event} {s s′ : List ℕ} → Noted run e s s′ → reads run ≡ false
+pub noted-values : {run : Run} {at : ℕ} {e : Event} {s s′ : List ℕ} → Noted run at e s s′ → reads run ≡ false
     → (i : ℕ) → i < run .stretch .n → getD s′ i 0 ≡ getD s i 0
-noted-values {run} {e} {s} {s′} N r i h =
+noted-values {run} {at} {e} {s} {s′} N r i h =
     let n = run .stretch .n in
-    sym (values-at n s′ i h) ∙ ap (λ vs. getD vs i 0) (N .values ∙ quiet-coder run e (valuesIn n s) r) ∙ values-at n s i h
+    sym (values-at n s′ i h) ∙ ap (λ vs. getD vs i 0) (N .values ∙ quiet-coder run at e (valuesIn n s) r) ∙ values-at n s i h
 
-pub around-noted : {run : Run} {e : Event} {s s′ : List ℕ} (m : ℕ) → Noted run e s s′ → 4 * run .stretch .n ≤ run .stretch .away → Around run m s s′
+pub around-noted : {run : Run} {at : ℕ} {e : Event} {s s′ : List ℕ} (m : ℕ) → Noted run at e s s′ → 4 * run .stretch .n ≤ run .stretch .away
+    → Around run m s s′
 unfolding maximaFrom
 around-noted m N b =
     record { long = N .long; values = noted-values N; others = λ i h k. N .others i (omega arith); rest = λ i h. N .others i (omega arith) }
@@ -204,7 +211,7 @@ module _ (run : Run) (s s′ : List ℕ) (words : reads run ≡ false → values
                   bit = cond (reads run) (bitAt body (x .at)) (f q);
                   next = chan (cond (reads run) (x .bytes) (setBit (x .bytes) (x .at) (f q))) (x .values) (x .at + 1);
                 };
-                note = λ e x. chan (x .bytes) (noted run e (x .values)) (x .at);
+                note = λ e x. chan (x .bytes) (noted run (x .at) e (x .values)) (x .at);
               }
 
 pub side-same : {run : Run} {m : ℕ} {s s′ : List ℕ} → Around run m s s′ → 4 * run .stretch .n ≤ run .stretch .away

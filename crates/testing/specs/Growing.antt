@@ -63,31 +63,35 @@ sum-cons : (q p : ℕ) (ks : List ℕ) → sum (is q) (p ∷ ks) ≡ is q p + su
 unfolding sum
 sum-cons q p ks = refl
 
-either-le : (b : Bool) (first : ℕ) (x y : List ℕ) (q c : ℕ) → localWord first x q ≤ c → localWord first y q ≤ c → localWord first (cond b x y) q ≤ c
-either-le true first x y q c h k = h
-either-le false first x y q c h k = k
+-- a word that is drawn or not
+either-le : (b d : Bool) (first : ℕ) (x y : List ℕ) (q c : ℕ) → localWord first x q ≤ c → localWord first y q ≤ c
+    → localWord first (cond b (cond d x y) y) q ≤ c
+either-le true true first x y q c h k = h
+either-le true false first x y q c h k = k
+either-le false d first x y q c h k = k
 
 module _ (run : Run) where
   -- twice a plane's bit, as a word has it
   abbrev a : ℕ
   a = 2 * 2 ^ run .plane .0
 
-  pub refined-most : (x : ℕ) (b : Bool) (vs : List ℕ) (q : ℕ) → localWord (run .first) (noted run (refined x b) vs) q ≤ localWord (run .first) vs q + a * is q x
+  pub refined-most : (at x : ℕ) (b : Bool) (vs : List ℕ) (q : ℕ)
+      → localWord (run .first) (noted run at (refined x b) vs) q ≤ localWord (run .first) vs q + a * is q x
   unfolding noted drawn
-  refined-most x b vs q =
+  refined-most at x b vs q =
       let y = getD vs (x - run .first) 0 + cond b a 0 in
-      either-le (reads run) (run .first) (cond (leb (run .first) x) (set vs (x - run .first) y) vs) vs q _
+      either-le (reads run) (leb at (run .until .at)) (run .first) (cond (leb (run .first) x) (set vs (x - run .first) y) vs) vs q _
       (word-drawn (run .first) vs x q y _ same (omega arith)) (omega arith)
     where
       same : run .first ≤ x → q ≡ x → getD vs (x - run .first) 0 + cond b a 0 ≤ localWord (run .first) vs q + a * is q x
       same l e = rw (e, is-same x, word-local (run .first) vs x l) (omega (arith, added-most b (getD vs (x - run .first) 0) a))
 
-  pub found-most : (x : ℕ) (b : Bool) (vs : List ℕ) (q c : ℕ) → (q ≡ x → a + 1 ≤ c) → localWord (run .first) vs q ≤ c
-      → localWord (run .first) (noted run (toLsp x b) vs) q ≤ c
+  pub found-most : (at x : ℕ) (b : Bool) (vs : List ℕ) (q c : ℕ) → (q ≡ x → a + 1 ≤ c) → localWord (run .first) vs q ≤ c
+      → localWord (run .first) (noted run at (toLsp x b) vs) q ≤ c
   unfolding noted drawn
-  found-most x b vs q c h i =
+  found-most at x b vs q c h i =
       let y = wordOf b (2 ^ run .plane .0) in
-      either-le (reads run) (run .first) (cond (leb (run .first) x) (set vs (x - run .first) y) vs) vs q c
+      either-le (reads run) (leb at (run .until .at)) (run .first) (cond (leb (run .first) x) (set vs (x - run .first) y) vs) vs q c
       (word-drawn (run .first) vs x q y c (λ l e. omega (arith, word-most b (2 ^ run .plane .0), h e)) i) i
 
   module _ (bound : ℕ) (large : 4 * 2 ^ run .plane .0 + 1 < bound) where
@@ -95,17 +99,17 @@ module _ (run : Run) where
     abbrev Small : List ℕ → List ℕ → Type 0
     Small vs ks = Growth (run .first) (run .plane .0) bound vs ks
 
-    pub growth-found : (x : ℕ) (b : Bool) (vs ks : List ℕ) → Small vs ks → Small (noted run (toLsp x b) vs) ks
-    growth-found x b vs ks h = record {
+    pub growth-found : (at x : ℕ) (b : Bool) (vs ks : List ℕ) → Small vs ks → Small (noted run at (toLsp x b) vs) ks
+    growth-found at x b vs ks h = record {
       small = λ q.
           let g : a * sum (is q) ks ≤ a * 1 = mul-le-mul-left a (h .once q) in
-          omega (arith, found-most x b vs q (bound - 1 - a * sum (is q) ks) (λ e. omega arith) (omega (arith, h .small q)), h .small q);
+          omega (arith, found-most at x b vs q (bound - 1 - a * sum (is q) ks) (λ e. omega arith) (omega (arith, h .small q)), h .small q);
       once = h .once;
     }
 
-    pub growth-refined : (x : ℕ) (b : Bool) (vs ks : List ℕ) → Small vs (x ∷ ks) → Small (noted run (refined x b) vs) ks
-    growth-refined x b vs ks h = record {
-      small = λ q. omega (arith, refined-most x b vs q, h .small q, ap (λ (y : ℕ). a * y) (sum-cons q x ks));
+    pub growth-refined : (at x : ℕ) (b : Bool) (vs ks : List ℕ) → Small vs (x ∷ ks) → Small (noted run at (refined x b) vs) ks
+    growth-refined at x b vs ks h = record {
+      small = λ q. omega (arith, refined-most at x b vs q, h .small q, ap (λ (y : ℕ). a * y) (sum-cons q x ks));
       once = λ q. omega (arith, h .once q, sum-cons q x ks);
     }
 
@@ -114,10 +118,10 @@ module _ (run : Run) where
         → Kept F k (listing (side run s body)) (λ c ps es ks. Growth (run .first) (run .plane .0) bound (c .side .values) ks)
     unfolding listed signNoted bitNoted side
     growth-kept s body F k = record {
-      insignificant = λ c x ps es ks b h. rw (quiet-toLip run x (c .side .values)) h;
-      significant = λ c x ps es ks b h. growth-found x _ (c .side .values) ks h;
-      moving = λ c e es ks i h. rw (quiet-moves run e (c .side .values)) h;
-      staying = λ c e es ks i b h. rw (quiet-stays run e (c .side .values)) h;
+      insignificant = λ c x ps es ks b h. rw (quiet-toLip run (c .side .at + 1) x (c .side .values)) h;
+      significant = λ c x ps es ks b h. growth-found _ x _ (c .side .values) ks h;
+      moving = λ c e es ks i h. rw (quiet-moves run (c .side .at) e (c .side .values)) h;
+      staying = λ c e es ks i b h. rw (quiet-stays run (c .side .at + 1) e (c .side .values)) h;
       opening = λ c e es ks i b h. h;
-      refining = λ c x ks h. growth-refined x _ (c .side .values) ks h;
+      refining = λ c x ks h. growth-refined _ x _ (c .side .values) ks h;
     }

@@ -43,9 +43,9 @@ pub record Answered (C : Side Chan) (x : ℕ) (out : List ℕ) (at : BitPosition
   pub found : r .found ≡ true → Signed C x out at r out′
   pub missed : r .found ≡ false → Replied C (significant? x) out at (record { bit = false; next = r .next }) out′
 
--- A coefficient that is found is noted; of another, nothing that counts has changed.
-pub record NotedBy (bit : Bool) (run : Run) (x : ℕ) (negative : Bool) (f : Fill) (s s′ : List ℕ) : Type 0 where
-  pub found : bit ≡ true → Noted run (toLsp x negative) s s′
+-- A coefficient that is found, as bits up to a place tell, is noted; of another, nothing that counts has changed.
+pub record NotedBy (bit : Bool) (run : Run) (at x : ℕ) (negative : Bool) (f : Fill) (s s′ : List ℕ) : Type 0 where
+  pub found : bit ≡ true → Noted run at (toLsp x negative) s s′
   pub missed : bit ≡ false → Spared (run .stretch) s f s′
 
 pub both-read : {body : List ℕ} {at : BitPosition} {first : BitRead} {sign : Bool} → first .bit ≡ bitAt body (at .at)

@@ -9,7 +9,7 @@ ghost use Rattle.rules.specs.Document.Pyramid.{mostPlanes};
 ghost use Rattle.rules.specs.Document.Passes.{bit?, set?, refined};
 ghost use Rattle.bits.specs.Bits.{setBit};
 ghost use Rattle.lists.specs.Lists.{entryOf, indexOf, known, Fits};
-ghost use Rattle.testing.specs.Exchange.{wordAt, largestAt, side, Replied, Noted, reads};
+ghost use Rattle.testing.specs.Exchange.{wordAt, largestAt, side, Replied, Noted, reads, Silent};
 ghost use Rattle.testing.specs.Telling.{SaidFound, ReadFound, Answered, NotedBy};
 ghost use Rattle.testing.specs.Finding.{endsOf, movedTo, chosen, Choosing, Testing, Tested, Refining, Refined};
 use bits::BitPosition;
@@ -28,7 +28,8 @@ pub enum Role {
 }
 
 // Which part is run, and for which side. The level's tree numbers begin at `first`, those of the nodes whose offspring are here at `parents`, those of
-// the nodes whose offspring's offspring are here at `elders`. At the beginning its LIS had so many sets, and the bits go on from a place.
+// the nodes whose offspring's offspring are here at `elders`. At the beginning its LIS had so many sets, and the bits go on from a place. Those that
+// are there end at the place `until`: of a part that is cut, W1 has the tail decoded "as far as its bits go".
 pub struct Run {
     pub role: Role,
     pub z: Size,
@@ -40,6 +41,7 @@ pub struct Run {
     pub elders: usize,
     pub olds: usize,
     pub from: BitPosition,
+    pub until: BitPosition,
 }
 
 // Where a pass stands: how full the lists are, and the place of the next bit.
@@ -198,28 +200,41 @@ pub fn ask_set(run: Run, body: &[u8], s: &[u32], out: &mut [u8], at: BitPosition
     }
 }
 
-// The decoder draws a coefficient that is found; the coder draws none. The word of one that isn't goes to the place behind LIP.
-fn note_tested(run: Run, s: &mut [u32], f: Fill, x: usize, found: bool, negative: bool)
+// The decoder draws a coefficient that is found, if its sign is there; the coder draws none. The word of one that isn't found goes to the place behind
+// LIP.
+fn note_tested(
+    run: Run,
+    s: &mut [u32],
+    f: Fill,
+    at: BitPosition,
+    x: usize,
+    found: bool,
+    negative: bool,
+)
     requires { ⌜ (run .plane .0 < mostPlanes) × Fits (run .stretch) (now s) f × (run .stretch .n < 2 ^ 32) × (f .lip < run .stretch .n) ⌝ }
-    ensures { λ _. ⌜ NotedBy found run x negative f (now (s .entry)) (now (s .exit)) ⌝ }
+    ensures { λ _. ⌜ NotedBy found run (at .at) x negative f (now (s .entry)) (now (s .exit)) ⌝ }
 {
     let role = run.role;
     match role {
         Role::Codes => {}
         Role::Reads => {
-            if run.first <= x {
-                let word = coefficients::found_word(negative, run.plane);
-                let spare = lists::lip_end(run.stretch, f);
-                stretches::set_value_or(s, run.stretch.n, x - run.first, word, found, spare);
+            if at.at <= run.until.at {
+                if run.first <= x {
+                    let word = coefficients::found_word(negative, run.plane);
+                    let spare = lists::lip_end(run.stretch, f);
+                    stretches::set_value_or(s, run.stretch.n, x - run.first, word, found, spare);
+                }
             }
         }
     }
 }
 
-// The decoder draws a coefficient that a bit makes larger; the coder draws none.
-fn note_refined(run: Run, s: &mut [u32], x: usize, bit: bool)
-    requires { ⌜ (run .plane .0 < mostPlanes) × (4 * run .stretch .n ≤ length (now s)) × (reads run ≡ true → wordAt run (now s) x < 2 ^ 30) ⌝ }
-    ensures { λ _. ⌜ Noted run (refined x bit) (now (s .entry)) (now (s .exit)) ⌝ }
+// The decoder draws a coefficient that a bit makes larger; the coder draws none. A bit that isn't there is 0, which makes nothing larger: no test of
+// each is needed.
+fn note_refined(run: Run, s: &mut [u32], at: BitPosition, x: usize, bit: bool)
+    requires { ⌜ (run .plane .0 < mostPlanes) × (4 * run .stretch .n ≤ length (now s)) × (reads run ≡ true → wordAt run (now s) x < 2 ^ 30)
+        × (reads run ≡ true → run .until .at < at .at → bit ≡ false) ⌝ }
+    ensures { λ _. ⌜ Noted run (at .at) (refined x bit) (now (s .entry)) (now (s .exit)) ⌝ }
 {
     let role = run.role;
     match role {
@@ -265,7 +280,7 @@ fn test(run: Run, body: &[u8], s: &mut [u32], w: Stand, out: &mut [u8], x: usize
     ensures { λ r. ⌜ Tested run (now (body .entry)) (x ∷ []) (now (s .entry)) (now (out .entry)) w (now (s .exit)) (now (out .exit)) (movedTo w r) ⌝ }
 {
     let told = ask_found(run, body, s, out, w.at, x);
-    note_tested(run, s, w.fill, x, told.found, told.negative);
+    note_tested(run, s, w.fill, told.next, x, told.found, told.negative);
     let fill = lists::push_tested(s, run.stretch, w.fill, x, told.found);
     let at = told.next;
     ends_of(Stand { fill, at })
@@ -316,11 +331,11 @@ fn refine(
     x: usize,
 ) -> BitPosition
     requires { ⌜ (at .at < 2 ^ 62) × (run .plane .0 < mostPlanes) × (4 * run .stretch .n ≤ length (now s))
-        × (reads run ≡ true → wordAt run (now s) x < 2 ^ 30) ⌝ }
+        × (reads run ≡ true → wordAt run (now s) x < 2 ^ 30) × Silent run (now body) ⌝ }
     ensures { λ r. ⌜ Refined run (now (body .entry)) (x ∷ []) (now (s .entry)) (now (out .entry)) at (now (s .exit)) (now (out .exit)) r ⌝ }
 {
     let bit = ask_bit(run, body, s, out, at, x);
-    note_refined(run, s, x, bit.bit);
+    note_refined(run, s, bit.next, x, bit.bit);
     bit.next
 }
 
@@ -333,7 +348,7 @@ pub fn refine_lsp(
     out: &mut [u8],
     at: BitPosition,
 ) -> BitPosition
-    requires { ⌜ Refining run m (now s) at ⌝ }
+    requires { ⌜ Refining run m (now s) at × Silent run (now body) ⌝ }
     ensures { λ r. ⌜ Refined run (now (body .entry)) (known (run .stretch .n) m (now (s .entry))) (now (s .entry)) (now (out .entry)) at
         (now (s .exit)) (now (out .exit)) r ⌝ }
 {

@@ -5,7 +5,7 @@ use Rattle.parts.proofs.decode_part.Statement.{statement}
 use Rattle.parts.proofs.decode_part.Tie as tie
 
 run-of-requires : tie.Need-run-of-requires
-run-of-requires c κs = ready-cuts (c .before .before .pre .ready)
+run-of-requires c κs = ready-cuts (c .before .before .pre .0 .ready)
 
 slice-aggregate-run-part : tie.Need-slice-aggregate-run-part
 slice-aggregate-run-part c = search needs

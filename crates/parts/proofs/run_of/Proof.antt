@@ -15,14 +15,14 @@ stretch-of-requires c κs = search needs
 level-start-requires : tie.Need-level-start-requires
 level-start-requires c κs = search needs
 
-add-t12 : tie.Need-add-t12
-add-t12 c = let C = c .before .before .before .before .pre in omega (arith, C .level, legal _ (C .legal) .few)
+add-t13 : tie.Need-add-t13
+add-t13 c = let C = c .before .before .before .before .pre in omega (arith, C .level, legal _ (C .legal) .few)
 
 span-of-requires : tie.Need-span-of-requires
 span-of-requires c κs = search needs
 
-add-t15 : tie.Need-add-t15
-add-t15 c = let C = c .before .before .before .before .before .before .pre in omega (arith, C .level, legal _ (C .legal) .few)
+add-t16 : tie.Need-add-t16
+add-t16 c = let C = c .before .before .before .before .before .before .pre in omega (arith, C .level, legal _ (C .legal) .few)
 
 span-of-requires-2 : tie.Need-span-of-requires-2
 span-of-requires-2 c κs = search needs
@@ -39,8 +39,8 @@ run-of-spec =
     fill-of-requires
     stretch-of-requires
     level-start-requires
-    add-t12
+    add-t13
     span-of-requires
-    add-t15
+    add-t16
     span-of-requires-2
     returns)

@@ -25,7 +25,7 @@ refine-lsp-requires c κs =
     let emptied = tested .before .before .before in
     let start = emptied .before .before .before .before .before in
     let standing = stood (moved .moved-to .ensures) (tested .test-each .ensures) in
-    visited-refining _ (start .pre) (emptied .empty-lip .ensures) standing (visited .visit-lis .ensures)
+    (visited-refining _ (start .pre) (emptied .empty-lip .ensures) standing (visited .visit-lis .ensures), start .pre .silent)
 
 same-length : tie.Need-same-length
 same-length c = search needs

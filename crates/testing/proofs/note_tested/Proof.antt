@@ -1,5 +1,5 @@
 -- `testing::note_tested` meets its contract.
-use Rattle.testing.proofs.Leaves.{tested-coder, tested-outside, tested-drawn, spare-inside}
+use Rattle.testing.proofs.Leaves.{tested-coder, tested-past, tested-outside, tested-drawn, spare-inside}
 use borrow.Author.Needs.{needs}
 use Rattle.testing.proofs.note_tested.Statement.{statement}
 use Rattle.testing.proofs.note_tested.Tie as tie
@@ -19,8 +19,9 @@ lip-end-requires c κs = search needs
 set-value-or-requires : tie.Need-set-value-or-requires
 set-value-or-requires c κs =
     let ended = c .before .before in
-    let start = ended .before .before .before .before .before .before .before in
-    (start .pre .1 .room, spare-inside (start .pre .1) (start .pre .3) (ended .lip-end .ensures))
+    let level = ended .before .before in
+    let start = level .before .before .before .before .before .before .before .before in
+    spare-inside (start .pre .1) (start .pre .3) (ended .lip-end .ensures)
 
 returns : tie.Need-returns
 returns c = search (needs, tested-coder)
@@ -34,6 +35,9 @@ returns-2 c = search (needs, tested-drawn)
 returns-3 : tie.Need-returns-3
 returns-3 c = search (needs, tested-outside)
 
+returns-4 : tie.Need-returns-4
+returns-4 c = search (needs, tested-past)
+
 pub note-tested-spec : {M : Type 1} → statement M
 note-tested-spec =
     tie.close
@@ -46,4 +50,5 @@ note-tested-spec =
     returns
     same-length
     returns-2
-    returns-3)
+    returns-3
+    returns-4)

@@ -1,5 +1,5 @@
 -- `testing::refine` meets its contract.
-use Rattle.testing.proofs.Refining.{refined-one}
+use Rattle.testing.proofs.Refining.{asked-silent, refined-one}
 use borrow.Author.Needs.{needs}
 use Rattle.testing.proofs.refine.Statement.{statement}
 use Rattle.testing.proofs.refine.Tie as tie
@@ -8,7 +8,7 @@ ask-bit-requires : tie.Need-ask-bit-requires
 ask-bit-requires c κs = search needs
 
 note-refined-requires : tie.Need-note-refined-requires
-note-refined-requires c κs = search needs
+note-refined-requires c κs = search (needs, asked-silent)
 
 same-length : tie.Need-same-length
 same-length c = search needs

@@ -22,7 +22,7 @@ loop-holds c = (search (needs, refined-none), omega arith, refl, refl)
 
 lsp-at-requires : tie.Need-lsp-at-requires Inv-loop μ-loop
 lsp-at-requires c κs =
-    let asked = c .before .before .before .before .before .before .pre in
+    let asked = c .before .before .before .before .before .before .pre .0 in
     (omega (arith, asked .room, c .before .before .loop .inv .2), asked .size, omega (arith, asked .few))
 
 add-i : tie.Need-add-i Inv-loop μ-loop
@@ -31,9 +31,10 @@ add-i c = search needs
 refine-requires : tie.Need-refine-requires Inv-loop μ-loop
 refine-requires c κs =
     let turn = c .before .before .before .before .before in
-    let asked = turn .before .before .before .before .pre in
+    let start = turn .before .before .before .before .pre in
+    let asked = start .0 in
     let done = turn .loop .inv in
-    (refining-place asked (done .0) (omega arith), asked .plane, omega (arith, asked .room, done .2), refining-small asked (done .0) (done .1) _)
+    (refining-place asked (done .0) (omega arith), asked .plane, omega (arith, asked .room, done .2), refining-small asked (done .0) (done .1) _, start .1)
 
 loop-less : tie.Need-loop-less Inv-loop μ-loop
 loop-less c = omega arith
@@ -42,7 +43,7 @@ loop-again : tie.Need-loop-again Inv-loop μ-loop
 loop-again c =
     let made = c .before .before .before .before in
     let turn = made .before .before .before .before .before .before in
-    let asked = turn .before .before .before .before .pre in
+    let asked = turn .before .before .before .before .pre .0 in
     let next = refining-next asked (turn .loop .inv .0) (omega arith) (made .before .before .before .lsp-at .ensures) (made .refine .ensures) in
     (next, omega arith, next .long, omega (arith, made .refine .kept, turn .loop .inv .3))
 
