@@ -10,17 +10,19 @@ use lib.Seq.{ext-getD}
 use Rattle.rules.specs.declared.Size.{Size}
 use Rattle.rules.specs.declared.Header.{Header}
 use Rattle.rules.specs.declared.Part.{Part}
+use Rattle.rules.specs.declared.PartRead.{PartRead}
+use Rattle.rules.specs.declared.PartRead.the-variants as part
 use Rattle.rules.specs.Document.Pyramid.{area}
 use Rattle.rules.specs.Document.Passes.{State, start, from}
-use Rattle.rules.specs.Document.Calls.{Progress, going, unfit, decodeParts}
+use Rattle.rules.specs.Document.Calls.{Progress, going, unfit, decodeParts, tailOnward}
 use Rattle.rules.specs.Promises.Vocabulary.{Legal}
 use Rattle.rules.specs.Laws.Counting.Sums.{All, all-then, from-length, from-all}
 use Rattle.trees.specs.Family.{trees, coefficientOf, coefficient-out}
 use Rattle.trees.specs.Run.{numberOf, coefficient-number, number-area}
-use Rattle.trees.specs.Decoding.{Laid, Same, onwardOf, decodePartsOf, laid-out, decodeParts-trees}
+use Rattle.trees.specs.Decoding.{Laid, Same, onwardOf, decodePartsOf, tailOnwardOf, laid-out, decoded-trees}
 use Rattle.coefficients.specs.Words.{valueOf, value-zero}
 use Rattle.stretches.specs.Workspace.{wordIn, drawnIn}
-use Rattle.decoder.specs.Walking.{names, begin, walked}
+use Rattle.decoder.specs.Walking.{names, begin, walked, tailWalked}
 
 -- The values drawn stand row by row.
 abbrev pub LaysOut : Size → List ℕ → List ℤ → Type 0
@@ -75,14 +77,22 @@ module _ (h : Header) (s : List ℕ) where
   walked-unfit [] at = refl
   walked-unfit (p ∷ ps) at = walked-unfit ps at
 
-  module _ (Z : Legal (h .size)) (ps : List Part) where
+  -- what is behind the parts, x, can't be used any more
+  pub tail-unfit : (x : PartRead) (at : ℕ) → tailWalked h s x (unfit at) ≡ unfit at
+  unfolding tailOnwardOf
+  tail-unfit (part.Part p) at = refl
+  tail-unfit (part.Cut p) at = refl
+  tail-unfit part.Tail at = refl
+  tail-unfit (part.Refused r) at = refl
+
+  module _ (Z : Legal (h .size)) (ps : List Part) (x : PartRead) where
     abbrev defined : Progress
-    defined = decodeParts h s (names h s) ps (going (start (h .size)) (replicate (area (h .size)) (pos 0)))
+    defined = tailOnward h s (names h s) x (decodeParts h s (names h s) ps (going (start (h .size)) (replicate (area (h .size)) (pos 0))))
 
-    same-as : {g : Progress} → walked h s ps (begin h) ≡ g → Same (coefficientOf (h .size)) defined g
-    same-as e = subst (Same (coefficientOf (h .size)) defined) e (decodeParts-trees h Z s (names h s) ps)
+    same-as : {g : Progress} → tailWalked h s x (walked h s ps (begin h)) ≡ g → Same (coefficientOf (h .size)) defined g
+    same-as e = subst (Same (coefficientOf (h .size)) defined) e (decoded-trees h Z s (names h s) ps x)
 
-    pub defined-unfit : (at : ℕ) → walked h s ps (begin h) ≡ unfit at → defined ≡ unfit at
+    pub defined-unfit : (at : ℕ) → tailWalked h s x (walked h s ps (begin h)) ≡ unfit at → defined ≡ unfit at
     unfolding Same
     defined-unfit at e = cases defined refl (same-as e)
       where
@@ -96,7 +106,7 @@ module _ (h : Header) (s : List ℕ) where
       pub goes : defined ≡ going lists pyramid
       pub laid : Laid (coefficientOf (h .size)) pyramid (drawnIn (h .size) work)
 
-    pub defined-going : (st : State) (work : List ℕ) → walked h s ps (begin h) ≡ going st (drawnIn (h .size) work) → Defined work
+    pub defined-going : (st : State) (work : List ℕ) → tailWalked h s x (walked h s ps (begin h)) ≡ going st (drawnIn (h .size) work) → Defined work
     unfolding Same
     defined-going st work e = cases defined refl (same-as e)
       where

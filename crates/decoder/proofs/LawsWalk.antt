@@ -19,8 +19,9 @@ use Rattle.decoder.specs.declared.Walk.{Walk}
 use Rattle.decoder.specs.declared.Found.the-variants as found
 use Rattle.decoder.specs.declared.Turn.{Turn}
 use Rattle.rules.specs.Document.Pyramid.{area}
+use Rattle.rules.specs.Document.Passes.{PartName, State}
 use Rattle.rules.specs.Document.Layout.{nameOf, usable, reached}
-use Rattle.rules.specs.Document.Numbers.{tail, fault, Reading, readParts, topLevel}
+use Rattle.rules.specs.Document.Numbers.{tail, fault, Reading, readParts, behind, topLevel}
 use Rattle.rules.specs.Document.Notation.{zeros}
 use Rattle.rules.specs.Document.Calls.{levelPlaces, Result, refused, accepted, Progress, going, unfit, onEnding, Picture}
 use Rattle.rules.specs.Document.Calls.{reachedPlanes, skippedCounts, countIn, pictured, decodedParts}
@@ -30,26 +31,28 @@ use Rattle.rules.specs.Laws.Reading.Parts.{After, follows-after}
 use Rattle.rules.specs.Laws.Reading.OneWalk.{usableNow, reachedNow}
 use Rattle.rules.specs.Laws.Reading.Stands.{HeaderStands, readHeader-stands, header-legal, header-planes, PartStands}
 use Rattle.rules.specs.Laws.Reading.WholeParts.{WholeParts, parts-whole, usable-read, reached-read}
+use Rattle.rules.specs.Laws.Reading.CutPart.{CutStands, usable-cut}
 use Rattle.rules.specs.Promises.Vocabulary.{Legal}
 use Rattle.record.specs.declared.walk.Cursor.{Cursor}
 use Rattle.record.specs.Named.{named}
-use Rattle.record.specs.Walk.{nextOf, pastOf, left, Stands, stands-first, next-stands, next-falls, stands-past, stands-tail, stands-fault}
+use Rattle.record.specs.Walk.{nextOf, pastOf, left, Stands, stands-first, next-stands, next-falls, stands-past, next-cut, stands-behind}
+use Rattle.record.specs.Walk.{stands-tail, stands-cut, stands-fault}
 use Rattle.trees.specs.Family.{trees}
 use Rattle.trees.specs.Run.{treeStart}
-use Rattle.trees.specs.Decoding.{onwardOf, decodePartsOf}
+use Rattle.trees.specs.Decoding.{onwardOf, decodePartsOf, tailOnwardOf}
 use Rattle.trees.specs.Sound.{TreeSound, TreeProgress, tree-start-sound, tree-onward-sound}
 use Rattle.stretches.specs.Workspace.{wordIn, drawnIn}
 use Rattle.placing.specs.Placing.{Roomy, LaidOut, Cleared}
 use Rattle.parts.specs.Standing.{stateOf, agree-same}
-use Rattle.decoder.specs.Walking.{Outcome, gone, oneMore, usedOn, metOn, metPart, Taken, Standing, Still, Turned, Begun, Lent, Walking}
-use Rattle.decoder.specs.Walking.{Answered, Refusing, Accepting}
-use Rattle.decoder.specs.Walking.{order, names, begin, walked}
+use Rattle.decoder.specs.Walking.{Outcome, gone, oneMore, usedOn, metOn, cutOn, metPart, metCut, Taken, Ended, Standing, Still, Turned, Begun}
+use Rattle.decoder.specs.Walking.{Lent, Walking, Answered, Refusing, Accepting}
+use Rattle.decoder.specs.Walking.{order, names, begin, walked, tailWalked}
 use Rattle.reached.specs.Skips.{skippedBy, skippedBy-none, skippedBy-all, skippedBy-most, skippedBy-used, skippedBy-over}
 use Rattle.reached.specs.Planes.{reachedAt, usableNow-same, size-levels, six-planes, reachedAt-planes, reachedPlanes-used, reachedPlanes-over}
 use Rattle.decoder.proofs.LawsPart.{words-more}
 use Rattle.decoder.proofs.LawsAnswer.{answered-refused, answered-accepted}
-use Rattle.decoder.proofs.LawsLaid.{LaysOut, drawn-blank, walked-append, walked-unfit, Defined, defined-unfit, defined-going, defined-out}
-use Rattle.decoder.proofs.LawsOutcome.{taken-alike, met-part, met-refused, met-no-tail}
+use Rattle.decoder.proofs.LawsLaid.{LaysOut, drawn-blank, walked-append, walked-unfit, tail-unfit, Defined, defined-unfit, defined-going, defined-out}
+use Rattle.decoder.proofs.LawsOutcome.{taken-alike, met-part, met-refused, met-no-tail, ended-alike, Goes, cut-tail, cut-refused, cut-no-part}
 
 -- what is accepted where no part is left
 abbrev atEnd : List ℕ → List ℤ → Walk → Result Picture
@@ -125,30 +128,106 @@ module _ (h : Header) (s : List ℕ) (w : Walk) (work : List ℕ) (W : Walking h
         words = words-more (h .size) _ (2 ^ 29) work (omega arith) (W .words);
       }
 
-  walking-defined : Defined h s sized (W .seen) work
-  walking-defined = defined-going h s sized (W .seen) (W .lists) work (W .decodes)
+  -- No whole part is left: all came by, and x stands behind them. What it makes of the values drawn is laid out.
+  module _ (x : PartRead) (behind-seen : behind h s (W .seen) ≡ x)
+      (all : readParts h s ≡ record { parts = W .seen; ending = tail (length s - w .cursor .place) }) where
+    ended-defined : (st : State) (work′ : List ℕ)
+        → tailWalked h s x (going (W .lists) (drawnIn (h .size) work)) ≡ going st (drawnIn (h .size) work′) → Defined h s sized (W .seen) x work′
+    ended-defined st work′ e = defined-going h s sized (W .seen) x st work′ (ap (tailWalked h s x) (W .decodes) ∙ e)
 
-  -- No part is left: all parts came by.
+    walking-ended : (st : State) (work′ : List ℕ)
+        → tailWalked h s x (going (W .lists) (drawnIn (h .size) work)) ≡ going st (drawnIn (h .size) work′)
+        → (out : List ℤ) → length out ≡ area (h .size) → LaysOut (h .size) work′ out → decodedParts h s (readParts h s) ≡ atEnd s out w
+    unfolding decodedParts pictured onEnding
+    walking-ended st work′ e out n lays =
+        let g = defined-out h s sized (W .seen) x work′ (ended-defined st work′ e) out n lays in
+        let k : skippedCounts h (map nameOf (W .seen)) ≡ w .skipped
+        = sym (W .skips ∙ ap (λ (y : Reading). skippedBy h (map nameOf (y .parts)) (map nameOf (W .seen))) all ∙ skippedBy-all h (map nameOf (W .seen))) in
+        rw (all, behind-seen, rw all at g)
+        (ap₂ (λ (y : List Plane) (z : List ℕ). accepted (record { pyramid = out; tail = length s - w .cursor .place; reached = y; skipped = z }))
+        (sym (W .reaches)) k)
+
+    walking-misfit : (at : ℕ) → tailWalked h s x (going (W .lists) (drawnIn (h .size) work)) ≡ unfit at
+        → decodedParts h s (readParts h s) ≡ refused (refusal.Fit at)
+    unfolding decodedParts pictured
+    walking-misfit at e =
+        let g = defined-unfit h s sized (W .seen) x at (ap (tailWalked h s x) (W .decodes) ∙ e) in
+        rw (all, behind-seen, rw all at g)
+
   walking-tail : nextOf h s (w .cursor) ≡ part.Tail → (out : List ℤ) → length out ≡ area (h .size)
       → LaysOut (h .size) work out → decodedParts h s (readParts h s) ≡ atEnd s out w
-  unfolding decodedParts pictured onEnding
+  unfolding tailOnwardOf
   walking-tail e out n lays =
-      let all : readParts h s ≡ record { parts = W .seen; ending = tail (length s - w .cursor .place) }
-      = stands-tail h s (w .cursor) part.Tail (sym e) (W .seen) (W .stands) refl in
-      let g = defined-out h s sized (W .seen) work walking-defined out n lays in
-      let k : skippedCounts h (map nameOf (W .seen)) ≡ w .skipped
-      = sym (W .skips ∙ ap (λ (x : Reading). skippedBy h (map nameOf (x .parts)) (map nameOf (W .seen))) all ∙ skippedBy-all h (map nameOf (W .seen))) in
-      rw (all, rw all at g)
-      (ap₂ (λ (x : List Plane) (y : List ℕ). accepted (record { pyramid = out; tail = length s - w .cursor .place; reached = x; skipped = y }))
-      (sym (W .reaches)) k)
+      walking-ended part.Tail (stands-behind h s (w .cursor) part.Tail (sym e) (W .seen) (W .stands))
+      (stands-tail h s (w .cursor) part.Tail (sym e) (W .seen) (W .stands) refl) (W .lists) work refl out n lays
+
+  fault-defined : (v : Refusal) → Defined h s sized (W .seen) (part.Refused v) work
+  unfolding tailOnwardOf
+  fault-defined v = defined-going h s sized (W .seen) (part.Refused v) (W .lists) work (W .decodes)
 
   walking-fault : (v : Refusal) → nextOf h s (w .cursor) ≡ part.Refused v → decodedParts h s (readParts h s) ≡ refused v
-  unfolding decodedParts pictured onEnding
+  unfolding decodedParts pictured onEnding tailOnwardOf
   walking-fault v e =
-      let all : readParts h s ≡ record { parts = W .seen; ending = fault v }
-      = stands-fault h s (w .cursor) (part.Refused v) (sym e) (W .seen) (W .stands) v refl in
-      let g = walking-defined .goes in
-      rw (all, rw all at g)
+      let x : PartRead = part.Refused v in
+      let all : readParts h s ≡ record { parts = W .seen; ending = fault v } = stands-fault h s (w .cursor) x (sym e) (W .seen) (W .stands) v refl in
+      let b : behind h s (W .seen) ≡ x = stands-behind h s (w .cursor) x (sym e) (W .seen) (W .stands) in
+      let g = fault-defined v .goes in
+      rw (all, b, rw all at g)
+
+  -- the planes reached are those of the parts that came by
+  R : ℕ → ℕ
+  R k = reached (topLevel h) (h .planes) (map nameOf (W .seen)) k
+
+  R-held : (k : ℕ) → 1 ≤ k → R k ≡ reachedAt (w .reached) k
+  unfolding R
+  R-held k f =
+      sym (ap (λ (x : List Plane). reachedAt x k) (W .reaches) ∙ reachedAt-planes h (map nameOf (W .seen)) (header-legal whole-header) k f)
+
+  abbrev first : PartName
+  first = record { plane = h .planes; level = 0 }
+
+  all-whole : (ps : List Part) → readParts h s .parts ≡ ps → WholeParts h s first (h .end) ps
+  unfolding readParts
+  all-whole ps e = subst (WholeParts h s first (h .end)) e (parts-whole (length s) h s first (h .end))
+
+  -- A part that is cut, p: no whole part is left.
+  module _ (p : Part) (e : nextOf h s (w .cursor) ≡ part.Cut p) where
+    cut-stands : CutStands h s (named (w .cursor .before)) (w .cursor .place) p
+    cut-stands = next-cut h s (w .cursor) (part.Cut p) (sym e) p refl
+
+    cut-behind : behind h s (W .seen) ≡ part.Cut p
+    cut-behind = stands-behind h s (w .cursor) (part.Cut p) (sym e) (W .seen) (W .stands)
+
+    cut-all : readParts h s ≡ record { parts = W .seen; ending = tail (length s - w .cursor .place) }
+    cut-all = stands-cut h s (w .cursor) (part.Cut p) (sym e) (W .seen) (W .stands) p refl
+
+    cut-test : usable (topLevel h) (h .planes) (names h s ++ (nameOf p ∷ [])) (nameOf p) ≡ usableNow (reachedAt (w .reached)) (nameOf p)
+    unfolding R
+    cut-test =
+        ap (λ (x : Reading). usable (topLevel h) (h .planes) (map nameOf (x .parts) ++ (nameOf p ∷ [])) (nameOf p)) cut-all
+        ∙ usable-cut h s first (h .end) (W .seen) p (all-whole (W .seen) (ap (λ (x : Reading). x .parts) cut-all)) cut-behind
+        ∙ usableNow-same R (reachedAt (w .reached)) (nameOf p) (cut-stands .legal .named .from1) R-held
+
+    module _ (r : Turn) (work′ : List ℕ) (T : Ended (h .size) (metCut s (h .size) p w work) w work r work′) where
+      met-cut : Ended (h .size) (cutOn s (h .size) p (w .reached) (W .lists) (drawnIn (h .size) work)) w work r work′
+      unfolding nameOf
+      met-cut =
+          ended-alike s (h .size) p (w .reached) (stateOf (h .size) work (w .counts)) (W .lists) (drawnIn (h .size) work) (W .agrees) w work r work′ T
+
+      walking-cut : r .found ≡ found.Tail → (out : List ℤ) → length out ≡ area (h .size) → LaysOut (h .size) work′ out
+          → decodedParts h s (readParts h s) ≡ atEnd s out w
+      walking-cut f out n lays =
+          let g : Goes _ _ = cut-tail h s (names h s) p (w .reached) (W .lists) (drawnIn (h .size) work) cut-test (sym (met-cut .finds) ∙ f) in
+          walking-ended (part.Cut p) cut-behind cut-all (g .lists) work′ (g .goes ∙ ap (going (g .lists)) (sym (met-cut .draws))) out n lays
+
+      walking-cut-unfit : (v : Refusal) → r .found ≡ found.Refused v → decodedParts h s (readParts h s) ≡ refused v
+      walking-cut-unfit v f =
+          let m = cut-refused h s (names h s) p (w .reached) (W .lists) (drawnIn (h .size) work) cut-test v (sym (met-cut .finds) ∙ f) in
+          walking-misfit (part.Cut p) cut-behind cut-all (p .place) (m .0) ∙ ap refused (sym (m .1))
+
+      walking-cut-ends : r .found ≡ found.Part → ⊥
+      walking-cut-ends f =
+          cut-no-part h s (names h s) p (w .reached) (W .lists) (drawnIn (h .size) work) cut-test (sym (met-cut .finds) ∙ f)
 
   -- The next part, p.
   module _ (p : Part) (e : nextOf h s (w .cursor) ≡ part.Part p) where
@@ -167,20 +246,8 @@ module _ (h : Header) (s : List ℕ) (w : Walk) (work : List ℕ) (W : Walking h
     parts-part : readParts h s .parts ≡ W .seen ++ p ∷ later
     parts-part = over .parts ∙ append-assoc (W .seen) (p ∷ []) later
 
-    wholes : WholeParts h s (record { plane = h .planes; level = 0 }) (h .end) (W .seen ++ p ∷ later)
-    unfolding readParts
-    wholes =
-        subst (WholeParts h s (record { plane = h .planes; level = 0 }) (h .end)) parts-part
-        (parts-whole (length s) h s (record { plane = h .planes; level = 0 }) (h .end))
-
-    -- the planes reached are those of the parts that came by
-    R : ℕ → ℕ
-    R k = reached (topLevel h) (h .planes) (map nameOf (W .seen)) k
-
-    R-held : (k : ℕ) → 1 ≤ k → R k ≡ reachedAt (w .reached) k
-    unfolding R
-    R-held k f =
-        sym (ap (λ (x : List Plane). reachedAt x k) (W .reaches) ∙ reachedAt-planes h (map nameOf (W .seen)) (header-legal whole-header) k f)
+    wholes : WholeParts h s first (h .end) (W .seen ++ p ∷ later)
+    wholes = all-whole (W .seen ++ p ∷ later) parts-part
 
     test-held : usableNow R (nameOf p) ≡ usableNow (reachedAt (w .reached)) (nameOf p)
     test-held = usableNow-same R (reachedAt (w .reached)) (nameOf p) (whole .legal .named .from1) R-held
@@ -189,7 +256,7 @@ module _ (h : Header) (s : List ℕ) (w : Walk) (work : List ℕ) (W : Walking h
     unfolding R
     test =
         ap (λ (ps : List Part). usable (topLevel h) (h .planes) (map nameOf ps) (nameOf p)) parts-part
-        ∙ usable-read h s (record { plane = h .planes; level = 0 }) (h .end) (W .seen) p (later) wholes
+        ∙ usable-read h s first (h .end) (W .seen) p (later) wholes
         ∙ test-held
 
     abbrev met : Outcome
@@ -200,7 +267,7 @@ module _ (h : Header) (s : List ℕ) (w : Walk) (work : List ℕ) (W : Walking h
     met-reached = cases (usableNow (reachedAt (w .reached)) (nameOf p)) refl
       where
         is : (k : ℕ) → 1 ≤ k → reached (topLevel h) (h .planes) (map nameOf came) k ≡ reachedNow R (nameOf p) k
-        is k f = reached-read h s (record { plane = h .planes; level = 0 }) (h .end) (W .seen) p (later) wholes k f
+        is k f = reached-read h s first (h .end) (W .seen) p (later) wholes k f
 
         cases : (b : Bool) → usableNow (reachedAt (w .reached)) (nameOf p) ≡ b
             → cond b (usedOn s (h .size) p (w .reached) (w .skipped) (W .lists) (drawnIn (h .size) work))
@@ -272,8 +339,9 @@ module _ (h : Header) (s : List ℕ) (w : Walk) (work : List ℕ) (W : Walking h
       walking-unfit v f =
           let m : (onto ≡ unfit (p .place)) × (v ≡ refusal.Fit (p .place))
           = met-refused h s (names h s) p (w .reached) (w .skipped) (W .lists) _ test v (sym (taken .finds) ∙ f) in
-          let g = defined-unfit h s sized (readParts h s .parts) (p .place)
-          (walked-all ∙ ap (walked h s later) (m .0) ∙ walked-unfit h s later (p .place)) in
+          let x : PartRead = behind h s (readParts h s .parts) in
+          let g = defined-unfit h s sized (readParts h s .parts) x (p .place)
+          (ap (tailWalked h s x) (walked-all ∙ ap (walked h s later) (m .0) ∙ walked-unfit h s later (p .place)) ∙ tail-unfit h s x (p .place)) in
           ap (pictured h (names h s) (readParts h s .ending)) g ∙ ap refused (sym (m .1))
 
       walking-no-tail : r .found ≡ found.Tail → ⊥
@@ -305,41 +373,45 @@ module _ (h : Header) (s : List ℕ) (w : Walk) (work : List ℕ) (W : Walking h
   -- One turn, whatever it found.
   module _ (r : Turn) (work′ : List ℕ) (T : Turned h s w work (nextOf h s (w .cursor)) r work′) where
     turned : {X : Type 0} → ((p : Part) → nextOf h s (w .cursor) ≡ part.Part p → Taken (h .size) p (metPart s (h .size) p w work) work r work′ → X)
+        → ((p : Part) → nextOf h s (w .cursor) ≡ part.Cut p → Ended (h .size) (metCut s (h .size) p w work) w work r work′ → X)
         → (nextOf h s (w .cursor) ≡ part.Tail → Still found.Tail w work r work′ → X)
         → ((v : Refusal) → nextOf h s (w .cursor) ≡ part.Refused v → Still (found.Refused v) w work r work′ → X) → X
     unfolding Turned
-    turned {X} met none refuses = cases (nextOf h s (w .cursor)) refl T
+    turned {X} met cut none refuses = cases (nextOf h s (w .cursor)) refl T
       where
         cases : (x : PartRead) → nextOf h s (w .cursor) ≡ x → Turned h s w work x r work′ → X
         cases (part.Part p) e t = met p e t
+        cases (part.Cut p) e t = cut p e t
         cases part.Tail e t = none e t
         cases (part.Refused v) e t = refuses v e t
 
     pub turn-on : r .found ≡ found.Part → Walking h s (r .walk) work′
     turn-on f =
-        turned (λ p e t. walking-on p e r work′ t f) (λ e t. let i = t .finds in clash (cc)) (λ v e t. let i = t .finds in clash (cc))
+        turned (λ p e t. walking-on p e r work′ t f) (λ p e t. absurd (walking-cut-ends p e r work′ t f)) (λ e t. let i = t .finds in clash (cc))
+        (λ v e t. let i = t .finds in clash (cc))
 
     pub turn-falls : r .found ≡ found.Part → length s - r .walk .cursor .place < length s - w .cursor .place
     turn-falls f =
         turned (λ p e t. next-falls h s (w .cursor) (part.Part p) (sym e) p (r .walk .cursor) refl (t .past .over))
-        (λ e t. let i = t .finds in clash (cc)) (λ v e t. let i = t .finds in clash (cc))
+        (λ p e t. absurd (walking-cut-ends p e r work′ t f)) (λ e t. let i = t .finds in clash (cc)) (λ v e t. let i = t .finds in clash (cc))
 
-    turn-still : r .found ≡ found.Tail → (nextOf h s (w .cursor) ≡ part.Tail) × (r .walk ≡ w) × (work′ ≡ work)
+    turn-still : r .found ≡ found.Tail → r .walk ≡ w
     turn-still f =
-        turned (λ p e t. absurd (walking-no-tail p e r work′ t f)) (λ e t. (e, t .stays, t .lists)) (λ v e t. let i = t .finds in clash (cc))
+        turned (λ p e t. absurd (walking-no-tail p e r work′ t f)) (λ p e t. t .stays) (λ e t. t .stays) (λ v e t. let i = t .finds in clash (cc))
 
     turn-tail : r .found ≡ found.Tail → (out : List ℤ) → length out ≡ area (h .size) → LaysOut (h .size) work′ out
         → decodedParts h s (readParts h s) ≡ atEnd s out (r .walk)
     turn-tail f out n lays =
-        walking-tail (turn-still f .0) out n (subst (λ (x : List ℕ). LaysOut (h .size) x out) (turn-still f .2) lays)
-        ∙ ap (atEnd s out) (sym (turn-still f .1))
+        turned (λ p e t. absurd (walking-no-tail p e r work′ t f)) (λ p e t. walking-cut p e r work′ t f out n lays)
+        (λ e t. walking-tail e out n (subst (λ (x : List ℕ). LaysOut (h .size) x out) (t .lists) lays)) (λ v e t. let i = t .finds in clash (cc))
+        ∙ ap (atEnd s out) (sym (turn-still f))
 
     pub turn-within : r .found ≡ found.Tail → r .walk .cursor .place ≤ length s
-    turn-within f = subst (λ (x : Walk). x .cursor .place ≤ length s) (sym (turn-still f .1)) (W .stands .within)
+    turn-within f = subst (λ (x : Walk). x .cursor .place ≤ length s) (sym (turn-still f)) (W .stands .within)
 
     turn-refused : (v : Refusal) → r .found ≡ found.Refused v → decodedParts h s (readParts h s) ≡ refused v
     turn-refused v f =
-        turned (λ p e t. walking-unfit p e r work′ t v f) (λ e t. let i = t .finds in clash (cc))
+        turned (λ p e t. walking-unfit p e r work′ t v f) (λ p e t. walking-cut-unfit p e r work′ t v f) (λ e t. let i = t .finds in clash (cc))
         (λ u e t. let i : r .found ≡ found.Refused u = t .finds in let same : u ≡ v = cc in walking-fault u e ∙ ap refused same)
 
 -- The walk's last turn, for whoever lent `out` and `work`.

@@ -4,7 +4,7 @@ use mathlib.Core.Path.{_≡_}
 use mathlib.Core.List.{List, [], map}
 use mathlib.Core.Bool.{true, cond}
 use Prim.Native.Nat.{ℕ, suc, _+_, _-_, _*_, _≤_, _<_, _^_}
-use lib.Dec.{eqb}
+use lib.Dec.{leb, eqb}
 use lib.ListN.{length, set, replicate}
 use lib.IntN.{ℤ, pos}
 use Rattle.rules.specs.declared.Size.{Size}
@@ -19,6 +19,7 @@ use Rattle.rules.specs.declared.PartRead.the-variants as part
 use Rattle.rules.specs.declared.Verdict.the-variants as verdict
 use Rattle.rules.specs.declared.Decoded.{Decoded}
 use Rattle.parts.specs.declared.Counts.{Counts}
+use Rattle.parts.specs.declared.Passed.{Passed}
 use Rattle.decoder.specs.declared.Walk.{Walk}
 use Rattle.decoder.specs.declared.Found.{Found}
 use Rattle.decoder.specs.declared.Found.the-variants as found
@@ -26,21 +27,21 @@ use Rattle.decoder.specs.declared.Turn.{Turn}
 use Rattle.rules.specs.Document.Notation.{zeros}
 use Rattle.rules.specs.Document.Pyramid.{legalSize, area, mostPlanes}
 use Rattle.rules.specs.Document.Passes.{PartName, State, Course, Reader, after, decoded}
-use Rattle.rules.specs.Document.Layout.{bytesFor, bitAt, bodyOf, nameOf}
+use Rattle.rules.specs.Document.Layout.{bytesFor, bitAt, bodyOf, bitsThere, nameOf}
 use Rattle.rules.specs.Document.Numbers.{readHeader, readParts}
 use Rattle.rules.specs.Document.Calls.{workFor, levelPlaces, Result, Progress, going, Picture, reachedPlanes, decodeOut, decodeAnswer}
 use Rattle.rules.specs.Document.Calls.{countIn}
 use Rattle.rules.specs.Laws.Reading.OneWalk.{usableNow}
 use Rattle.trees.specs.Family.{trees}
 use Rattle.trees.specs.Run.{treeStart}
-use Rattle.trees.specs.Decoding.{decodePartsOf}
+use Rattle.trees.specs.Decoding.{decodePartsOf, tailOnwardOf}
 use Rattle.trees.specs.Sound.{TreeSound}
 use Rattle.stretches.specs.Workspace.{wordIn, drawnIn, Words}
 use Rattle.record.specs.Named.{named}
 use Rattle.record.specs.Walk.{firstOf, pastOf, Stands}
 use Rattle.reached.specs.Planes.{reachedAt}
 use Rattle.reached.specs.Skips.{skippedBy}
-use Rattle.parts.specs.Standing.{stateOf, Agree, ReadyToDecode}
+use Rattle.parts.specs.Standing.{stateOf, Agree, ReadyToDecode, Quiet, PartDecoded}
 
 -- What becomes of a whole part: what is found, and the lists, the values drawn, the planes reached and the counts of skipped parts after it.
 pub record Outcome : Type 0 where
@@ -64,20 +65,38 @@ gone p reached skipped st c =
       skipped = skipped;
     }
 
+-- What becomes of a part that is cut: what is found, and the values drawn. W1: "10 also where the walk of such a part ends before the bits of its
+-- present body bytes do"
+pub record Cut : Type 0 where
+  pub found : Found
+  pub drawn : List ℤ
+
+unfoldable pub cutGone : List ℕ → Part → Course Reader → Cut
+cutGone s p c =
+    record { found = cond (leb (bitsThere s p) (c .side .taken)) found.Tail (found.Refused (refusal.Fit (p .place))); drawn = c .side .pyramid }
+
 -- one more part of its level that is walked over
 abbrev pub oneMore : Part → List ℕ → List ℕ
 oneMore p skipped = set skipped (p .level .0 - 1) (countIn skipped (p .level .0 - 1) + 1)
 
 module _ (s : List ℕ) (z : Size) (p : Part) where
+  -- what decoding it makes, as far as its bits are there
+  abbrev pub courseOn : State → List ℤ → Course Reader
+  courseOn st v = decoded (trees z) (nameOf p) (bitAt (bodyOf s p)) (bitsThere s p) st v
+
   -- by the lists st and the values v before it
   unfoldable pub usedOn : List Plane → List ℕ → State → List ℤ → Outcome
-  usedOn reached skipped st v = gone p reached skipped st (decoded (trees z) (nameOf p) (bitAt (bodyOf s p)) st v)
+  usedOn reached skipped st v = gone p reached skipped st (courseOn st v)
 
   -- "Parts that are not usable are walked over, not decoded."
   unfoldable pub metOn : List Plane → List ℕ → State → List ℤ → Outcome
   metOn reached skipped st v =
       cond (usableNow (reachedAt reached) (nameOf p)) (usedOn reached skipped st v)
       (record { found = found.Part; lists = st; drawn = v; reached = reached; skipped = oneMore p skipped })
+
+  -- W1: "The tail should be decoded as far as its bits go where .. the part would be usable."
+  unfoldable pub cutOn : List Plane → State → List ℤ → Cut
+  cutOn reached st v = cond (usableNow (reachedAt reached) (nameOf p)) (cutGone s p (courseOn st v)) (record { found = found.Tail; drawn = v })
 
   -- by the walk and the workspace
   abbrev pub decodedPart : Walk → List ℕ → Outcome
@@ -86,6 +105,12 @@ module _ (s : List ℕ) (z : Size) (p : Part) where
   abbrev pub metPart : Walk → List ℕ → Outcome
   metPart w work = metOn (w .reached) (w .skipped) (stateOf z work (w .counts)) (drawnIn z work)
 
+  abbrev pub drawnCut : Walk → List ℕ → Cut
+  drawnCut w work = cutGone s p (courseOn (stateOf z work (w .counts)) (drawnIn z work))
+
+  abbrev pub metCut : Walk → List ℕ → Cut
+  metCut w work = cutOn (w .reached) (stateOf z work (w .counts)) (drawnIn z work)
+
 -- the walk after a part
 pub record Past (p : Part) (reached : List Plane) (skipped : List ℕ) (counts : Counts) (r : Walk) : Type 0 where
   pub over : r .cursor ≡ pastOf p
@@ -93,11 +118,19 @@ pub record Past (p : Part) (reached : List Plane) (skipped : List ℕ) (counts :
   pub skips : r .skipped ≡ skipped
   pub fills : r .counts ≡ counts
 
+-- what decoding a part asks for, and what it makes of the workspace
+pub record Drawing (s : List ℕ) (z : Size) (p : Part) (counts : Counts) (work : List ℕ) : Type 0 where
+  pub decoding : ReadyToDecode z (p .plane) (p .level) work counts
+  pub ends : p .end ≡ p .body + bytesFor (p .bits)
+  pub within : p .body ≤ length s
+  pub quiet : Quiet (bodyOf s p) (record { at = bitsThere s p })
+
+abbrev pub Drawn : List ℕ → Size → Part → Counts → List ℕ → Passed → List ℕ → Type 0
+Drawn s z p counts work r work′ = PartDecoded (bodyOf s p) (record { at = bitsThere s p }) z (p .plane) (p .level) work counts r work′
+
 -- what a part asks for
 pub record Taking (s : List ℕ) (z : Size) (p : Part) (w : Walk) (work : List ℕ) : Type 0 where
-  pub decoding : ReadyToDecode z (p .plane) (p .level) work (w .counts)
-  pub ends : p .end ≡ p .body + bytesFor (p .bits)
-  pub within : p .end ≤ length s
+  pub drawing : Drawing s z p (w .counts) work
   pub six : length (w .reached) ≡ levelPlaces
   pub few : countIn (w .skipped) (p .level .0 - 1) < 2 ^ 32
 
@@ -113,6 +146,13 @@ pub record Taken (z : Size) (p : Part) (o : Outcome) (work : List ℕ) (r : Turn
   pub same : length work′ ≡ length work
   pub grows : (b : ℕ) → Words z b work → Words z (b + growth) work′
 
+-- a turn that met a part that is cut: the walk goes no further
+pub record Ended (z : Size) (o : Cut) (w : Walk) (work : List ℕ) (r : Turn) (work′ : List ℕ) : Type 0 where
+  pub finds : r .found ≡ o .found
+  pub stays : r .walk ≡ w
+  pub draws : drawnIn z work′ ≡ o .drawn
+  pub same : length work′ ≡ length work
+
 -- what a turn of the walk asks for
 pub record Standing (h : Header) (s : List ℕ) (w : Walk) (work : List ℕ) : Type 0 where
   pub legal : legalSize (h .size) ≡ true
@@ -123,7 +163,7 @@ pub record Standing (h : Header) (s : List ℕ) (w : Walk) (work : List ℕ) : T
   pub sound : TreeSound (h .size) (stateOf (h .size) work (w .counts))
   pub words : Words (h .size) (2 ^ 29) work
 
--- a turn that met no whole part: nothing has changed
+-- a turn that met no part: nothing has changed
 pub record Still (f : Found) (w : Walk) (work : List ℕ) (r : Turn) (work′ : List ℕ) : Type 0 where
   pub finds : r .found ≡ f
   pub stays : r .walk ≡ w
@@ -131,6 +171,7 @@ pub record Still (f : Found) (w : Walk) (work : List ℕ) (r : Turn) (work′ : 
 
 unfoldable pub Turned : Header → List ℕ → Walk → List ℕ → PartRead → Turn → List ℕ → Type 0
 Turned h s w work (part.Part p) r work′ = Taken (h .size) p (metPart s (h .size) p w work) work r work′
+Turned h s w work (part.Cut p) r work′ = Ended (h .size) (metCut s (h .size) p w work) w work r work′
 Turned h s w work part.Tail r work′ = Still found.Tail w work r work′
 Turned h s w work (part.Refused f) r work′ = Still (found.Refused f) w work r work′
 
@@ -167,6 +208,9 @@ begin h = going (treeStart (h .size)) (replicate (area (h .size)) (pos 0))
 
 abbrev pub walked : Header → List ℕ → List Part → Progress → Progress
 walked h s ps g = decodePartsOf (trees (h .size)) h s (names h s) ps g
+
+abbrev pub tailWalked : Header → List ℕ → PartRead → Progress → Progress
+tailWalked h s x g = tailOnwardOf (trees (h .size)) h s (names h s) x g
 
 -- Where the walk stands: the parts that came by, the lists that they make, and what they draw.
 pub record Walking (h : Header) (s : List ℕ) (w : Walk) (work : List ℕ) : Type 0 where

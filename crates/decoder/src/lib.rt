@@ -7,9 +7,12 @@ ghost use Rattle.rules.specs.Document.Numbers.{readParts};
 ghost use Rattle.rules.specs.Document.Calls.{Decoding, decodedParts};
 ghost use Rattle.record.specs.Walk.{nextOf};
 ghost use Rattle.placing.specs.Placing.{Roomy};
-ghost use Rattle.decoder.specs.Walking.{Begun, Past, Taking, Taken, decodedPart, metPart, Standing, Turned, Walking};
+ghost use Rattle.decoder.specs.Walking.{Begun, Past, Drawing, Drawn, Taking, Taken, decodedPart, metPart, Ended, drawnCut, metCut};
+ghost use Rattle.decoder.specs.Walking.{Standing, Turned, Walking};
 ghost use Rattle.decoder.specs.Walking.{Lent, Answered, Refusing, Accepting};
+use bits::BitPosition;
 use parts::Counts;
+use parts::Passed;
 use record::read;
 use record::walk::Cursor;
 use rules::Decoded;
@@ -75,6 +78,20 @@ fn walk_past(
     }
 }
 
+// A part is decoded as far as its bits are there: a whole one to its end.
+fn draw(bytes: &[u8], z: Size, p: Part, counts: Counts, work: &mut [u32]) -> Passed
+    requires { ⌜ Drawing (now bytes) z p counts (now work) ⌝ }
+    ensures { λ r. ⌜ Drawn (now (bytes .entry)) z p counts (now (work .entry)) r (now (work .exit)) ⌝ }
+{
+    let plane = p.plane;
+    let level = p.level;
+    let until = BitPosition {
+        at: read::bits_there(bytes, p),
+    };
+    let body = read::there(bytes, p);
+    parts::decode_part(body, until, z, plane, level, work, counts)
+}
+
 // A usable part is decoded; its bits have to be just those that its pass asks for.
 fn decode_usable(bytes: &[u8], z: Size, p: Part, walk: Walk, work: &mut [u32]) -> Turn
     requires { ⌜ Taking (now bytes) z p walk (now work) ⌝ }
@@ -85,8 +102,7 @@ fn decode_usable(bytes: &[u8], z: Size, p: Part, walk: Walk, work: &mut [u32]) -
     let level = p.level;
     let reached = walk.reached;
     let counts = walk.counts;
-    let body = read::body(bytes, p);
-    let passed = parts::decode_part(body, z, plane, level, work, counts);
+    let passed = draw(bytes, z, p, counts, work);
     let asked = passed.at;
     let filled = passed.counts;
     let skipped = walk.skipped;
@@ -127,6 +143,43 @@ fn take_part(bytes: &[u8], z: Size, p: Part, walk: Walk, work: &mut [u32]) -> Tu
     }
 }
 
+// A usable part that is cut is decoded as far as its bits go. Those that are there have to be asked for, every one. The walk ends here, as at a tail.
+fn decode_cut(bytes: &[u8], z: Size, p: Part, walk: Walk, work: &mut [u32]) -> Turn
+    requires { ⌜ Taking (now bytes) z p walk (now work) ⌝ }
+    ensures { λ r. ⌜ Ended z (drawnCut (now (bytes .entry)) z p walk (now (work .entry))) walk (now (work .entry)) r (now (work .exit)) ⌝ }
+{
+    let counts = walk.counts;
+    let there = read::bits_there(bytes, p);
+    let passed = draw(bytes, z, p, counts, work);
+    let asked = passed.at;
+    if asked.at < there {
+        return Turn {
+            found: Found::Refused(Refusal::Fit(p.place)),
+            walk,
+        };
+    }
+    Turn {
+        found: Found::Tail,
+        walk,
+    }
+}
+
+// A part that is cut: decoded if it is usable, else left as a tail.
+fn take_cut(bytes: &[u8], z: Size, p: Part, walk: Walk, work: &mut [u32]) -> Turn
+    requires { ⌜ Taking (now bytes) z p walk (now work) ⌝ }
+    ensures { λ r. ⌜ Ended z (metCut (now (bytes .entry)) z p walk (now (work .entry))) walk (now (work .entry)) r (now (work .exit)) ⌝ }
+{
+    let reached = walk.reached;
+    let usable = reached::is_usable(reached, p.plane, p.level);
+    if usable {
+        return decode_cut(bytes, z, p, walk, work);
+    }
+    Turn {
+        found: Found::Tail,
+        walk,
+    }
+}
+
 // One turn: the next part, or what is there instead of it.
 fn walk_on(bytes: &[u8], h: Header, walk: Walk, work: &mut [u32]) -> Turn
     requires { ⌜ Standing h (now bytes) walk (now work) ⌝ }
@@ -136,6 +189,7 @@ fn walk_on(bytes: &[u8], h: Header, walk: Walk, work: &mut [u32]) -> Turn
     let cursor = walk.cursor;
     match cursor.next(bytes, h) {
         PartRead::Part(p) => take_part(bytes, h.size, p, walk, work),
+        PartRead::Cut(p) => take_cut(bytes, h.size, p, walk, work),
         PartRead::Tail => Turn {
             found: Found::Tail,
             walk,

@@ -5,11 +5,8 @@ use borrow.Author.Needs.{needs}
 use Rattle.decoder.proofs.decode_usable.Statement.{statement}
 use Rattle.decoder.proofs.decode_usable.Tie as tie
 
-body-requires : tie.Need-body-requires
-body-requires c κs = search needs
-
-decode-part-requires : tie.Need-decode-part-requires
-decode-part-requires c κs = search needs
+draw-requires : tie.Need-draw-requires
+draw-requires c κs = search needs
 
 with-reached-requires : tie.Need-with-reached-requires
 with-reached-requires c κs = search (needs, level-within)
@@ -33,8 +30,7 @@ pub decode-usable-spec : {M : Type 1} → statement M
 decode-usable-spec =
     tie.close
     (tie.spec
-    body-requires
-    decode-part-requires
+    draw-requires
     with-reached-requires
     walk-past-requires
     same-length
