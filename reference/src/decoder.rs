@@ -1,10 +1,11 @@
-//! The decoder: from any record to a pyramid, by its usable parts.
+//! The decoder: from any record to a pyramid, by its usable parts and by what
+//! is there of the one that the end of the bytes cuts.
 
 use crate::family::Node;
 use crate::layout::{Bits, Header, RanOut};
 use crate::lists::AllLists;
 use crate::passes::{run_part, Side};
-use crate::reading::{Part, Walk};
+use crate::reading::{CutPart, Part, Walk};
 use crate::refusal::{Cause, Refusal};
 use crate::size::{Level, Plane, Shape, MOST_LEVELS, MOST_PLANES};
 use crate::slip::{Faithful, Slips};
@@ -81,6 +82,11 @@ fn decode_parts<S: Slips>(
             decoding.run::<S>(&part)?;
         }
     }
+    if let Some(part) = walk.cut() {
+        if decoding.usable.would_be(part.plane, part.level) {
+            decoding.run_to_the_cut::<S>(&part)?;
+        }
+    }
     if S::TAKES_ABSENT_FOR_EMPTY {
         decoding.take_absent_before::<S>(None, record.len())?;
     }
@@ -114,20 +120,33 @@ struct Decoding<'d> {
 impl Decoding<'_> {
     /// Runs a usable part's passes; its bits must do exactly.
     fn run<S: Slips>(&mut self, part: &Part) -> Result<(), Refusal> {
+        match self.listen::<S>(part.plane, part.level, Bits::new(part.body, part.bits)) {
+            Heard::All => Ok(()),
+            Heard::Some | Heard::TooFew => Err(Refusal::at(Cause::Fit, part.offset)),
+        }
+    }
+
+    /// Runs a part's passes until the bits that are there are used up; none of
+    /// them may be left over. The lists are of no use afterwards, and nothing
+    /// comes after such a part.
+    fn run_to_the_cut<S: Slips>(&mut self, part: &CutPart) -> Result<(), Refusal> {
+        let there = Bits::new(part.there, 8 * part.there.len());
+        match self.listen::<S>(part.plane, part.level, there) {
+            Heard::All | Heard::TooFew => Ok(()),
+            Heard::Some => Err(Refusal::at(Cause::Fit, part.offset)),
+        }
+    }
+
+    fn listen<S: Slips>(&mut self, plane: Plane, level: Level, bits: Bits) -> Heard {
         let mut listener = Listener {
             out: self.out,
-            bits: Bits::new(part.body, part.bits),
+            bits,
         };
-        let ended = run_part::<S, _>(
-            self.header.shape,
-            &mut self.lists,
-            part.plane,
-            part.level,
-            &mut listener,
-        );
-        match ended {
-            Ok(()) if listener.bits.all_read() => Ok(()),
-            Ok(()) | Err(RanOut) => Err(Refusal::at(Cause::Fit, part.offset)),
+        let shape = self.header.shape;
+        match run_part::<S, _>(shape, &mut self.lists, plane, level, &mut listener) {
+            Ok(()) if listener.bits.all_read() => Heard::All,
+            Ok(()) => Heard::Some,
+            Err(RanOut) => Heard::TooFew,
         }
     }
 
@@ -155,6 +174,16 @@ impl Decoding<'_> {
         }
         Ok(())
     }
+}
+
+/// What passes made of the bits that they were given.
+enum Heard {
+    /// They ended with the last of them.
+    All,
+    /// They ended and left some over.
+    Some,
+    /// They asked for more.
+    TooFew,
 }
 
 /// Which parts are there whole: of each level the planes, as bits.
@@ -204,16 +233,20 @@ impl Usable {
         self.table[plane.0 as usize][level.0 as usize - 1]
     }
 
-    /// Notes that a part is present, and says whether it is usable. All the
-    /// parts on which that depends come before it in the order. They are this
-    /// one, those on which the part one plane up depends, and those on which
-    /// the part one level coarser depends; so these two being usable says it.
-    fn enter<S: Slips>(&mut self, plane: Plane, level: Level) -> bool {
+    /// Whether a part is usable, being there. All the parts on which that
+    /// depends come before it in the order. They are this one, those on which
+    /// the part one plane up depends, and those on which the part one level
+    /// coarser depends; so these two being usable says it.
+    fn would_be(&self, plane: Plane, level: Level) -> bool {
         let is_top = plane.0 + 1 == self.header.planes;
         let is_coarsest = level == self.header.shape.coarsest();
-        let usable = (is_top || self.is_usable(Plane(plane.0 + 1), level))
-            && (is_coarsest || self.is_usable(plane, Level(level.0 + 1)));
-        let usable = usable || S::GOES_ON_AFTER_LOSS;
+        (is_top || self.is_usable(Plane(plane.0 + 1), level))
+            && (is_coarsest || self.is_usable(plane, Level(level.0 + 1)))
+    }
+
+    /// Notes that a part is present, and says whether it is usable.
+    fn enter<S: Slips>(&mut self, plane: Plane, level: Level) -> bool {
+        let usable = self.would_be(plane, level) || S::GOES_ON_AFTER_LOSS;
         self.table[plane.0 as usize][level.0 as usize - 1] = usable;
         usable
     }

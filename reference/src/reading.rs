@@ -7,7 +7,7 @@ use crate::refusal::{Cause, Refusal};
 use crate::size::{Level, Plane, Shape, MOST_PLANES};
 
 /// One whole part, held as portions of the caller's record.
-#[derive(Clone, Copy, Debug)]
+#[derive(Clone, Copy, Debug, PartialEq, Eq)]
 pub struct Part<'r> {
     pub offset: usize,
     pub plane: Plane,
@@ -16,6 +16,16 @@ pub struct Part<'r> {
     pub body: &'r [u8],
     /// Head and body together.
     pub whole: &'r [u8],
+}
+
+/// A part whose head is whole and legal and whose body isn't all there.
+#[derive(Clone, Copy, Debug, PartialEq, Eq)]
+pub struct CutPart<'r> {
+    pub offset: usize,
+    pub plane: Plane,
+    pub level: Level,
+    /// The body's bytes that are there, at least one fewer than it has.
+    pub there: &'r [u8],
 }
 
 /// A part's head, read but not yet judged.
@@ -43,6 +53,7 @@ pub struct Walk<'r> {
     /// The place in the order of the last whole part.
     before: Option<(Plane, Level)>,
     tail: usize,
+    cut: Option<CutPart<'r>>,
 }
 
 impl<'r> Walk<'r> {
@@ -69,6 +80,7 @@ impl<'r> Walk<'r> {
             at,
             before: None,
             tail: 0,
+            cut: None,
         })
     }
 
@@ -85,6 +97,12 @@ impl<'r> Walk<'r> {
         self.tail
     }
 
+    /// The part that the tail is of, known once the walk is over: none where
+    /// there is no tail, or where it is less than a head.
+    pub fn cut(&self) -> Option<CutPart<'r>> {
+        self.cut
+    }
+
     /// The next whole part, or none where the record or its whole parts end.
     pub fn next_part(&mut self) -> Result<Option<Part<'r>>, Refusal> {
         let offset = self.at;
@@ -99,16 +117,24 @@ impl<'r> Walk<'r> {
         if !self.is_legal(&head) {
             return Err(Refusal::at(Cause::Part, offset));
         }
+        let (plane, level) = (Plane(head.plane), Level(head.level));
         let bits = head.bits as usize;
         let end = head.next + body_length(bits);
         let body = match self.record.get(head.next..end) {
             Some(body) => body,
-            None => return Ok(self.end_in_tail()),
+            None => {
+                self.cut = Some(CutPart {
+                    offset,
+                    plane,
+                    level,
+                    there: &self.record[head.next..],
+                });
+                return Ok(self.end_in_tail());
+            }
         };
         if !padding_is_clear(body, bits) {
             return Err(Refusal::at(Cause::Pad, offset));
         }
-        let (plane, level) = (Plane(head.plane), Level(head.level));
         self.before = Some((plane, level));
         self.at = end;
         Ok(Some(Part {
@@ -170,6 +196,13 @@ impl<'r> Walk<'r> {
         self.at = self.record.len();
         None
     }
+}
+
+/// The part that a record is cut in the body of, where reading comes to one.
+pub fn cut_part(record: &[u8]) -> Option<CutPart<'_>> {
+    let mut walk = Walk::begin(record).ok()?;
+    while walk.next_part().ok()?.is_some() {}
+    walk.cut()
 }
 
 /// A number of the header; one that has no value is refused at its offset,

@@ -130,6 +130,7 @@ const COUNTS: [(&str, Wanted); 4] = [
 #[derive(Clone, Copy, Debug, PartialEq, Eq)]
 pub enum Wanted {
     One,
+    AFifth,
     AQuarter,
     AThird,
     AThirdOfAccepted,

@@ -60,6 +60,7 @@ impl Tally {
         let sorts = self.sorts.iter().filter_map(|&(name, wanted, count)| {
             let (enough, least) = match wanted {
                 Wanted::One => (count > 0, ""),
+                Wanted::AFifth => (5 * count >= self.cases, "a fifth being "),
                 Wanted::AQuarter => (4 * count >= self.cases, "a quarter being "),
                 Wanted::AThird => (3 * count >= self.cases, "a third being "),
                 Wanted::AThirdOfAccepted => (

@@ -306,6 +306,43 @@ pub fn any_record(chance: &mut Chance, record: &[u8]) -> Vec<u8> {
     bytes
 }
 
+/// What arrives of a record where the bytes end in mid body, or before any of
+/// it. Damaged: bits are turned over in a part, or one has more bits than it
+/// should, so that the walk may end before the bits that are there.
+pub fn cut_in_a_body(chance: &mut Chance, mut pieces: Pieces, damaged: bool) -> Vec<u8> {
+    let with_body: Vec<usize> = (0..pieces.parts.len())
+        .filter(|&at| !pieces.parts[at].body.is_empty())
+        .collect();
+    if with_body.is_empty() {
+        return pieces.together();
+    }
+    let last = *chance.pick(&with_body);
+    pieces.parts.truncate(last + 1);
+    if damaged {
+        match chance.below(3) {
+            0 => turn_bits(chance, &mut pieces.parts[last]),
+            1 => lengthen(chance, &mut pieces.parts[last]),
+            _ => {
+                let part = any_part(chance, &mut pieces);
+                turn_bits(chance, part);
+            }
+        }
+    }
+    let missing = 1 + chance.below(pieces.parts[last].body.len());
+    let mut bytes = pieces.together();
+    bytes.truncate(bytes.len() - missing);
+    bytes
+}
+
+/// Up to five bytes more than the bits need.
+fn lengthen(chance: &mut Chance, part: &mut PartPieces) {
+    let more = 1 + chance.below(5);
+    let bytes = chance.bytes(more);
+    part.body.extend(bytes);
+    part.bits = 8 * part.body.len();
+    part.head[2] = number_bytes(part.bits as u32);
+}
+
 /// The harms that need to know where parts and numbers are.
 pub fn harm_pieces(chance: &mut Chance, pieces: &mut Pieces, harm: Harm) {
     match harm {

@@ -4,6 +4,7 @@
 use reference::compare::{
     run, run_partlist, Call, Difference, Memory, Own, Returned, Routine, Subject, Tally,
 };
+use reference::reading::cut_part;
 use std::path::Path;
 use std::process::Command;
 
@@ -169,6 +170,57 @@ fn a_wrong_cause_of_a_malformed_number_is_caught() {
             }
         });
     }
+}
+
+/// The portal decoding other bytes than it is given.
+struct Decodes {
+    what: fn(&[u8]) -> Vec<u8>,
+}
+
+impl Subject for Decodes {
+    fn call(&self, call: Call, memory: &mut Memory) -> Returned {
+        match call {
+            Call::Decode(record) => Own.call(Call::Decode(&(self.what)(record)), memory),
+            other => Own.call(other, memory),
+        }
+    }
+}
+
+#[test]
+fn a_cut_part_decoded_otherwise_is_caught() {
+    let differs = |what| {
+        let difference = compare(Routine::Decode, 400, &Decodes { what }).unwrap_err();
+        difference.what
+    };
+    // Its last byte isn't used, or a byte of zeros is there that isn't.
+    differs(|record| match cut_part(record) {
+        Some(part) if !part.there.is_empty() => record[..record.len() - 1].to_vec(),
+        _ => record.to_vec(),
+    });
+    differs(|record| match cut_part(record) {
+        Some(_) => [record, &[0]].concat(),
+        None => record.to_vec(),
+    });
+}
+
+/// A cut part thrown away: of the same answer, and other coefficients.
+#[test]
+fn a_cut_part_thrown_away_is_caught() {
+    struct Throws;
+    impl Subject for Throws {
+        fn call(&self, call: Call, memory: &mut Memory) -> Returned {
+            let returned = Own.call(call, memory)?;
+            if let (0, Call::Decode(record)) = (returned, call) {
+                if let Some(part) = cut_part(record) {
+                    let mut work = vec![0; memory.work.len()];
+                    reference::decode(&record[..part.offset], memory.coefficients, &mut work);
+                }
+            }
+            Ok(returned)
+        }
+    }
+    let difference = compare(Routine::Decode, 400, &Throws).unwrap_err();
+    assert!(difference.what.contains("out"), "{difference}");
 }
 
 /// Two records made of two.

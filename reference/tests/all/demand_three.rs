@@ -1,6 +1,7 @@
 //! Demand 3: strike any parts out of a coder's record, by request or loss;
 //! the rest is accepted and each coefficient is rounded toward zero at the
-//! plane that its level reached.
+//! plane that its level reached. Of a part that the end cuts off, its own
+//! level is rounded at its plane or at the one above it.
 
 use crate::helpers::*;
 use reference::generate::pyramids::{any_pyramid, pyramid, PyramidKind};
@@ -9,21 +10,55 @@ use reference::generate::shapes::{any_shape, shape_of, SizeClass};
 use reference::generate::Chance;
 use reference::size::{Level, Plane, Shape};
 
-/// Decodes what is left of a pyramid's record and holds it against demand 3.
-fn check(pyramid: &[i32], shape: Shape, left: &Pieces, record: &[u8], tail: usize) {
-    let planes = u32::from(left.header[4][0]);
-    let is_there = |plane: Plane, level: Level| {
-        left.parts
-            .iter()
-            .any(|part| (part.plane, part.level) == (plane, level))
-    };
-    let (reached, rounded) = expected(pyramid, shape, planes, &is_there);
-    let (answer, decoded) = decoded(record);
+/// What arrived of a record: parts, and a tail.
+struct Arrived<'a> {
+    left: &'a Pieces,
+    bytes: &'a [u8],
+    tail: usize,
+    /// The part that the tail is of, if its head is whole.
+    cut: Option<(Plane, Level)>,
+}
+
+impl Arrived<'_> {
+    fn is_there(&self, plane: Plane, level: Level) -> bool {
+        let mut parts = self.left.parts.iter();
+        parts.any(|part| (part.plane, part.level) == (plane, level))
+    }
+
+    /// What decoding gives, and what it would give with the cut part whole,
+    /// which tells apart from it what the tail may have brought.
+    fn expected(&self, pyramid: &[i32], shape: Shape) -> ([u64; 6], Vec<i32>, Vec<i32>) {
+        let planes = u32::from(self.left.header[4][0]);
+        let there = |plane, level| self.is_there(plane, level);
+        let (reached, rounded) = expected(pyramid, shape, planes, &there);
+        let with_cut = |plane, level| self.cut == Some((plane, level)) || there(plane, level);
+        (
+            reached,
+            rounded,
+            expected(pyramid, shape, planes, &with_cut).1,
+        )
+    }
+}
+
+/// Decodes what arrived of a pyramid's record and holds it against demand 3;
+/// says how many coefficients the tail brought nearer.
+fn check(pyramid: &[i32], shape: Shape, arrived: &Arrived) -> usize {
+    let (reached, rounded, nearer) = arrived.expected(pyramid, shape);
+    let (answer, decoded) = decoded(arrived.bytes);
     assert_eq!((answer.number, answer.place), (0, 0));
-    assert_eq!(answer.tail, tail as u64);
+    assert_eq!(answer.tail, arrived.tail as u64);
     assert_eq!(answer.reached, reached);
-    assert_eq!(answer.skipped, skipped(left, reached));
-    assert!(decoded == rounded, "{shape:?}, reached {reached:?}");
+    assert_eq!(answer.skipped, skipped(arrived.left, reached));
+    let either = rounded.iter().zip(&nearer);
+    assert!(
+        decoded
+            .iter()
+            .zip(either)
+            .all(|(c, (above, at))| c == above || c == at),
+        "{shape:?}, reached {reached:?}"
+    );
+    let brought = decoded.iter().zip(&rounded);
+    brought.filter(|(c, above)| c != above).count()
 }
 
 /// "With it the answer is complete": of each level used and skipped parts are
@@ -41,7 +76,13 @@ fn skipped(left: &Pieces, reached: [u64; 6]) -> [u64; 6] {
 }
 
 fn check_whole(pyramid: &[i32], shape: Shape, left: &Pieces) {
-    check(pyramid, shape, left, &left.together(), 0);
+    let arrived = Arrived {
+        left,
+        bytes: &left.together(),
+        tail: 0,
+        cut: None,
+    };
+    assert_eq!(check(pyramid, shape, &arrived), 0);
 }
 
 #[test]
@@ -148,31 +189,43 @@ fn served_records() {
     }
 }
 
-/// A cut part counts as struck out, and its bytes are the tail.
-fn check_cut(pyramid: &[i32], shape: Shape, record: &[u8], cut: usize) {
+/// A cut part counts as struck out in what is told, and its bytes are the tail.
+/// Says how many coefficients it brought nearer.
+fn check_cut(pyramid: &[i32], shape: Shape, record: &[u8], cut: usize) -> usize {
     let mut left = Pieces::of(record);
     let mut end: usize = left.header.iter().map(Vec::len).sum();
     assert!(cut >= end, "the header is intact");
     let mut whole_parts = 0;
+    let mut cut_part = None;
     for part in &left.parts {
-        let after = end + part.head.concat().len() + part.body.len();
+        let head = part.head.concat().len();
+        let after = end + head + part.body.len();
         if after > cut {
+            cut_part = (end + head <= cut).then_some((part.plane, part.level));
             break;
         }
         end = after;
         whole_parts += 1;
     }
     left.parts.truncate(whole_parts);
-    check(pyramid, shape, &left, &record[..cut], cut - end);
+    let arrived = Arrived {
+        left: &left,
+        bytes: &record[..cut],
+        tail: cut - end,
+        cut: cut_part,
+    };
+    let brought = check(pyramid, shape, &arrived);
     // Serving leaves the tail out and reports it.
     let (answer, out) = serve_into(&record[..cut], 1, 0, cut);
     assert_eq!((answer.number, answer.tail), (0, (cut - end) as u64));
     assert!(out[..answer.length as usize] == record[..end]);
+    brought
 }
 
 #[test]
 fn cut_at_every_byte() {
     let mut chance = Chance::new(46);
+    let mut nearer = 0;
     for (w, h, n) in [(4, 4, 1), (8, 16, 2), (16, 32, 3), (64, 32, 4), (64, 64, 5)] {
         let shape = shape(w, h, n);
         for kind in [PyramidKind::Sparse, PyramidKind::Waterfall] {
@@ -180,15 +233,17 @@ fn cut_at_every_byte() {
             let record = coded(&pyramid, shape);
             let step = 1 + record.len() / 1500;
             for cut in (5..=record.len()).step_by(step) {
-                check_cut(&pyramid, shape, &record, cut);
+                nearer += usize::from(check_cut(&pyramid, shape, &record, cut) > 0);
             }
         }
     }
+    assert!(nearer > 2_000, "{nearer}");
 }
 
 #[test]
 fn struck_and_cut_anywhere() {
     let mut chance = Chance::new(47);
+    let mut nearer = 0;
     for _ in 0..400 {
         let shape = any_shape(&mut chance);
         let pyramid = any_pyramid(&mut chance, shape);
@@ -197,8 +252,9 @@ fn struck_and_cut_anywhere() {
         let record = left.together();
         let header: usize = left.header.iter().map(Vec::len).sum();
         let cut = header + chance.below(record.len() - header + 1);
-        check_cut(&pyramid, shape, &record, cut);
+        nearer += usize::from(check_cut(&pyramid, shape, &record, cut) > 0);
     }
+    assert!(nearer > 20, "{nearer}");
 }
 
 #[test]

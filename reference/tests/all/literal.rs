@@ -301,6 +301,13 @@ fn is_legal(w: usize, h: usize, n: usize, planes: usize) -> bool {
     (1..=5).contains(&n) && side(w) && side(h) && planes <= 17
 }
 
+fn bits_of(bytes: &[u8]) -> VecDeque<bool> {
+    bytes
+        .iter()
+        .flat_map(|byte| (0..8).rev().map(move |bit| byte >> bit & 1 == 1))
+        .collect()
+}
+
 /// Decodes any bytes.
 pub fn decode(record: &[u8]) -> Outcome {
     let refused = |number, place: usize| Outcome {
@@ -352,20 +359,26 @@ pub fn decode(record: &[u8]) -> Outcome {
             return refused(8, offset);
         }
         at = next + (count + 7) / 8;
+        let is_usable = (plane..planes).all(|p| {
+            (level..=n + 1).all(|k| (p, k) == (plane, level) || present.contains(&(p, k)))
+        });
         if at > record.len() {
             tail = record.len() - offset;
+            if is_usable {
+                literal.bits = bits_of(&record[next..]);
+                let ended = literal.part(level, plane as u32);
+                if ended.is_ok() && !literal.bits.is_empty() {
+                    return refused(10, offset);
+                }
+            }
             break;
         }
-        let mut bits: VecDeque<bool> = record[next..at]
-            .iter()
-            .flat_map(|byte| (0..8).rev().map(move |bit| byte >> bit & 1 == 1))
-            .collect();
+        let mut bits = bits_of(&record[next..at]);
         if bits.split_off(count).contains(&true) {
             return refused(9, offset);
         }
         before = Some((plane, level));
         present.insert((plane, level));
-        let is_usable = (plane..planes).all(|p| (level..=n + 1).all(|k| present.contains(&(p, k))));
         if is_usable {
             usable.insert((plane, level));
             literal.bits = bits;

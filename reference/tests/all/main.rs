@@ -2,6 +2,7 @@
 
 mod any_bytes;
 mod comparison;
+mod cut;
 mod demand_three;
 mod demand_two;
 mod example;

@@ -66,7 +66,8 @@ fn room_for_the_example() {
 fn the_first_29_bytes() {
     let (answer, pyramid) = decoded(&EXAMPLE[..29]);
     assert_eq!((answer.number, answer.tail), (0, 4));
-    // Without the last part, level 1 is rounded at plane 1.
+    // Without the whole of the last part level 1 is rounded at plane 1, but for
+    // what came of plane 0: the 1 at (2, 2).
     assert_eq!(answer.reached, [1, 0, 0, 0, 0, 0]);
-    assert_eq!(pyramid, [4, -1, 0, 0, 2, 0, 0, -2, 0, 0, 0, 0, 0, 0, 0, 0]);
+    assert_eq!(pyramid, [4, -1, 0, 0, 2, 0, 0, -2, 0, 0, 1, 0, 0, 0, 0, 0]);
 }
