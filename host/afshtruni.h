@@ -546,7 +546,19 @@ enum {
  * answer is long enough.
  *
  * A part that is cut off by the record's end, in its head or in its body, is
- * the tail. It is no fault: it is not used, and its length is told.
+ * the tail. It is no fault, and its length is told. Where its head is whole and
+ * legal and all other parts that it needs are there, it is decoded as far as its
+ * bits go, 8 for each byte of its body that is there: a significance bit whose
+ * sign did not arrive leaves its coefficient 0, a refinement bit that did not
+ * arrive leaves it as it was. Otherwise it is not used. Reached planes and counts
+ * are those without it.
+ *
+ * Where the record is a selection of what afs_code() wrote, cut at any byte
+ * behind the header, and the tail is of plane n and level k and is used, each
+ * coefficient of level k is rounded at plane n or at plane n + 1, which is the
+ * reached one; so what is said above holds of it. And with more bytes of the same
+ * record no magnitude becomes smaller and no sign turns over. Of records that no
+ * coder wrote nothing is promised: more bytes may bring a refusal.
  *
  * Numbers, in the order in which they are judged; the first that is due is
  * given:
@@ -564,7 +576,9 @@ enum {
  *   9 PAD      in the first part at fault, if it isn't 8 or 12: as in
  *              afs_serve(). Place: the offset of the part.
  *   10 FIT     in the first part at fault, if it isn't 8, 9 or 12: the part is
- *              usable, and its bits run out or are left over. Place: the
+ *              usable, and its bits run out or are left over; or it is the
+ *              tail, is used, and decoding it ends before the bits there do.
+ *              Padding of a body that is cut is not looked at. Place: the
  *              offset of the part.
  *
  * The first part at fault decides, whichever of the four its fault is. Parts
@@ -595,8 +609,11 @@ enum {
  *
  *    4 -1  0  0
  *    2  0  0 -2
+ *    0  0  1  0
  *    0  0  0  0
- *    0  0  0  0
+ *
+ * where the 1 came with the tail, which is the beginning of the part of plane 0,
+ * level 1.
  *
  * Where the part of plane 1, level 2 is lost, the 26 other bytes answer 0, 0, 0,
  * then 2, 2, 0, 0, 0, 0, then 2, 1, 0, 0, 0, 0: of level 1 two parts are there

@@ -128,6 +128,10 @@ static void test_pairs(const Pair *of, size_t count) {
 /* 8 x 8, N = 2: the first plane of levels 3 and 2. */
 #define WIDER "01 08 08 02 01 "
 
+/* What stands before the fourth part of the example, and before its last one. */
+#define THREE_PARTS HEADER PART_2_2 PART_2_1 PART_1_2
+#define FIVE_PARTS THREE_PARTS PART_1_1 PART_0_2
+
 typedef struct {
     const char *name, *record;
     size_t area;
@@ -140,7 +144,8 @@ static const Accepted accepted[] = {
     {"P9: plane 0 not served", HEADER PART_2_2 PART_2_1 PART_1_2 PART_1_1, 16, "4 0 0 0  2 0 0 -2", {0, {1, 1}, {0}}},
     {"P10: part (1, 2) lost", HEADER PART_2_2 PART_2_1 PART_1_1 PART_0_2 PART_0_1, 16, "4", {0, {2, 2}, {2, 1}}},
     {"P11: part (1, 1) lost", HEADER PART_2_2 PART_2_1 PART_1_2 PART_0_2 PART_0_1, 16, "4 -1 0 0  2 0", {0, {2, 0}, {1}}},
-    {"first 29 bytes: a tail of 4", HEADER PART_2_2 PART_2_1 PART_1_2 PART_1_1 PART_0_2 "00 01 0B 0C", 16, "4 -1 0 0  2 0 0 -2", {4, {1, 0}, {0}}},
+    {"first 29 bytes: a tail of 4, a 1 at (2, 2) with it", FIVE_PARTS "00 01 0B 0C", 16, "4 -1 0 0  2 0 0 -2  0 0 1", {4, {1, 0}, {0}}},
+    {"first 28 bytes: a tail of 3, no bit of it there", FIVE_PARTS "00 01 0B", 16, "4 -1 0 0  2 0 0 -2", {3, {1, 0}, {0}}},
     {"header alone", HEADER, 16, "", {0, {3, 3}, {0}}},
     {"last part alone", HEADER PART_0_1, 16, "", {0, {3, 3}, {1}}},
     {"absent isn't 0 bits", HEADER PART_2_2 PART_1_2 PART_1_1 PART_0_2 PART_0_1, 16, "4 -1 0 0  2 0", {0, {3, 0}, {2}}},
@@ -172,9 +177,15 @@ static const Accepted accepted[] = {
     {"tail: out of order, but cut", HEADER PART_2_2 "02 02", 16, "4", {2, {3, 2}, {0}}},
     {"tail: body missing", HEADER "02 02 05", 16, "", {3, {3, 3}, {0}}},
     {"tail: 64 bits, a byte missing", HEADER "00 01 40 00 00 00 00 00 00 00", 16, "", {10, {3, 3}, {0}}},
-    {"tail: padding set, but a byte before it missing", HEADER "02 02 0C FF", 16, "", {4, {3, 3}, {0}}},
+    {"tail: four of -4, and a byte that may have padding missing", HEADER "02 02 0C FF", 16, "-4 -4 0 0  -4 -4", {4, {3, 3}, {0}}},
     {"tail: not counted behind a skipped part", HEADER PART_2_1 "00 01 0B 0C", 16, "", {4, {3, 3}, {1}}},
-    {"tail: the cut part isn't used", HEADER PART_2_2 PART_2_1 PART_1_2 "01 01 08", 16, "4 0 0 0  2", {3, {2, 1}, {0}}},
+    {"tail: no bit of the cut part is there", THREE_PARTS "01 01 08", 16, "4 0 0 0  2", {3, {2, 1}, {0}}},
+    {"tail: a significance bit without its sign", FIVE_PARTS "00 01 10 11", 16, "4 -1 0 0  2 0 0 -2", {4, {1, 0}, {0}}},
+    {"with its sign", FIVE_PARTS "00 01 10 11 E1", 16, "4 -1 0 0  2 0 0 -3  0 0 1 0  0 -1", {0, {0}, {0}}},
+    {"tail: a walk that ends with the bits there", THREE_PARTS "01 01 20 8C", 16, "4 0 0 0  2 0 0 -2", {4, {2, 1}, {0}}},
+    {"tail: padding isn't looked at", THREE_PARTS "01 01 09 8C", 16, "4 0 0 0  2 0 0 -2", {4, {2, 1}, {0}}},
+    {"tail: of a part that isn't usable, bits left over", HEADER PART_2_2 PART_2_1 "01 01 20 8C 00", 16, "4", {5, {2, 2}, {0}}},
+    {"tail: of a part that isn't usable, with others lost", HEADER PART_2_2 "01 01 20 8C 00", 16, "4", {5, {3, 2}, {0}}},
 };
 
 /* `area` is 0 where the header is at fault. */
@@ -293,6 +304,12 @@ static const Refused refused[] = {
     {"a bit missing in the last part", HEADER PART_2_2 PART_2_1 PART_1_2 PART_1_1 PART_0_2 "00 01 0A 0C 00", 16, AFS_FIT, 25},
     {"a bit left over in the last part", HEADER PART_2_2 PART_2_1 PART_1_2 PART_1_1 PART_0_2 "00 01 0C 0C 20", 16, AFS_FIT, 25},
     {"a bit where none is due", WIDER "00 03 04 00 00 02 03 00 00 01 01 00", 64, AFS_FIT, 13},
+
+    {"a cut part: a byte left over", THREE_PARTS "01 01 20 8C 00", 16, AFS_FIT, 17},
+    {"a cut part: a byte left over, whatever it is", THREE_PARTS "01 01 20 8C FF", 16, AFS_FIT, 17},
+    {"a cut part: all but a byte left over", HEADER "02 02 40 80 00 00 00 00 00 00", 16, AFS_FIT, 5},
+    {"a cut part: a part before it decides", HEADER PART_2_2 PART_2_1 "01 02 04 40 01 01 20 8C 00", 16, AFS_FIT, 13},
+    {"a cut part: PART before FIT", THREE_PARTS "01 01 41 8C 00", 16, AFS_PART, 17},
 
     {"first fault is PART", HEADER PART_2_2 PART_2_2 "02 01 03 01", 16, AFS_PART, 9},
     {"first fault is PAD", HEADER PART_2_2 "02 01 03 01 " PART_2_2, 16, AFS_PAD, 9},
@@ -425,6 +442,8 @@ static void test_cuts(void) {
             Told told = told_of((1u << (whole - 1)) - 1);
             told.tail = length - ends[whole - 1];
             Pyramid result = cut_at(&coded, told.reached);
+            if (length == 29)
+                result.at[10] = 1; /* with the only body byte of a part that isn't its last */
             try_accepted(&cut, &result, &told);
             free(result.at);
         }
@@ -465,6 +484,54 @@ static Bytes record_of(Coded *coded) {
     free(work);
     free(out.at);
     return record;
+}
+
+/* Decoded into its own memory, with number and place 0. */
+static void decode_front(const Bytes *record, size_t length, const Pyramid *out, uint32_t *work) {
+    uint64_t answer[AFS_DECODED_NUMBERS];
+    check(afs_decode(record->at, length, out->at, out->length, work, 4 * out->length, answer, AFS_DECODED_NUMBERS) == AFS_ACCEPTED, "accepted");
+}
+
+/* No magnitude falls and no sign turns. */
+static bool is_no_worse(const Pyramid *before, const Pyramid *after) {
+    for (size_t i = 0; i < before->length; i++) {
+        int32_t less = before->at[i], more = after->at[i];
+        if (less != 0 && (less < 0 ? more > less : more < less))
+            return false;
+    }
+    return true;
+}
+
+/* Each front of a record behind the header, and the one that is a byte longer. */
+static void try_fronts(unsigned which) {
+    static const struct { uint64_t width, height, decompositions; } sizes[] = {{4, 4, 1}, {8, 8, 1}, {8, 16, 2}, {16, 16, 3}, {20, 12, 1}};
+    size_t of = which % LENGTH_OF(sizes);
+    Coded coded = make_pyramid(sizes[of].width, sizes[of].height, sizes[of].decompositions, 1 + which % 16);
+    Bytes record = record_of(&coded);
+    size_t area = coded.pyramid.length;
+    Pyramid before = pyramid_of("", area), after = pyramid_of("", area);
+    uint32_t *work = memory_of(4 * area * sizeof *work);
+    for (size_t length = 5; length <= record.length; length++) {
+        decode_front(&record, length, &after, work);
+        check(is_no_worse(&before, &after), "worse with a byte more");
+        memcpy(before.at, after.at, area * sizeof *after.at);
+    }
+    check(memcmp(after.at, coded.pyramid.at, area * sizeof *after.at) == 0, "coefficients");
+    free(work);
+    free(after.at);
+    free(before.at);
+    free(record.at);
+    free(coded.pyramid.at);
+}
+
+static void test_fronts(void) {
+    for (unsigned which = 0; which < 200; which++) {
+        char name[48];
+        snprintf(name, sizeof name, "every front of record %u", which);
+        begin_case(name);
+        try_fronts(which);
+        end_case();
+    }
 }
 
 static void try_served(const Coded *coded, const Bytes *record, uint64_t level, uint64_t plane) {
@@ -559,6 +626,7 @@ int main(void) {
     test_tables();
     test_selections();
     test_cuts();
+    test_fronts();
     test_journeys();
     for (size_t i = 0; i < LENGTH_OF(nulls); i++)
         try_null(&nulls[i]);

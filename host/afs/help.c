@@ -26,7 +26,7 @@ const char help[] =
     "  parts        lists a record's header, parts and tail\n"
     "  explain      tells which parts there are, how far a decoded coefficient may be\n"
     "               from the recorded one, and a printed pixel, what is missing,\n"
-    "               whether a tail is left\n"
+    "               whether a tail was used\n"
     "  seal         writes the SHA-256 of each part, as a text that can be signed\n"
     "  verify       holds records, or what is left of them, against seals, and names\n"
     "               each part that changed\n"

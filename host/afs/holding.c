@@ -4,6 +4,15 @@ const uint8_t *end_of_parts(Bytes record, const Outcome *outcome) {
     return record.at + (record.length - outcome->tail);
 }
 
+/* The head that a tail begins with, if it is whole. */
+static void read_cut(Bytes record, Holding *holding) {
+    size_t offset = record.length - holding->tail;
+    Part *cut = &holding->cut;
+    holding->has_cut = try_number(record, &offset, &cut->plane) == WELL_FORMED && try_number(record, &offset, &cut->level) == WELL_FORMED &&
+                       try_number(record, &offset, &cut->bits) == WELL_FORMED;
+    holding->there_of_cut = record.length - offset;
+}
+
 Holding holding_of(Bytes record, const Outcome *outcome) {
     const uint8_t *at = record.at, *end = end_of_parts(record, outcome);
     Header header = read_header(&at);
@@ -13,6 +22,7 @@ Holding holding_of(Bytes record, const Outcome *outcome) {
         Part part = read_part(&at);
         holding.there[part.level - 1] |= UINT32_C(1) << part.plane;
     }
+    read_cut(record, &holding);
     return holding;
 }
 
@@ -22,6 +32,15 @@ bool is_there(const Holding *holding, uint32_t plane, uint32_t level) {
 
 bool is_used(const Holding *holding, uint32_t plane, uint32_t level) {
     return plane >= holding->reached[level - 1];
+}
+
+bool is_cut_used(const Holding *holding) {
+    if (!holding->has_cut || holding->reached[holding->cut.level - 1] != holding->cut.plane + 1)
+        return false;
+    for (uint32_t level = holding->cut.level + 1; level <= holding->levels; level++)
+        if (!is_used(holding, holding->cut.plane, level))
+            return false;
+    return true;
 }
 
 uint32_t count_parts(const Holding *holding, bool (*counts)(const Holding *, uint32_t, uint32_t)) {

@@ -13,6 +13,9 @@ typedef struct {
     uint32_t there[AFS_LEVEL_PLACES];   /* bit n is set if the level's part of plane n is there */
     const uint64_t *reached, *skipped; /* where it was decoded */
     uint64_t tail;
+    Part cut;              /* the part that the tail is of, where its head is whole */
+    uint64_t there_of_cut; /* bytes of its body that are there */
+    bool has_cut;
 } Holding;
 
 /* The parts stand between the header and the tail. */
@@ -25,6 +28,9 @@ bool is_there(const Holding *holding, uint32_t plane, uint32_t level);
 
 /* Usable planes run without a gap from the top down to the reached one. */
 bool is_used(const Holding *holding, uint32_t plane, uint32_t level);
+
+/* Whether the part that the tail is of was decoded, as far as its bits go: it lies just below what its level reached, and all that it builds on is used. */
+bool is_cut_used(const Holding *holding);
 
 uint32_t count_parts(const Holding *holding, bool (*counts)(const Holding *, uint32_t plane, uint32_t level));
 

@@ -167,13 +167,17 @@ static Sentence why_part(Bytes record, uint64_t place, Header header) {
 }
 
 static Sentence why_bits(Bytes record, const Outcome *outcome) {
-    const uint8_t *at = record.at + outcome->place;
-    Part part = read_part(&at);
+    Head head = try_head(record, outcome->place);
+    Part part = {head.numbers[0], head.numbers[1], head.numbers[2]};
+    size_t end = head.offset + length_of_body(part);
+    if (end > record.length)
+        return say("the part at byte %" PRIu64 " (plane %" PRIu32 ", level %" PRIu32 ") is cut off with %zu bits there, and decoding it takes fewer",
+                   outcome->place, part.plane, part.level, 8 * (record.length - head.offset));
     if (outcome->number == AFS_FIT)
         return say("the part at byte %" PRIu64 " (plane %" PRIu32 ", level %" PRIu32 ") has %" PRIu32 " bits, and decoding it takes more or fewer",
                    outcome->place, part.plane, part.level, part.bits);
-    return say("the part at byte %" PRIu64 " (plane %" PRIu32 ", level %" PRIu32 ") has %" PRIu32 " bits; those after them in byte %td aren't all 0",
-               outcome->place, part.plane, part.level, part.bits, at - 1 - record.at);
+    return say("the part at byte %" PRIu64 " (plane %" PRIu32 ", level %" PRIu32 ") has %" PRIu32 " bits; those after them in byte %zu aren't all 0",
+               outcome->place, part.plane, part.level, part.bits, end - 1);
 }
 
 static Sentence why_ask(const Request *request, Header header) {

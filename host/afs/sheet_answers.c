@@ -99,7 +99,12 @@ static void answer_what_lacks(FILE *out, const Sheet *sheet) {
     if (holding->tail > 0) {
         fputs(" Behind the last part the file has <span id=\"tail\">", out);
         print_grouped(out, holding->tail);
-        fprintf(out, "</span> byte%s more, no whole part, not used.", holding->tail == 1 ? "" : "s");
+        fprintf(out, "</span> byte%s more, no whole part, ", holding->tail == 1 ? "" : "s");
+        if (is_cut_used(holding) && holding->there_of_cut > 0)
+            fprintf(out, "used as far as its bits go: coefficients of level %" PRIu32 " are rounded at plane %" PRIu32 " or %" PRIu32 ".", holding->cut.level,
+                    holding->cut.plane + 1, holding->cut.plane);
+        else
+            fputs("not used.", out);
     }
     fputs(" A part that did not arrive whole makes the plane reported for its level, and for every finer one, greater than\n"
           "its own (<code>loss-shows</code>). Bytes that were changed inside of a part do not show here, but beside the seal: <code>afs verify</code>.",

@@ -145,11 +145,30 @@ static void tell_missing(FILE *out, const Holding *holding) {
         }
 }
 
+static void tell_cut_used(FILE *out, const Holding *holding) {
+    uint32_t plane = holding->cut.plane, level = holding->cut.level;
+    fputs("and was used as far as its bits go.\n", out);
+    fprintf(out, "So coefficients of level %" PRIu32 " may be nearer than told above: each is rounded at plane %" PRIu32 " or at plane %" PRIu32 ".\n", level,
+            plane + 1, plane);
+}
+
 static void tell_tail(FILE *out, const Holding *holding) {
-    if (holding->tail == 0)
+    if (holding->tail == 0) {
         fputs("\nTail: none.\n", out);
+        return;
+    }
+    fprintf(out, "\nTail: length %" PRIu64 ". ", holding->tail);
+    if (!holding->has_cut) {
+        fputs("It is less than the head of a part, and was not used.\n", out);
+        return;
+    }
+    fprintf(out, "It is the beginning of the part of level %" PRIu32 ", plane %" PRIu32 ", ", holding->cut.level, holding->cut.plane);
+    if (!is_cut_used(holding))
+        fputs("and was not used, as a part that it builds on is missing.\n", out);
+    else if (holding->there_of_cut == 0)
+        fputs("and was not used, as none of its bits is there.\n", out);
     else
-        fprintf(out, "\nTail: length %" PRIu64 ". What the record ends with is no whole part, and was left unused.\n", holding->tail);
+        tell_cut_used(out, holding);
 }
 
 void explain(FILE *out, Bytes record, const Outcome *decoded) {

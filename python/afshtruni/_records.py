@@ -121,6 +121,9 @@ def decode(record: BytesLike) -> Decoded:
     record  bytes, or anything that holds a row of them: a record, or any of its parts in their
             order, with the end cut off wherever it may be
 
+    The part that the end cuts is used as far as its bits go, where all that it builds on is there;
+    more bytes of a record that `code` wrote never make a magnitude smaller, nor turn a sign.
+
     The result is a `Pyramid` with `reached`, `skipped`, `tail` and `pixel_bound`. Refuses as
     `survey` does, and with 10 FIT.
     """

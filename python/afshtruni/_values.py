@@ -40,7 +40,8 @@ class Decoded(Pyramid):
              m is its reached plane; it has no greater magnitude, and the same sign unless it is 0
     skipped  for each level how many of its parts are there whole and couldn't be used, as one that
              they build on is missing: used and skipped parts are all that are there
-    tail     bytes at the record's end that are no whole part and weren't used
+    tail     bytes at the record's end that are no whole part; where its head is there and all that
+             it builds on, it was used as far as its bits go, which `reached` doesn't count
     """
 
     planes: int

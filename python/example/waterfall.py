@@ -45,7 +45,7 @@ print(f"{told.parts} parts")
 # ## Cut three ways
 #
 # 1. A server keeps the upper planes of all levels. Nothing is decoded for that.
-# 2. The link stops after 2,000 bytes; the last part is cut off and isn't used.
+# 2. The link stops after 2,000 bytes; the last part is cut off, and used as far as its bits go.
 # 3. The link loses one part in the middle, and what builds on it can't be used.
 
 

@@ -45,7 +45,7 @@ def test_example_of_the_header() -> None:
     assert afshtruni.survey(RECORD[:29]) == (4, 4, 1, 3, 5, 4)
     decoded = afshtruni.decode(RECORD[:29])
     assert (decoded.tail, decoded.reached, decoded.skipped) == (4, (1, 0), (0, 0))
-    assert decoded.coefficients.tolist() == [[4, -1, 0, 0], [2, 0, 0, -2], [0] * 4, [0] * 4]
+    assert decoded.coefficients.tolist() == [[4, -1, 0, 0], [2, 0, 0, -2], [0, 0, 1, 0], [0] * 4]
 
 
 def test_decoding_tells_what_explain_tells(
