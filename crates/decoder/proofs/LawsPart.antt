@@ -69,9 +69,6 @@ cut-quiet h s before place p t =
           (omega (arith, length-take (bytesFor (p .bits)) (drop (p .body) s), length-drop (p .body) s, cut-there t .0));
     }
 
-pub drawing-counts : {s : List ℕ} {z : Size} {p : Part} {w : Walk} {work : List ℕ} → Taking s z p w work → Drawing s z p (w .counts) work
-drawing-counts t = t .drawing
-
 -- one that is cut
 module _ (s : List ℕ) (z : Size) (p : Part) (w : Walk) (work : List ℕ) (r : Passed) (work′ : List ℕ) (d : Drawn s z p (w .counts) work r work′)
     (there : ℕ) (t : there ≡ bitsThere s p) where

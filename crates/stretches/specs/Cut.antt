@@ -100,19 +100,3 @@ pub maxima-same : (n : ℕ) (s s′ : List ℕ) → length s′ ≡ length s →
     → maximaIn n s′ ≡ maximaIn n s
 unfolding maximaIn maximaFrom
 maxima-same n s s′ l e = seg-same (n + n + n + 3 * n / 4) (n / 4) s s′ l (λ i b h. e i b (omega arith))
-
--- a value that was set, seen from what lies behind the values
-pub valued-seg : {n : ℕ} {s : List ℕ} {i v : ℕ} {s′ : List ℕ} → ValueSet n s i v s′ → (b m : ℕ) → n ≤ b → seg b m s′ ≡ seg b m s
-valued-seg {n} {s} {i} {v} {s′} h b m l = seg-same b m s s′ (h .long) (λ j k _. h .others j (omega arith))
-
-pub valued-maxima : {n : ℕ} {s : List ℕ} {i v : ℕ} {s′ : List ℕ} → ValueSet n s i v s′ → maximaIn n s′ ≡ maximaIn n s
-unfolding maximaIn maximaFrom
-valued-maxima {n} h = valued-seg h (n + n + n + 3 * n / 4) (n / 4) (omega arith)
-
--- a maximum that was set, seen from what lies before the maxima
-pub maximum-seg : {n : ℕ} {s : List ℕ} {i v : ℕ} {s′ : List ℕ} → MaximumSet n s i v s′ → (b m : ℕ) → b + m ≤ maximaFrom n → seg b m s′ ≡ seg b m s
-maximum-seg {n} {s} {i} {v} {s′} h b m l = seg-same b m s s′ (h .long) (λ j _ k. h .before j (omega arith))
-
-pub maximum-values : {n : ℕ} {s : List ℕ} {i v : ℕ} {s′ : List ℕ} → MaximumSet n s i v s′ → valuesIn n s′ ≡ valuesIn n s
-unfolding valuesIn maximaFrom
-maximum-values {n} h = maximum-seg h 0 n (omega arith)

@@ -3,7 +3,6 @@
 --   wordsFrom z k     where the words of level k begin: that of its coefficient t is t places on
 --   blocksFrom z k    where its maxima begin: that of block b is b places on
 use mathlib.Core.Path.{_≡_, refl, sym, ap, ap₂, _∙_}
-use mathlib.Core.Logic.{_≢_}
 use mathlib.Core.List.{List, _++_}
 use mathlib.Core.Bool.{true}
 use Prim.Native.Nat.{ℕ, zero, suc, _+_, _-_, _*_, _/_, _≤_, _<_}
@@ -141,22 +140,6 @@ module _ (z : Size) (legality : legalSize z ≡ true) (k : ℕ) (a : 1 ≤ k) (b
         let c : 4 * levelSize z k ≡ to - from = omega arith in
         ap₂ (λ (x y : ℕ). seg x y (putMid from (to - from) work ys)) (sym e) c
         ∙ put-own from to work ys (omega (arith, stretch-room z (legal z legality) k a b)) n
-
-    pub others-back : (j : ℕ) → 1 ≤ j → j ≤ levels z → j ≢ k → stretchOf z j (putMid from (to - from) work ys) ≡ stretchOf z j work
-    unfolding stretchOf
-    others-back j c d f = go (decLe j k)
-      where
-        Z : Legal z
-        Z = legal z legality
-
-        go : Dec (j ≤ k)
-            → seg (4 * levelStart z j) (4 * levelSize z j) (putMid from (to - from) work ys) ≡ seg (4 * levelStart z j) (4 * levelSize z j) work
-        go (yes l) =
-            put-behind from to (4 * levelStart z j) (4 * levelSize z j) work ys
-            (omega (arith, level-before z Z k j c (omega arith) b)) (omega arith) (omega (arith, stretch-room z Z k a b)) n
-        go (no l) =
-            put-before from to (4 * levelStart z j) (4 * levelSize z j) work ys
-            (omega (arith, level-before z Z j k a (omega arith) d)) (omega (arith, stretch-room z Z k a b))
 
 -- A level's words and maxima are in its stretch: they are as they were where it is.
 module _ (z : Size) (Z : Legal z) where

@@ -80,8 +80,12 @@ unfoldable pub opensCalls : Unit {0}
 unfolding unless firstOver fitted coding onHeader onEnding legalAsk keptOf servedBytes portioned serving
 opensCalls = tt
 
+unfoldable pub opensDrawing : Unit {0}
+unfolding used onward decodeParts usedCut tailOnward
+opensDrawing = tt
+
 unfoldable pub opensDecoding : Unit {0}
-unfolding used onward decodeParts usedCut tailOnward reachedPlane reachedPlanes skippedParts skippedCounts pictured decodedParts decoding
+unfolding opensDrawing reachedPlane reachedPlanes skippedParts skippedCounts pictured decodedParts decoding
 opensDecoding = tt
 
 unfoldable pub opensOutputs : Unit {0}

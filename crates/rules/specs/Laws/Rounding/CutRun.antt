@@ -115,12 +115,6 @@ module _ {before a b end : ℤ} where
     first-either (only-further x y) = above
     first-either (both-drawn x y) = below
 
-    pub second-either : (B : Between before a b end) → P (secondPlane B r r′)
-    unfolding secondPlane
-    second-either (untouched x y) = above
-    second-either (only-further x y) = below
-    second-either (both-drawn x y) = below
-
   pub second-lower : (B : Between before a b end) (r r′ : ℕ) → r′ ≤ r → secondPlane B r r′ ≤ firstPlane B r r′
   unfolding firstPlane secondPlane
   second-lower (untouched x y) r r′ l = omega arith
