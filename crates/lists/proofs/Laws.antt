@@ -1,20 +1,22 @@
 -- What a store at the end of a list makes of all that the stretch holds.
-use mathlib.Core.Path.{_≡_, refl, ap, ap₂, _∙_, subst}
+use mathlib.Core.Path.{_≡_, refl, sym, ap, ap₂, _∙_, subst}
 use mathlib.Core.Bool.{Bool, true, false, cond}
 use mir.Val.{boolByte}
-use mathlib.Core.List.{List, [], _∷_, _++_, map, map-append}
+use mathlib.Core.List.{List, [], _∷_, _++_, map, map-append, append-assoc}
 use Prim.Native.Nat.{ℕ, _+_, _-_, _*_, _/_, _%_, _≤_, _<_}
+use native.Mathlib.Nat.{zero-add}
 use native.Mathlib.Omega.{arith}
 use borrow.Author.Tests.{eq-eqb, ne-eqb}
-use lib.ListN.{length, getD, set, length-set}
-use lib.Seq.{getD-set-other}
+use lib.ListN.{length, getD, set, take, drop, length-set, length-append}
+use lib.Seq.{getD-set-other, take-at, drop-at}
 use Rattle.rules.specs.Document.Passes.{Entry, typeA, typeB}
-use Rattle.stretches.specs.Seg.{seg, seg-none, seg-cons, seg-below, seg-above, seg-snoc, seg-more}
+use Rattle.stretches.specs.Seg.{seg, seg-cons, seg-below, seg-above, seg-snoc}
 use Rattle.stretches.specs.Cut.{setRoom, lipFrom, lspFrom, lisFrom, maximaFrom}
 use Rattle.lists.specs.declared.Stretch.{Stretch}
 use Rattle.lists.specs.declared.Fill.{Fill}
-use Rattle.lists.specs.Lists.{entry, sets, waiting, known, held, Fits, Beside, LipPushed, LspPushed, PushedBy, NextSet, SetAdded, SetKept, SetMoved}
-use Rattle.lists.specs.Besides.{held-same}
+use Rattle.lists.specs.Lists.{entry, fourFrom, sets, waiting, known, lipAt, lspAt, Held, held, Fits, Beside, LipPushed, LspPushed, PushedBy, LinedUp}
+use Rattle.lists.specs.Lists.{NextSet, SetAdded, SetKept, SetMoved, waiting-add, waiting-length}
+use Rattle.lists.specs.Besides.{held-same, beside-then}
 
 -- entry
 pub entry-even : (m : ℕ) → m % 2 ≡ 0 → entry m ≡ typeA (m / 2)
@@ -49,14 +51,14 @@ sets-cons : (b c m : ℕ) (s : List ℕ) (e : Entry) → entry (getD s b 0) ≡ 
 unfolding sets
 sets-cons b c m s e q j h l = ap (map entry) (seg-cons b m s h l) ∙ rw (q, j)
 
--- the next entry of LIP, and one more of LSP
-pub waiting-next : (n i at : ℕ) (s : List ℕ) → at ≡ lipFrom n + i → at < length s → waiting n i 1 s ≡ getD s at 0 ∷ []
-unfolding waiting
-waiting-next n i at s e h = rw (← e) (seg-cons at 1 s h (omega arith) ∙ ap (λ x. getD s at 0 ∷ x) (seg-none (at + 1) s))
+-- an entry read
+pub lip-read : (n i at : ℕ) (s : List ℕ) → at ≡ lipFrom n + i → getD s at 0 ≡ lipAt n i s
+unfolding lipAt
+lip-read n i at s e = ap (λ (x : ℕ). getD s x 0) e
 
-pub known-more : (n i at : ℕ) (s : List ℕ) → at ≡ lspFrom n + i → at < length s → known n (i + 1) s ≡ known n i s ++ (getD s at 0 ∷ [])
-unfolding known
-known-more n i at s e h = rw e (seg-more (lspFrom n) i s (omega arith))
+pub lsp-read : (n i at : ℕ) (s : List ℕ) → at ≡ lspFrom n + i → getD s at 0 ≡ lspAt n i s
+unfolding lspAt
+lsp-read n i at s e = ap (λ (x : ℕ). getD s x 0) e
 
 module _ (t : Stretch) (s : List ℕ) (f : Fill) (h : Fits t s f) where
   -- a store to one of the three lists, and one to the sets that move out
@@ -278,3 +280,101 @@ module _ (t : Stretch) (s : List ℕ) (f : Fill) (h : Fits t s f) where
           beside = moved-beside i a j;
           known = λ m x. seg-above (n + n) m s i a (omega arith);
         }
+
+-- Several coefficients were put at the end of LIP, one after another.
+record Lengthened (xs : List ℕ) (t : Stretch) (s : List ℕ) (f : Fill) (s′ : List ℕ) (r : Fill) : Type 0 where
+  fill : r ≡ record { lip = f .lip + length xs; lsp = f .lsp; kept = f .kept; visited = f .visited; left = f .left; moved = f .moved }
+  holds : held t s′ r ≡ record {
+    lip = held t s f .lip ++ xs;
+    lsp = held t s f .lsp;
+    kept = held t s f .kept;
+    todo = held t s f .todo;
+    moved = held t s f .moved;
+  }
+  fits : Fits t s′ r
+  beside : Beside t (r .moved) s s′
+  ahead : (i m : ℕ) → f .lip + length xs ≤ i → i + m ≤ t .n → waiting (t .n) i m s′ ≡ waiting (t .n) i m s
+  known : (m : ℕ) → m ≤ f .lsp → known (t .n) m s′ ≡ known (t .n) m s
+
+longer-one : {t : Stretch} {s s′ : List ℕ} {f r : Fill} {x : ℕ} → LipPushed t s f x s′ r → Lengthened (x ∷ []) t s f s′ r
+longer-one a =
+    record {
+      fill = a .fill;
+      holds = a .holds;
+      fits = a .fits;
+      beside = a .beside;
+      ahead = λ i m h k. a .ahead i m (omega arith) k;
+      known = a .known;
+    }
+
+longer-on : {xs ys : List ℕ} {t : Stretch} {s s₁ s₂ : List ℕ} {f f₁ f₂ : Fill} → Lengthened xs t s f s₁ f₁ → Lengthened ys t s₁ f₁ s₂ f₂
+    → Lengthened (xs ++ ys) t s f s₂ f₂
+longer-on {xs} {ys} {t} {s} {f = f} a b =
+    record {
+      fill =
+          b .fill
+          ∙ ap (λ g. record { lip = g .lip + length ys; lsp = g .lsp; kept = g .kept; visited = g .visited; left = g .left; moved = g .moved }) (a .fill)
+          ∙ ap (λ (x : ℕ). record { lip = x; lsp = f .lsp; kept = f .kept; visited = f .visited; left = f .left; moved = f .moved })
+          (omega (arith, length-append xs ys));
+      holds =
+          b .holds
+          ∙ ap (λ h. record { lip = h .lip ++ ys; lsp = h .lsp; kept = h .kept; todo = h .todo; moved = h .moved }) (a .holds)
+          ∙ ap (λ x. record { lip = x; lsp = held t s f .lsp; kept = held t s f .kept; todo = held t s f .todo; moved = held t s f .moved })
+          (append-assoc (held t s f .lip) xs ys);
+      fits = b .fits;
+      beside = beside-then (a .beside) (b .beside) (omega (arith, ap (λ g. g .moved) (b .fill)));
+      ahead = λ i m h k.
+          let l = length-append xs ys in
+          b .ahead i m (omega (arith, ap (λ g. g .lip) (a .fill))) k ∙ a .ahead i m (omega arith) k;
+      known = λ m h. b .known m (omega (arith, ap (λ g. g .lsp) (a .fill))) ∙ a .known m h;
+    }
+
+-- the two parts of a list, told by the length of the first
+both-parts : (a b c d : List ℕ) → length a ≡ length b → a ++ c ≡ b ++ d → (a ≡ b) × (c ≡ d)
+both-parts a b c d l e = (
+  sym (take-at a c (length a) refl) ∙ ap (take (length a)) e ∙ take-at b d (length a) (sym l),
+  sym (drop-at a c (length a) refl) ∙ ap (drop (length a)) e ∙ drop-at b d (length a) (sym l),
+)
+
+-- They wait behind LIP where its length is taken as it was.
+lined : {xs : List ℕ} {t : Stretch} {s s′ : List ℕ} {f r : Fill} → Fits t s f → f .lip + length xs ≤ t .n → Lengthened xs t s f s′ r → LinedUp xs t s f s′
+unfolding held
+lined {xs} {t} {s} {s′} {f} {r} h l a =
+    let n : ℕ = t .n in
+    let long : Fill = record { lip = f .lip + length xs; lsp = f .lsp; kept = f .kept; visited = f .visited; left = f .left; moved = f .moved } in
+    let g : Fits t s′ long = subst (Fits t s′) (a .fill) (a .fits) in
+    let e = ap (held t s′) (sym (a .fill)) ∙ a .holds in
+    let p : _ = both-parts (waiting n 0 (f .lip) s′) (waiting n 0 (f .lip) s) (waiting n (f .lip) (length xs) s′) xs
+    (waiting-length n 0 (f .lip) s′ (g .room) (omega arith) ∙ sym (waiting-length n 0 (f .lip) s (h .room) (omega arith)))
+    (ap (λ (b : ℕ). waiting n 0 (f .lip) s′ ++ waiting n b (length xs) s′) (sym (zero-add (f .lip)))
+    ∙ sym (waiting-add n 0 (f .lip) (length xs) s′) ∙ ap (λ x. x .lip) e) in
+    record {
+      waits = p .1;
+      holds = held-same (p .0) (ap (λ x. x .lsp) e) (ap (λ x. x .kept) e) (ap (λ x. x .todo) e) (ap (λ x. x .moved) e);
+      fits = record { room = g .room; lip = h .lip; lsp = g .lsp; kept = g .kept; visits = g .visits; behind = g .behind; moved = g .moved };
+      beside = subst (λ (m : ℕ). Beside t m s s′) (ap (λ x. x .moved) (a .fill)) (a .beside);
+      ahead = a .ahead;
+      known = a .known;
+    }
+
+pub lined-up : {x : ℕ} {t : Stretch} {s s₁ s₂ s₃ s₄ : List ℕ} {f f₁ f₂ f₃ f₄ : Fill} → Fits t s f → f .lip + 4 ≤ t .n → LipPushed t s f x s₁ f₁
+    → LipPushed t s₁ f₁ (x + 1) s₂ f₂ → LipPushed t s₂ f₂ (x + 2) s₃ f₃ → LipPushed t s₃ f₃ (x + 3) s₄ f₄ → LinedUp (fourFrom x) t s f s₄
+lined-up h l a b c d = lined h l (longer-on (longer-one a) (longer-on (longer-one b) (longer-on (longer-one c) (longer-one d))))
+
+-- where there was room for four, there is for the next
+one-longer : {t : Stretch} {s s′ : List ℕ} {f r : Fill} {x : ℕ} → LipPushed t s f x s′ r → r .lip ≡ f .lip + 1
+one-longer a = ap (λ g. g .lip) (a .fill)
+
+pub room-second : {t : Stretch} {s s₁ : List ℕ} {f f₁ : Fill} {x : ℕ} → LipPushed t s f x s₁ f₁ → f .lip + 4 ≤ t .n → f₁ .lip < t .n
+room-second a h = omega (arith, one-longer a)
+
+module _ {t : Stretch} {s s₁ s₂ : List ℕ} {f f₁ f₂ : Fill} {x y : ℕ} (b : LipPushed t s₁ f₁ y s₂ f₂) (a : LipPushed t s f x s₁ f₁)
+    (h : f .lip + 4 ≤ t .n) where
+  pub two-left : f₂ .lip + 2 ≤ t .n
+  two-left = omega (arith, one-longer a, one-longer b)
+
+  pub room-third : f₂ .lip < t .n
+  room-third = omega (arith, two-left)
+
+pub room-fourth : {t : Stretch} {s s₁ : List ℕ} {f f₁ : Fill} {x : ℕ} → LipPushed t s f x s₁ f₁ → f .lip + 2 ≤ t .n → f₁ .lip < t .n
+room-fourth a h = omega (arith, one-longer a)

@@ -3,24 +3,26 @@
 --
 --   waiting n i m s     m entries of LIP, from entry i on
 --   known n m s         the first m entries of LSP
+--   lipAt, lspAt n i s  the i-th of each
 --   held t s f          the lists in the midst of a pass: t is the stretch, f how full they are
 --   listsIn n s ..      the lists of the level between passes
 --   Beside t m s s′     what is no list is as it was: values, maxima, and all behind the stretch but m sets that moved out
-use mathlib.Core.Path.{_≡_, refl, ap, ap₂, _∙_}
+use mathlib.Core.Path.{_≡_, refl, ap, ap₂, _∙_, subst}
 use mathlib.Core.List.{List, [], _∷_, _++_, map}
 use mathlib.Core.Bool.{Bool, true, false, cond}
 use mir.Val.{boolByte}
-use Prim.Native.Nat.{ℕ, _+_, _-_, _*_, _/_, _%_, _≤_, _<_}
+use Prim.Native.Nat.{ℕ, zero, suc, _+_, _-_, _*_, _/_, _%_, _≤_, _<_}
 use lib.Dec.{eqb}
 use native.Mathlib.Omega.{arith}
 use lib.ListN.{length, getD, length-map}
 use Rattle.rules.specs.Document.Passes.{Entry, typeA, typeB, Lists}
+use Rattle.rules.specs.Laws.Counting.Sums.{All}
 use Rattle.stretches.specs.Cut.{setRoom, lipFrom, lspFrom, lisFrom, maximaFrom}
 use Rattle.lists.specs.declared.Stretch.{Stretch}
 use Rattle.lists.specs.declared.Fill.{Fill}
 use Rattle.lists.specs.declared.Set.{Set}
 use Rattle.lists.specs.declared.Set.the-variants.{TypeA, TypeB}
-use Rattle.stretches.specs.Seg.{seg, seg-none, seg-length, seg-add, seg-count}
+use Rattle.stretches.specs.Seg.{seg, seg-none, seg-length, seg-cons, seg-more, seg-add, seg-count}
 
 -- An entry of LIS as a number: index x 2, and 1 more for type B.
 unfoldable pub entry : ℕ → Entry
@@ -43,6 +45,17 @@ waiting n i m s = seg (lipFrom n + i) m s
 
 unfoldable pub known : ℕ → ℕ → List ℕ → List ℕ
 known n m s = seg (lspFrom n) m s
+
+-- the i-th of LIP, and of LSP
+unfoldable pub lipAt : ℕ → ℕ → List ℕ → ℕ
+lipAt n i s = getD s (lipFrom n + i) 0
+
+unfoldable pub lspAt : ℕ → ℕ → List ℕ → ℕ
+lspAt n i s = getD s (lspFrom n + i) 0
+
+-- four tree numbers in a row
+abbrev pub fourFrom : ℕ → List ℕ
+fourFrom x = x ∷ (x + 1) ∷ (x + 2) ∷ (x + 3) ∷ []
 
 -- What the stretch holds in the midst of a pass.
 pub record Held : Type 0 where
@@ -96,6 +109,15 @@ pub record LipPushed (t : Stretch) (s : List ℕ) (f : Fill) (p : ℕ) (s′ : L
   pub fits : Fits t s′ r
   pub beside : Beside t (r .moved) s s′
   pub ahead : (i m : ℕ) → f .lip < i → i + m ≤ t .n → waiting (t .n) i m s′ ≡ waiting (t .n) i m s
+  pub known : (m : ℕ) → m ≤ f .lsp → known (t .n) m s′ ≡ known (t .n) m s
+
+-- Some coefficients wait behind LIP; all that counts is as it was.
+pub record LinedUp (xs : List ℕ) (t : Stretch) (s : List ℕ) (f : Fill) (s′ : List ℕ) : Type 0 where
+  pub waits : waiting (t .n) (f .lip) (length xs) s′ ≡ xs
+  pub holds : held t s′ f ≡ held t s f
+  pub fits : Fits t s′ f
+  pub beside : Beside t (f .moved) s s′
+  pub ahead : (i m : ℕ) → f .lip + length xs ≤ i → i + m ≤ t .n → waiting (t .n) i m s′ ≡ waiting (t .n) i m s
   pub known : (m : ℕ) → m ≤ f .lsp → known (t .n) m s′ ≡ known (t .n) m s
 
 pub record LspPushed (t : Stretch) (s : List ℕ) (f : Fill) (p : ℕ) (s′ : List ℕ) (r : Fill) : Type 0 where
@@ -201,9 +223,9 @@ pub sets-length : (b m : ℕ) (s : List ℕ) → b + m ≤ length s → length (
 unfolding sets
 sets-length b m s h = length-map (seg b m s) entry ∙ seg-length b m s h
 
-pub waiting-add : (n i m : ℕ) (s : List ℕ) → waiting n 0 (i + m) s ≡ waiting n 0 i s ++ waiting n i m s
+pub waiting-add : (n b i m : ℕ) (s : List ℕ) → waiting n b (i + m) s ≡ waiting n b i s ++ waiting n (b + i) m s
 unfolding waiting
-waiting-add n i m s = seg-add (lipFrom n + 0) i m s ∙ ap (λ (x : ℕ). seg (lipFrom n + 0) i s ++ seg x m s) (omega arith)
+waiting-add n b i m s = seg-add (lipFrom n + b) i m s ∙ ap (λ (x : ℕ). seg (lipFrom n + b) i s ++ seg x m s) (omega arith)
 
 pub waiting-none : (n i : ℕ) (s : List ℕ) → waiting n i 0 s ≡ []
 unfolding waiting
@@ -213,9 +235,33 @@ pub waiting-length : (n i m : ℕ) (s : List ℕ) → 4 * n ≤ length s → i +
 unfolding waiting lipFrom
 waiting-length n i m s h k = seg-length (n + i) m s (omega arith)
 
+pub waiting-one : (n i : ℕ) (s : List ℕ) → 4 * n ≤ length s → i < n → waiting n i 1 s ≡ lipAt n i s ∷ []
+unfolding waiting lipAt lipFrom
+waiting-one n i s h k = seg-cons (n + i) 1 s (omega arith) (omega arith) ∙ ap (λ x. getD s (n + i) 0 ∷ x) (seg-none (n + i + 1) s)
+
 pub known-add : (n i m : ℕ) (s : List ℕ) → known n (i + m) s ≡ known n i s ++ seg (lspFrom n + i) m s
 unfolding known
 known-add n i m s = seg-add (lspFrom n) i m s
+
+pub known-more : (n i : ℕ) (s : List ℕ) → 4 * n ≤ length s → i < n → known n (i + 1) s ≡ known n i s ++ (lspAt n i s ∷ [])
+unfolding known lspAt lspFrom
+known-more n i s h k = seg-more (n + n) i s (omega arith)
+
+-- what holds of each of a list's entries holds of the i-th
+all-at : (P : ℕ → Type 0) (i b m : ℕ) (s : List ℕ) → b + m ≤ length s → i < m → All P (seg b m s) → P (getD s (b + i) 0)
+unfolding All
+all-at P zero b m s h l a = subst P (ap (λ (x : ℕ). getD s x 0) (omega arith)) (subst (All P) (seg-cons b m s (omega arith) (omega arith)) a .0)
+all-at P (suc i) b m s h l a =
+    subst P (ap (λ (x : ℕ). getD s x 0) (omega arith))
+    (all-at P i (b + 1) (m - 1) s (omega arith) (omega arith) (subst (All P) (seg-cons b m s (omega arith) (omega arith)) a .1))
+
+pub all-waiting : (P : ℕ → Type 0) (n b m : ℕ) (s : List ℕ) → 4 * n ≤ length s → b + m ≤ n → All P (waiting n b m s) → (i : ℕ) → i < m → P (lipAt n (b + i) s)
+unfolding waiting lipAt lipFrom
+all-waiting P n b m s h k a i l = subst P (ap (λ (x : ℕ). getD s x 0) (omega arith)) (all-at P i (n + b) m s (omega arith) l a)
+
+pub all-known : (P : ℕ → Type 0) (n m : ℕ) (s : List ℕ) → 4 * n ≤ length s → m ≤ n → All P (known n m s) → (i : ℕ) → i < m → P (lspAt n i s)
+unfolding known lspAt lspFrom
+all-known P n m s h k a i l = all-at P i (n + n) m s (omega arith) l a
 
 pub known-none : (n : ℕ) (s : List ℕ) → known n 0 s ≡ []
 unfolding known

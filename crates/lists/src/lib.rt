@@ -1,12 +1,11 @@
 // The lists of a level, in its stretch of the workspace: LIP, LSP and LIS; and behind the stretch, at the end of the next level's LIS, the sets
 // that move out of the level.
 ghost use mathlib.Core.Path.{_≡_};
-ghost use mathlib.Core.List.{[], _∷_, _++_};
 ghost use Prim.Native.Nat.{_+_, _*_, _^_, _≤_, _<_};
 ghost use lib.ListN.{length};
 ghost use Rattle.stretches.specs.Cut.{setRoom, lipFrom, lspFrom, lisFrom};
-ghost use Rattle.lists.specs.Lists.{entry, entryOf, indexOf, waiting, known, past, emptied};
-ghost use Rattle.lists.specs.Lists.{Fits, LipPushed, PushedBy, NextSet, SetAdded, SetKept, SetMoved};
+ghost use Rattle.lists.specs.Lists.{entry, entryOf, indexOf, fourFrom, lipAt, lspAt, past, emptied};
+ghost use Rattle.lists.specs.Lists.{Fits, LipPushed, LinedUp, PushedBy, NextSet, SetAdded, SetKept, SetMoved};
 
 // A level's stretch: for how many coefficients, and the place behind it where the sets go that move out of the level.
 pub struct Stretch {
@@ -75,7 +74,7 @@ fn set_of(m: u32) -> Set
 // Entry i of LIP.
 pub fn lip_at(s: &[u32], n: usize, i: usize) -> usize
     requires { ⌜ (4 * n ≤ length (now s)) × (i < n) ⌝ }
-    ensures { λ r. ⌜ (waiting n i 1 (now (s .entry)) ≡ r ∷ []) × (r < 2 ^ 32) ⌝ }
+    ensures { λ r. ⌜ (r ≡ lipAt n i (now (s .entry))) × (r < 2 ^ 32) ⌝ }
 {
     let at = lip_from(n) + i;
     s[at] as usize
@@ -84,7 +83,7 @@ pub fn lip_at(s: &[u32], n: usize, i: usize) -> usize
 // Entry i of LSP.
 pub fn lsp_at(s: &[u32], n: usize, i: usize) -> usize
     requires { ⌜ (4 * n ≤ length (now s)) × (n < 2 ^ 32) × (i < n) ⌝ }
-    ensures { λ r. ⌜ known n (i + 1) (now (s .entry)) ≡ known n i (now (s .entry)) ++ (r ∷ []) ⌝ }
+    ensures { λ r. ⌜ r ≡ lspAt n i (now (s .entry)) ⌝ }
 {
     let at = lsp_from(n) + i;
     s[at] as usize
@@ -109,6 +108,17 @@ pub fn push_lip(s: &mut [u32], stretch: Stretch, f: Fill, x: usize) -> Fill
     let mut r = f;
     r.lip = f.lip + 1;
     r
+}
+
+// Four tree numbers behind LIP, where they wait to be tested; LIP itself is as it was.
+pub fn line_up(s: &mut [u32], stretch: Stretch, f: Fill, first: usize)
+    requires { ⌜ Fits stretch (now s) f × (stretch .n < 2 ^ 32) × (f .lip + 4 ≤ stretch .n) × (first + 4 < 2 ^ 32) ⌝ }
+    ensures { λ _. ⌜ LinedUp (fourFrom first) stretch (now (s .entry)) f (now (s .exit)) ⌝ }
+{
+    let a = push_lip(s, stretch, f, first);
+    let b = push_lip(s, stretch, a, first + 1);
+    let c = push_lip(s, stretch, b, first + 2);
+    push_lip(s, stretch, c, first + 3);
 }
 
 // The place behind LIP.

@@ -275,6 +275,7 @@ module _ (role : Role) {z : Size} {plane : Plane} {level : Level} {work : List â
                 coarser = a;
                 level = b;
                 size = omega (arith, size-place z L k a b, area-bound z (D .legal));
+                count = refl;
                 first = refl;
                 parents = refl;
                 elders = refl;
@@ -296,6 +297,7 @@ module _ (role : Role) {z : Size} {plane : Plane} {level : Level} {work : List â
           growth = Î» r.
               subst (Î» x. Growth (levelStart z k) (plane .0) (2 ^ 30) (valuesIn (levelSize z k) (lent work)) (x .lsp)) (sym found)
               (growth (words r));
+          placed = subst (Placed (trees z) k) (sym found) (D .sound .placed k);
           silent = silent;
         }
 

@@ -8,6 +8,7 @@ use lib.ListN.{length, getD}
 use lib.Pow.{pow-mono}
 use Rattle.rules.specs.Document.Pyramid.{Family}
 use Rattle.rules.specs.Document.Passes.{Lists, Side, Course, listing}
+use Rattle.rules.specs.Laws.Counting.Sums.{All, all-then}
 use Rattle.rules.specs.Laws.Family.Lawful.{Lawful}
 use Rattle.rules.specs.Laws.Family.Sizes.{legal}
 use Rattle.rules.specs.Laws.Pass.Kept.{kept-triedAll, kept-visitedAll}
@@ -20,15 +21,15 @@ use Rattle.stretches.specs.Cut.{valuesIn, lipFrom, lspFrom, lisFrom}
 use Rattle.lists.specs.declared.Stretch.{Stretch}
 use Rattle.lists.specs.declared.Fill.{Fill}
 use Rattle.lists.specs.Lists.{entry, sets, waiting, known, held, emptied, Fits, todo-none, held-fresh, held-waiting, held-known, waiting-length}
+use Rattle.lists.specs.Lists.{all-waiting, all-known}
 use Rattle.lists.specs.Besides.{held-same}
 use Rattle.testing.specs.declared.Run.{Run}
 use Rattle.testing.specs.declared.Stand.{Stand}
-use Rattle.testing.specs.declared.Candidates.the-variants.{Waiting}
-use Rattle.testing.specs.Exchange.{Chan, chan, familyOf, side, Around, around-then, side-same, reads}
+use Rattle.testing.specs.Exchange.{Chan, chan, familyOf, Inside, side, Around, around-then, side-same, reads}
 use Rattle.testing.specs.Finding.{courseOf, course, Testing, Tested, Refining, Refined, around-refined}
 use Rattle.testing.specs.Growing.{Growth, growth-kept}
 use Rattle.passes.specs.Steps.{visitsOf, listsOf, passOf, Underway, Visited, Fresh, Ran}
-use Rattle.passes.proofs.Sets.{visits-side}
+use Rattle.passes.proofs.Sets.{inside-level, visits-side}
 
 -- Where nothing but values has changed, the lists are what they were.
 module _ (t : Stretch) (s s′ : List ℕ) {f : Fill} (long : length s′ ≡ length s) (others : (i : ℕ) → t .n ≤ i → getD s′ i 0 ≡ getD s i 0)
@@ -111,22 +112,24 @@ module _ (run : Run) {body s out : List ℕ} {w : Stand} (H : Fresh run body s o
 
   -- step 1, with the fill as the code has made it
   module _ {f : Fill} (e : f ≡ emptied (w .fill)) where
-    pub lip-testing : Testing run Waiting (w .fill .lip) s (record { fill = f; at = w .at })
+    pub lip-testing : Testing run (w .fill .lip) s (record { fill = f; at = w .at })
     lip-testing =
-        subst (λ x. Testing run Waiting (w .fill .lip) s (record { fill = x; at = w .at })) (sym e)
+        subst (λ x. Testing run (w .fill .lip) s (record { fill = x; at = w .at })) (sym e)
         (record {
           plane = H .proper .plane;
           size = H .proper .size;
           fits = first-fits;
           room = omega (arith, both-fit);
           place = omega (arith, both-fit, H .place, H .proper .from, H .fits .lip);
-          suited = omega arith;
+          inside =
+              all-waiting (Inside run) (t .n) 0 (w .fill .lip) s (H .fits .room) (omega (arith, H .fits .lip))
+              (subst (All (Inside run)) (held-waiting t s (w .fill)) (all-then _ _ (l .lip) (inside-level (H .proper)) (H .placed .lips)));
         })
 
   module _ {f : Fill} (e : f ≡ emptied (w .fill)) {s₁ out₁ : List ℕ} {w₁ : Stand}
-      (T₀ : Tested run body (waiting (t .n) 0 (w .fill .lip) s) s out (record { fill = f; at = w .at }) s₁ out₁ w₁) where
+      (T₀ : Tested run body (waiting (t .n) (f .lip) (w .fill .lip) s) s out (record { fill = f; at = w .at }) s₁ out₁ w₁) where
     T : Tested run body (waiting (t .n) 0 (w .fill .lip) s) s out first s₁ out₁ w₁
-    T = subst (λ x. Tested run body (waiting (t .n) 0 (w .fill .lip) s) s out (record { fill = x; at = w .at }) s₁ out₁ w₁) e T₀
+    T = subst (λ x. Tested run body (waiting (t .n) (x .lip) (w .fill .lip) s) s out (record { fill = x; at = w .at }) s₁ out₁ w₁) e T₀
 
     tested-visits : visitsOf run body s₁ (held t s₁ (w₁ .fill) .todo) (course t s₁ out₁ w₁) ≡ second
     tested-visits =
@@ -193,6 +196,9 @@ module _ (run : Run) {body s out : List ℕ} {w : Stand} (H : Fresh run body s o
             few = H .fits .lsp;
             place = omega (arith, R .place, H .proper .from, room-held (R .room), room-slots L (R .room), H .fits .lsp);
             growth = known-growth;
+            inside =
+                all-known (Inside run) (t .n) (w .fill .lsp) s₂ (R .fits .room) (H .fits .lsp)
+                (subst (All (Inside run)) (sym known-same) (all-then _ _ (l .lsp) (inside-level (H .proper)) (H .placed .lsps)));
           }
 
       -- the whole

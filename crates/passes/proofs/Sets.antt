@@ -12,30 +12,29 @@ use lib.ListN.{length, length-append}
 use borrow.Author.Tests.{le-ltb, le-leb, lt-leb}
 use Rattle.rules.specs.Document.Pyramid.{Family}
 use Rattle.rules.specs.Document.Passes.{Entry, typeA, typeB, set?, stays, opened, added, Side, Course, listed, listing, done}
-use Rattle.rules.specs.Laws.Counting.Sums.{All}
+use Rattle.rules.specs.Laws.Counting.Sums.{All, all-then}
 use Rattle.rules.specs.Laws.Family.Lawful.{Lawful}
-use Rattle.rules.specs.Laws.Family.Sizes.{legal}
+use Rattle.rules.specs.Laws.Family.Sizes.{legal, levelStart, levelSize}
 use Rattle.rules.specs.Promises.Vocabulary.{Legal}
-use Rattle.rules.specs.Laws.Pass.Levels.{Met, nodeOf, typeA-met}
+use Rattle.rules.specs.Laws.Pass.Levels.{Met, nodeOf, typeA-met, opened-placed}
 use Rattle.rules.specs.Laws.Pass.Steps.{triedAll, visitedAll, walk-stays, walk-opens}
 use Rattle.rules.specs.Laws.Pass.Slots.{Room, room-past, room-open, room-tests, room-slots, room-held}
-use Rattle.trees.specs.Family.{treeOffspring}
+use Rattle.trees.specs.Family.{treeLevel, treeOffspring}
 use Rattle.trees.specs.Lawful.{trees-lawful}
-use Rattle.trees.specs.Sound.{tree-level-most}
+use Rattle.trees.specs.Sound.{tree-level-most, tree-level-area}
 use Rattle.bits.specs.declared.BitRead.{BitRead}
-use Rattle.stretches.specs.Seg.{seg}
 use Rattle.stretches.specs.Cut.{setRoom, valuesIn}
+use Rattle.stretches.specs.Levels.{numbered}
 use Rattle.lists.specs.declared.Stretch.{Stretch}
 use Rattle.lists.specs.declared.Fill.{Fill}
 use Rattle.lists.specs.declared.Set.{Set}
 use Rattle.lists.specs.declared.Set.the-variants.{TypeA, TypeB}
-use Rattle.lists.specs.Lists.{entryOf, held, Fits, SetAdded, SetKept, sets-fit, todo-length}
+use Rattle.lists.specs.Lists.{entryOf, fourFrom, waiting, held, Fits, LinedUp, SetAdded, SetKept, sets-fit, todo-length, all-waiting}
 use Rattle.lists.specs.Besides.{beside-none, beside-then, beside-values}
 use Rattle.testing.specs.declared.Run.{Run}
 use Rattle.testing.specs.declared.Stand.{Stand}
-use Rattle.testing.specs.declared.Candidates.the-variants.{Four}
-use Rattle.testing.specs.Exchange.{Chan, chan, familyOf, side, Replied, Around, notes, quiet-stays, around-then, around-beside, side-same}
-use Rattle.testing.specs.Finding.{courseOf, course, fourFrom, chosen, Testing, Tested, tested-none}
+use Rattle.testing.specs.Exchange.{Chan, chan, familyOf, Inside, side, Replied, Around, notes, quiet-stays, around-then, around-beside, side-same}
+use Rattle.testing.specs.Finding.{courseOf, course, Testing, Tested, tested-none}
 use Rattle.passes.specs.Steps.{visitsOf, Proper, Added, Opened, Opening, hasMember, Queued, InHand, Weighed}
 use Rattle.passes.proofs.Trees.{met-four-A, met-four-B, met-added-more, met-added-less, met-B-finer, met-level-B, met-bound}
 
@@ -131,6 +130,41 @@ opened-by {run} {body} {e} ps es {s} {out} {out₁ = out₁} {s₂ = s₂} {w = 
       place = omega (arith, T .place);
     }
 
+-- Tests of coefficients that were lined up behind LIP are tests of them in the stretch as it was.
+tested-lined : {run : Run} {body : List ℕ} (ps : List ℕ) {s out s₁ s₂ out₂ : List ℕ} {w w₂ : Stand} → LinedUp ps (run .stretch) s (w .fill) s₁
+    → 4 * run .stretch .n ≤ run .stretch .away
+    → Tested run body (waiting (run .stretch .n) (w .fill .lip) (length ps) s₁) s₁ out w s₂ out₂ w₂ → Tested run body ps s out w s₂ out₂ w₂
+tested-lined {run} {body} ps {s} {out} {s₁} {s₂} {out₂} {w} {w₂} L far T₀ =
+    let T : Tested run body ps s₁ out w s₂ out₂ w₂ = subst (λ qs. Tested run body qs s₁ out w s₂ out₂ w₂) (L .waits) T₀ in
+    record {
+      makes =
+          T .makes
+          ∙ ap₂ (λ S c. triedAll (listing S) ps c) (side-same (around-beside (L .beside)) far body)
+          (ap₂ (λ h v. courseOf h (chan out v (w .at .at))) (L .holds) (beside-values (L .beside)));
+      todo = T .todo ∙ ap (λ h. h .todo) (L .holds);
+      fits = T .fits;
+      around = around-then (around-beside (L .beside)) (T .around) (omega arith);
+      ahead = λ i m g h. T .ahead i m g h ∙ L .ahead i m g h;
+      known = λ m g. T .known m g ∙ L .known m g;
+      visited = T .visited;
+      left = T .left;
+      kept = T .kept;
+      moved = T .moved;
+      both = T .both;
+      lip = T .lip;
+      lsp = T .lsp;
+      place = T .place;
+    }
+
+-- the coefficients of the level, by their tree numbers
+pub inside-level : {run : Run} → Proper run → (x : ℕ) → treeLevel (run .z) x ≡ run .level .0 → Inside run x
+inside-level {run} P x e =
+    let Z = legal (run .z) (P .legal) in
+    let N = numbered (run .z) Z x (tree-level-area (run .z) Z x (omega (arith, P .coarser))) in
+    let start = ap (levelStart (run .z)) e in
+    let size = ap (levelSize (run .z)) e in
+    (omega (arith, N .from, P .first), omega (arith, N .from, N .under, P .first, P .count))
+
 -- A set to open: what is asked for by the tests and by the sets put behind LIS, and what comes of it.
 module _ {run : Run} {e : Entry} {s : List ℕ} {w : Stand} (O : Opening run e s w) where
   legal-size : Legal (run .z)
@@ -164,38 +198,52 @@ module _ {run : Run} {x : ℕ} {s : List ℕ} {w : Stand} (O : Opening run (type
   pub index-A : x < 2 ^ 31
   index-A = omega (arith, small-A)
 
-  pub testing-A : Testing run (Four (4 * x)) 4 s w
-  testing-A =
-      let n = ap length four-A in
-      record {
-        plane = O .proper .plane;
-        size = O .proper .size;
-        fits = O .fits;
-        room = omega (arith, tests-fit O);
-        place = omega (arith, O .place);
-        suited = (omega arith, omega (arith, small-A));
-      }
+  inside-A : All (Inside run) (fourFrom (4 * x))
+  inside-A =
+      all-then _ _ (fourFrom (4 * x)) (inside-level (O .proper))
+      (subst (All (λ p. treeLevel (run .z) p ≡ run .level .0)) four-A
+      (opened-placed (trees-lawful (run .z) (legal-size O)) (run .level .0) (typeA x) (O .met)))
 
-  module _ {body out s₁ out₁ : List ℕ} {w₁ : Stand} (T : Tested run body (chosen (run .stretch .n) (Four (4 * x)) 0 4 s) s out w s₁ out₁ w₁) where
-    T₄ : Tested run body (fourFrom (4 * x)) s out w s₁ out₁ w₁
-    unfolding seg
-    T₄ = T
+  pub room-A : w .fill .lip + 4 ≤ run .stretch .n
+  room-A = let n = ap length four-A in omega (arith, tests-fit O)
 
+  pub lining-A : Fits (run .stretch) s (w .fill) × (run .stretch .n < 2 ^ 32) × (w .fill .lip + 4 ≤ run .stretch .n) × (4 * x + 4 < 2 ^ 32)
+  lining-A = (O .fits, O .proper .size, room-A, omega (arith, small-A))
+
+  module _ {s₁ : List ℕ} (U : LinedUp (fourFrom (4 * x)) (run .stretch) s (w .fill) s₁) where
+    pub testing-A : Testing run 4 s₁ w
+    testing-A =
+        let n = ap length four-A in
+        record {
+          plane = O .proper .plane;
+          size = O .proper .size;
+          fits = U .fits;
+          room = omega (arith, tests-fit O);
+          place = omega (arith, O .place);
+          inside =
+              all-waiting (Inside run) (run .stretch .n) (w .fill .lip) 4 s₁ (U .fits .room) room-A (subst (All (Inside run)) (sym (U .waits)) inside-A);
+        }
+
+    pub tested-A : {body out s₂ out₂ : List ℕ} {w₂ : Stand} → Tested run body (waiting (run .stretch .n) (w .fill .lip) 4 s₁) s₁ out w s₂ out₂ w₂
+        → Tested run body (fourFrom (4 * x)) s out w s₂ out₂ w₂
+    tested-A T = tested-lined (fourFrom (4 * x)) U (O .fits .behind) T
+
+  module _ {body out s₁ out₁ : List ℕ} {w₁ : Stand} (T : Tested run body (fourFrom (4 * x)) s out w s₁ out₁ w₁) where
     module _ (h : 1 < run .level .0) where
       as-B : added (familyOf run) (typeA x) ≡ typeB x ∷ []
       as-B = met-added-more (run .z) (legal-size O) (run .level .0) (O .proper .coarser) x (O .met) h
 
-      pub room-A : w₁ .fill .visited + w₁ .fill .left < setRoom (run .stretch .n)
-      room-A = let n = ap length as-B in omega (arith, T₄ .visited, T₄ .left, sets-room O)
+      pub set-room-A : w₁ .fill .visited + w₁ .fill .left < setRoom (run .stretch .n)
+      set-room-A = let n = ap length as-B in omega (arith, T .visited, T .left, sets-room O)
 
       pub opened-A-more : {s₂ : List ℕ} {f : Fill} → SetAdded (run .stretch) s₁ (w₁ .fill) (typeB x) s₂ f
           → Opened run body (typeA x) s out w s₂ out₁ (record { fill = f; at = w₁ .at })
-      opened-A-more A = opened-by {e = typeA x} _ (typeB x ∷ []) four-A as-B T₄ (added-one A)
+      opened-A-more A = opened-by {e = typeA x} _ (typeB x ∷ []) four-A as-B T (added-one A)
 
     pub opened-A-less : run .level .0 ≤ 1 → Opened run body (typeA x) s out w s₁ out₁ w₁
     opened-A-less h =
-        opened-by {e = typeA x} _ [] four-A (met-added-less (run .z) (legal-size O) (run .level .0) (O .proper .coarser) x (O .met) h) T₄
-        (added-none (run .stretch) s₁ (w₁ .fill) (T₄ .fits))
+        opened-by {e = typeA x} _ [] four-A (met-added-less (run .z) (legal-size O) (run .level .0) (O .proper .coarser) x (O .met) h) T
+        (added-none (run .stretch) s₁ (w₁ .fill) (T .fits))
 
 module _ {run : Run} {x : ℕ} {s : List ℕ} {w : Stand} (O : Opening run (typeB x) s w) where
   four-B : fourFrom (4 * x) ≡ familyOf run .offspring x

@@ -22,7 +22,7 @@ use Rattle.trees.specs.Renamed.{nameEntry, map-length, members-renamed, inLevel
 use Rattle.trees.specs.Family.{trees, treeLevel, treeOffspring, coefficientOf, level-same, offspring-same, trees-rename, treeOffspring-some}
 use Rattle.trees.specs.Lawful.{trees-lawful}
 use Rattle.trees.specs.Sound.{tree-node}
-use Rattle.testing.specs.Finding.{fourFrom}
+use Rattle.lists.specs.Lists.{fourFrom}
 
 none-length : {X : Type 0} (xs : List X) → length xs ≡ 0 → xs ≡ []
 none-length [] e = refl

@@ -8,8 +8,8 @@ use lib.ListN.{length}
 use Rattle.rules.specs.Document.Pyramid.{legalSize, levels, mostPlanes}
 use Rattle.rules.specs.Document.Passes.{Entry, typeA, typeB, inLevel, opened, added, Lists, Course, listing, passed}
 use Rattle.rules.specs.Laws.Pass.Steps.{triedAll, visitedAll}
-use Rattle.rules.specs.Laws.Pass.Levels.{Met}
-use Rattle.rules.specs.Laws.Family.Sizes.{span, levelStart}
+use Rattle.rules.specs.Laws.Pass.Levels.{Met, Placed}
+use Rattle.rules.specs.Laws.Family.Sizes.{span, levelStart, levelSize}
 use Rattle.rules.specs.Laws.Pass.Slots.{Room}
 use Rattle.lists.specs.declared.Fill.{Fill}
 use Rattle.stretches.specs.Cut.{valuesIn}
@@ -28,6 +28,7 @@ pub record Proper (run : Run) : Type 0 where
   pub coarser : 1 ≤ run .level .0
   pub level : run .level .0 ≤ levels (run .z)
   pub size : run .stretch .n < 2 ^ 32
+  pub count : run .stretch .n ≡ levelSize (run .z) (run .level .0)
   pub first : run .first ≡ levelStart (run .z) (run .level .0)
   pub parents : run .parents ≡ span (run .z) (run .level .0 + 1)
   pub elders : run .elders ≡ span (run .z) (run .level .0 + 2)
@@ -140,7 +141,7 @@ passOf run body s out w =
     passed (familyOf run) (run .level .0) (side run s body) (listsOf run s w) (chan out (valuesIn (run .stretch .n) s) (w .at .at))
 
 -- Before a pass: there is room for it, and behind the stretch for all that will move out; nothing of LIS was visited, no word is too large to be
--- refined, and bits that aren't there are 0.
+-- refined, the lists hold what is of the level, and bits that aren't there are 0.
 pub record Fresh (run : Run) (body s out : List ℕ) (w : Stand) : Type 0 where
   pub proper : Proper run
   pub fits : Fits (run .stretch) s (w .fill)
@@ -154,6 +155,7 @@ pub record Fresh (run : Run) (body s out : List ℕ) (w : Stand) : Type 0 where
   pub moved : w .fill .moved ≡ 0
   pub place : w .at .at ≡ run .from .at
   pub growth : reads run ≡ true → Growth (run .first) (run .plane .0) (2 ^ 30) (valuesIn (run .stretch .n) s) (held (run .stretch) s (w .fill) .lsp)
+  pub placed : Placed (familyOf run) (run .level .0) (listsOf run s w)
   pub silent : Silent run body
 
 -- A pass was run.

@@ -5,13 +5,13 @@ ghost use mathlib.Core.List.{map};
 ghost use Prim.Native.Nat.{_+_, _*_, _^_, _≤_, _<_};
 ghost use Rattle.rules.specs.Document.Passes.{typeA, typeB};
 ghost use Rattle.stretches.specs.Cut.{setRoom};
-ghost use Rattle.lists.specs.Lists.{entryOf, indexOf, Fits};
+ghost use Rattle.lists.specs.Lists.{entryOf, indexOf, fourFrom, Fits};
 ghost use Rattle.testing.specs.Exchange.{familyOf};
-ghost use Rattle.testing.specs.Finding.{fourFrom};
+ghost use Rattle.testing.specs.Finding.{movedTo, Tested};
 ghost use Rattle.passes.specs.Steps.{Proper, Added, Opened, Opening, hasMember, Underway, InHand, Weighed, Visited, Fresh, Ran};
 use lists::Fill;
 use lists::Set;
-use testing::Candidates;
+use testing::Ends;
 use testing::Run;
 use testing::Stand;
 
@@ -27,12 +27,21 @@ fn add_block(run: Run, s: &mut [u32], f: Fill, first: usize) -> Fill
     lists::add_set(s, stretch, c, Set::TypeA(first + 3))
 }
 
+// The offspring of an opened set are lined up behind LIP and tested from there, as those of LIP are: one loop for both.
+fn test_offspring(run: Run, body: &[u8], s: &mut [u32], w: Stand, out: &mut [u8], x: usize) -> Ends
+    requires { ⌜ Opening run (typeA x) (now s) w ⌝ }
+    ensures { λ r. ⌜ Tested run (now (body .entry)) (fourFrom (4 * x)) (now (s .entry)) (now (out .entry)) w (now (s .exit)) (now (out .exit)) (movedTo w r) ⌝ }
+{
+    lists::line_up(s, run.stretch, w.fill, 4 * x);
+    testing::test_each(run, body, s, w, out, 4)
+}
+
 // A set of type A whose bit is 1: its offspring are tested, and it goes to the end of LIS as type B if L is not empty.
 fn open_a(run: Run, body: &[u8], s: &mut [u32], w: Stand, out: &mut [u8], x: usize) -> Stand
     requires { ⌜ Opening run (typeA x) (now s) w ⌝ }
     ensures { λ r. ⌜ Opened run (now (body .entry)) (typeA x) (now (s .entry)) (now (out .entry)) w (now (s .exit)) (now (out .exit)) r ⌝ }
 {
-    let ends = testing::test_each(run, body, s, w, out, Candidates::Four(4 * x), 4);
+    let ends = test_offspring(run, body, s, w, out, x);
     let r = testing::moved_to(w, ends);
     if 1 < run.level.0 {
         let fill = lists::add_set(s, run.stretch, r.fill, Set::TypeB(x));
@@ -130,7 +139,7 @@ pub fn run_pass(run: Run, body: &[u8], s: &mut [u32], w: Stand, out: &mut [u8]) 
     let at = w.at;
     let fill = lists::empty_lip(w.fill);
     let begin = Stand { fill, at };
-    let ends = testing::test_each(run, body, s, begin, out, Candidates::Waiting, waiting);
+    let ends = testing::test_each(run, body, s, begin, out, waiting);
     let tested = testing::moved_to(begin, ends);
     let visited = visit_lis(run, body, s, tested, out);
     let next = testing::refine_lsp(run, body, s, known, out, visited.at);

@@ -13,19 +13,16 @@ use Rattle.rules.specs.Document.Calls.{workFor}
 use Rattle.rules.specs.Laws.Family.Sizes.{levelStart, levelSize, levelEnd, legal, area-bound, levelSize-end}
 use Rattle.stretches.specs.Seg.{seg, seg-set}
 use Rattle.stretches.specs.Levels.{level-ends}
-use Rattle.stretches.specs.Cut.{maximaFrom, valuesIn, maximaIn, ValueSet, SetOr, MaximumSet, values-length, maxima-length, maxima-at}
+use Rattle.stretches.specs.Cut.{maximaFrom, valuesIn, maximaIn, ValueSet, SetOr, MaximumSet, maxima-length, maxima-at}
 
 -- a read
-pub value-past : (n : ℕ) (s : List ℕ) (i : ℕ) → 4 * n ≤ length s → n ≤ i → 0 ≡ getD (valuesIn n s) i 0
-value-past n s i h l = sym (List·getD-eq-default (valuesIn n s) 0 (omega (arith, values-length n s h)))
-
 pub maximum-read : (n : ℕ) (s : List ℕ) (i from : ℕ) → from ≡ maximaFrom n → i < n / 4 → getD s (from + i) 0 ≡ getD (maximaIn n s) i 0
 maximum-read n s i from e h = ap (λ (x : ℕ). getD s (x + i) 0) e ∙ sym (maxima-at n s i h)
 
 pub maximum-past : (n : ℕ) (s : List ℕ) (i : ℕ) → 4 * n ≤ length s → n / 4 ≤ i → 0 ≡ getD (maximaIn n s) i 0
 maximum-past n s i h l = sym (List·getD-eq-default (maximaIn n s) 0 (omega (arith, maxima-length n s h)))
 
--- a store, and none past the end
+-- a store
 pub value-stored : (n : ℕ) (s : List ℕ) (i v : ℕ) → i < n → ValueSet n s i v (set s i v)
 unfolding valuesIn
 value-stored n s i v h =
@@ -35,11 +32,7 @@ value-stored n s i v h =
       others = λ j l. getD-set-other s i j v 0 (λ e. omega arith);
     }
 
-pub value-kept : (n : ℕ) (s : List ℕ) (i v : ℕ) → 4 * n ≤ length s → n ≤ i → ValueSet n s i v s
-value-kept n s i v h l =
-    record { long = refl; values = sym (set-out (valuesIn n s) i v (omega (arith, values-length n s h))); others = λ j k. refl }
-
--- a store by a bit, and none past the end
+-- a store by a bit
 pub either-stored : (b : Bool) (n : ℕ) (s : List ℕ) (i v p at : ℕ) → at ≡ cond b i p → i < n → SetOr b n s i v p (set s at v)
 either-stored b n s i v p at e h =
     record {
@@ -54,9 +47,6 @@ either-stored b n s i v p at e h =
 pub either-inside : (b : Bool) (i p at m : ℕ) → at ≡ cond b i p → i < m → p < m → at < m
 either-inside true i p at m e h k = omega arith
 either-inside false i p at m e h k = omega arith
-
-pub either-kept : (b : Bool) (n : ℕ) (s : List ℕ) (i v p : ℕ) → 4 * n ≤ length s → n ≤ i → SetOr b n s i v p s
-either-kept b n s i v p h l = record { written = λ x. value-kept n s i v h l; spared = λ x. record { long = refl; others = λ j k. refl } }
 
 pub maximum-stored : (n : ℕ) (s : List ℕ) (i v from : ℕ) → from ≡ maximaFrom n → i < n / 4 → MaximumSet n s i v (set s (from + i) v)
 unfolding maximaIn maximaFrom

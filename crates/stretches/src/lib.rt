@@ -25,22 +25,19 @@ pub fn stretch_to(z: Size, k: Level) -> usize
     4 * shape::level_end(z, k)
 }
 
-// The i-th value of a stretch for n coefficients; 0 past their end.
+// The i-th value of a stretch for n coefficients.
 pub fn value_at(s: &[u32], n: usize, i: usize) -> u32
-    requires { ⌜ 4 * n ≤ length (now s) ⌝ }
+    requires { ⌜ (4 * n ≤ length (now s)) × (i < n) ⌝ }
     ensures { λ r. ⌜ r ≡ getD (valuesIn n (now (s .entry))) i 0 ⌝ }
 {
-    if i < n { s[i] } else { 0 }
+    s[i]
 }
 
-// Nothing past their end.
 pub fn set_value(s: &mut [u32], n: usize, i: usize, word: u32)
-    requires { ⌜ 4 * n ≤ length (now s) ⌝ }
+    requires { ⌜ (4 * n ≤ length (now s)) × (i < n) ⌝ }
     ensures { λ _. ⌜ ValueSet n (now (s .entry)) i word (now (s .exit)) ⌝ }
 {
-    if i < n {
-        s[i] = word;
-    }
+    s[i] = word;
 }
 
 // One of two numbers by a bit.
@@ -53,15 +50,12 @@ pub fn either(bit: bool, a: usize, b: usize) -> usize
     b
 }
 
-// The i-th value is set if a bit is 1; if it is 0, the word goes to a place where it doesn't matter. Nothing past the values' end. The place is
-// chosen as a number: the bits of a body are hard to foresee, and no branch waits for this one.
+// The i-th value is set if a bit is 1; if it is 0, the word goes to a place where it doesn't matter. The place is chosen as a number: the bits of a
+// body are hard to foresee, and no branch waits for this one.
 pub fn set_value_or(s: &mut [u32], n: usize, i: usize, word: u32, bit: bool, spare: usize)
-    requires { ⌜ (4 * n ≤ length (now s)) × (spare < length (now s)) ⌝ }
+    requires { ⌜ (4 * n ≤ length (now s)) × (i < n) × (spare < length (now s)) ⌝ }
     ensures { λ _. ⌜ SetOr bit n (now (s .entry)) i word spare (now (s .exit)) ⌝ }
 {
-    if n <= i {
-        return;
-    }
     let at = either(bit, i, spare);
     s[at] = word;
 }

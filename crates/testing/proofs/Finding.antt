@@ -2,29 +2,28 @@
 use mathlib.Core.Path.{_≡_, refl, sym, ap, ap₂, _∙_, subst}
 use mathlib.Core.Bool.{Bool, true, false}
 use mathlib.Core.List.{List, [], _∷_, _++_, map}
-use Prim.Native.Nat.{ℕ, zero, suc, _+_, _*_, _≤_, _<_, _^_}
+use Prim.Native.Nat.{ℕ, _+_, _*_, _≤_, _<_}
 use native.Mathlib.Omega.{arith}
-use lib.ListN.{length, length-append}
+use lib.ListN.{length, getD, length-append}
 use Rattle.bits.specs.declared.BitPosition.{BitPosition}
 use Rattle.bits.specs.declared.BitRead.{BitRead}
 use Rattle.rules.specs.Document.Passes.{Event, significant?, negative?, toLip, toLsp, Side, listing}
 use Rattle.rules.specs.Laws.Pass.Steps.{signNoted, tried, triedAll, tried-insignificant, tried-significant, tried-toLip, tried-toLsp, triedAll-append}
-use Rattle.stretches.specs.Seg.{seg, seg-length, seg-add, seg-none, seg-same}
+use Rattle.stretches.specs.Seg.{seg, seg-same}
 use Rattle.stretches.specs.Cut.{lipFrom, lspFrom, lisFrom, valuesIn}
 use Rattle.lists.specs.declared.Stretch.{Stretch}
 use Rattle.lists.specs.declared.Fill.{Fill}
-use Rattle.lists.specs.Lists.{entry, sets, waiting, known, Held, held, Fits, LipPushed, LspPushed, PushedBy, waiting-add, waiting-none, waiting-length}
+use Rattle.lists.specs.Lists.{entry, sets, waiting, known, Held, held, Fits, LipPushed, LspPushed, PushedBy}
+use Rattle.lists.specs.Lists.{lipAt, waiting-add, waiting-one, waiting-none, waiting-length}
 use Rattle.lists.specs.Besides.{beside-values, held-same, spared-pushed}
 use Rattle.testing.specs.declared.Run.{Run}
 use Rattle.testing.specs.declared.Stand.{Stand}
 use Rattle.testing.specs.declared.Told.{Told}
 use Rattle.testing.specs.declared.Ends.{Ends}
-use Rattle.testing.specs.declared.Candidates.{Candidates}
-use Rattle.testing.specs.declared.Candidates.the-variants.{Waiting, Four}
-use Rattle.testing.specs.Exchange.{Chan, chan, side, notes, Replied, Noted, Around, quiet-toLip}
+use Rattle.testing.specs.Exchange.{Chan, chan, Inside, side, notes, Replied, Noted, Around, quiet-toLip}
 use Rattle.testing.specs.Exchange.{around-then, around-beside, around-noted, side-same}
 use Rattle.testing.specs.Telling.{Answered, NotedBy}
-use Rattle.testing.specs.Finding.{courseOf, course, endsOf, movedTo, fourFrom, chosen, Choosing, Testing, Tested, stood, tested-none}
+use Rattle.testing.specs.Finding.{courseOf, course, endsOf, movedTo, Testing, Tested, stood, tested-none}
 
 one-tried : {S : Type 0} (C : Side S) (p : ℕ) (s : S) → triedAll C (p ∷ []) s ≡ tried C p s
 unfolding triedAll
@@ -213,79 +212,49 @@ tested-on {run} {body} {ps} {qs} {s} {out} {s₁} {out₁} {s₂} {w = w} {w₁}
       place = omega (arith, a .place, b .place);
     }
 
--- the four from a tree number on, one by one
-four-at : (first i : ℕ) → i < 4 → seg i 1 (fourFrom first) ≡ (first + i) ∷ []
-unfolding seg
-four-at first zero h = ap (λ (x : ℕ). x ∷ []) (omega arith)
-four-at first (suc zero) h = refl
-four-at first (suc (suc zero)) h = refl
-four-at first (suc (suc (suc zero))) h = refl
-four-at first (suc (suc (suc (suc i)))) h = absurd (omega arith)
+one-same : {x y : ℕ} → x ∷ [] ≡ y ∷ [] → x ≡ y
+one-same {x} e = ap (λ xs. getD xs 0 0) e
 
-module _ (run : Run) {from : Candidates} (i : ℕ) (s : List ℕ) (h : Choosing run from i s) where
-  pub choosing-waiting : from ≡ Waiting → (4 * run .stretch .n ≤ length s) × (i < run .stretch .n)
-  choosing-waiting e = subst (λ x. Choosing run x i s) e h
-
-  pub chosen-waiting : {r : ℕ} → from ≡ Waiting → waiting (run .stretch .n) i 1 s ≡ r ∷ [] → chosen (run .stretch .n) from i 1 s ≡ r ∷ []
-  chosen-waiting {r} e w = subst (λ x. chosen (run .stretch .n) x i 1 s ≡ r ∷ []) (sym e) w
-
-  module _ {first : ℕ} (e : from ≡ Four first) where
-    pub choosing-four : (i < 4) × (first + 4 < 2 ^ 32)
-    choosing-four = subst (λ x. Choosing run x i s) e h
-
-    pub chosen-four : chosen (run .stretch .n) from i 1 s ≡ (first + i) ∷ []
-    chosen-four = subst (λ x. chosen (run .stretch .n) x i 1 s ≡ (first + i) ∷ []) (sym e) (four-at first i (choosing-four .0))
-
--- the loop: the next coefficient is the one that was listed there at the beginning
-module _ (run : Run) where
+-- the loop: the next coefficient is the one that waited there at the beginning
+module _ (run : Run) {body : List ℕ} {m i : ℕ} {s out : List ℕ} {w : Stand} {s₁ out₁ : List ℕ} {w₁ : Stand} (H : Testing run m s w)
+    (T : Tested run body (waiting (run .stretch .n) (w .fill .lip) i s) s out w s₁ out₁ w₁) (more : i < m) where
   abbrev size : ℕ
   size = run .stretch .n
 
-  each-counted : (from : Candidates) {m : ℕ} (i : ℕ) {s : List ℕ} {w : Stand} → Testing run from m s w → i ≤ m → length (chosen size from 0 i s) ≡ i
-  each-counted Waiting i {s} H l = waiting-length size 0 i s (H .fits .room) (omega (arith, H .room))
-  each-counted (Four first) i H l = seg-length 0 i (fourFrom first) (omega (arith, H .suited .0))
+  abbrev first : ℕ
+  first = w .fill .lip
 
-  each-more : (from : Candidates) (i : ℕ) (s : List ℕ) → chosen size from 0 (i + 1) s ≡ chosen size from 0 i s ++ chosen size from i 1 s
-  each-more Waiting i s = waiting-add size i 1 s
-  each-more (Four first) i s = seg-add 0 i 1 (fourFrom first) ∙ ap (λ (x : ℕ). seg 0 i (fourFrom first) ++ seg x 1 (fourFrom first)) (omega arith)
+  pub each-length : length (waiting size first i s) ≡ i
+  each-length = waiting-length size first i s (H .fits .room) (omega (arith, H .room))
 
-  module _ {body : List ℕ} {m i : ℕ} {s out : List ℕ} {w : Stand} {s₁ out₁ : List ℕ} {w₁ : Stand} where
-    each-still : (from : Candidates) → Testing run from m s w → i < m → Tested run body (chosen size from 0 i s) s out w s₁ out₁ w₁
-        → chosen size from i 1 s₁ ≡ chosen size from i 1 s
-    each-still Waiting H l T =
-        let c = each-counted Waiting i H (omega arith) in
-        T .ahead i 1 (omega (arith, H .suited)) (omega (arith, H .room))
-    each-still (Four first) H l T = refl
+  pub each-there : (4 * size ≤ length s₁) × (first + i < size)
+  each-there = (T .fits .room, omega (arith, H .room))
 
-    each-chosen : (from : Candidates) → Testing run from m s w → i < m → Tested run body (chosen size from 0 i s) s out w s₁ out₁ w₁
-        → Choosing run from i s₁
-    each-chosen Waiting H l T = (T .fits .room, omega (arith, H .room))
-    each-chosen (Four first) H l T = (omega (arith, H .suited .0), H .suited .1)
+  each-still : waiting size (first + i) 1 s₁ ≡ waiting size (first + i) 1 s
+  each-still = T .ahead (first + i) 1 (omega (arith, each-length)) (omega (arith, H .room))
 
-    module _ {from : Candidates} (H : Testing run from m s w) (T : Tested run body (chosen size from 0 i s) s out w s₁ out₁ w₁) (more : i < m) where
-      pub each-length : length (chosen size from 0 i s) ≡ i
-      each-length = each-counted from i H (omega arith)
+  module _ {x : ℕ} (e : x ≡ lipAt size (first + i) s₁) where
+    each-waited : waiting size (first + i) 1 s ≡ x ∷ []
+    each-waited = sym each-still ∙ waiting-one size (first + i) s₁ (each-there .0) (each-there .1) ∙ ap (λ (y : ℕ). y ∷ []) (sym e)
 
-      pub each-choosing : Choosing run from i s₁
-      each-choosing = each-chosen from H more T
+    pub each-inside : Inside run x
+    each-inside =
+        subst (Inside run) (one-same (sym (waiting-one size (first + i) s (H .fits .room) (each-there .1)) ∙ each-waited)) (H .inside i more)
 
-      pub each-next : {x : ℕ} {s₂ out₂ : List ℕ} {w₂ : Stand} → chosen size from i 1 s₁ ≡ x ∷ []
-          → Tested run body (x ∷ []) s₁ out₁ w₁ s₂ out₂ w₂ → Tested run body (chosen size from 0 (i + 1) s) s out w s₂ out₂ w₂
-      each-next {x} {s₂} {out₂} {w₂} e U =
-          let a : chosen size from 0 i s ++ (x ∷ []) ≡ chosen size from 0 (i + 1) s =
-          sym (each-more from i s ∙ ap (λ z. chosen size from 0 i s ++ z) (sym (each-still from H more T) ∙ e)) in
-          subst (λ ps. Tested run body ps s out w s₂ out₂ w₂) a (tested-on T U)
+    pub each-next : {s₂ out₂ : List ℕ} {w₂ : Stand} → Tested run body (x ∷ []) s₁ out₁ w₁ s₂ out₂ w₂
+        → Tested run body (waiting size first (i + 1) s) s out w s₂ out₂ w₂
+    each-next {s₂} {out₂} {w₂} U =
+        let a : waiting size first i s ++ (x ∷ []) ≡ waiting size first (i + 1) s =
+        sym (waiting-add size first i 1 s ∙ ap (λ z. waiting size first i s ++ z) each-waited) in
+        subst (λ ps. Tested run body ps s out w s₂ out₂ w₂) a (tested-on T U)
 
-chosen-none : (n : ℕ) (from : Candidates) (s : List ℕ) → chosen n from 0 0 s ≡ []
-chosen-none n Waiting s = waiting-none n 0 s
-chosen-none n (Four first) s = seg-none 0 (fourFrom first)
+pub each-none : (run : Run) (body s out : List ℕ) (w : Stand) → Fits (run .stretch) s (w .fill)
+    → Tested run body (waiting (run .stretch .n) (w .fill .lip) 0 s) s out w s out w
+each-none run body s out w h =
+    subst (λ ps. Tested run body ps s out w s out w) (sym (waiting-none (run .stretch .n) (w .fill .lip) s)) (tested-none run body s out w h)
 
-pub each-none : (run : Run) (body : List ℕ) (from : Candidates) (s out : List ℕ) (w : Stand) → Fits (run .stretch) s (w .fill)
-    → Tested run body (chosen (run .stretch .n) from 0 0 s) s out w s out w
-each-none run body from s out w h =
-    subst (λ ps. Tested run body ps s out w s out w) (sym (chosen-none (run .stretch .n) from s)) (tested-none run body s out w h)
-
-pub each-done : {run : Run} {body : List ℕ} (from : Candidates) (i m : ℕ) {s out : List ℕ} {w : Stand} {s₁ out₁ : List ℕ} {w₁ : Stand} → i ≡ m
-    → Tested run body (chosen (run .stretch .n) from 0 i s) s out w s₁ out₁ w₁ → Tested run body (chosen (run .stretch .n) from 0 m s) s out w s₁ out₁ w₁
-each-done {run} {body} from i m {s} {out} {w} {s₁} {out₁} {w₁} e T =
-    subst (λ (j : ℕ). Tested run body (chosen (run .stretch .n) from 0 j s) s out w s₁ out₁ w₁) e T
+pub each-done : {run : Run} {body : List ℕ} (i m : ℕ) {s out : List ℕ} {w : Stand} {s₁ out₁ : List ℕ} {w₁ : Stand} → i ≡ m
+    → Tested run body (waiting (run .stretch .n) (w .fill .lip) i s) s out w s₁ out₁ w₁
+    → Tested run body (waiting (run .stretch .n) (w .fill .lip) m s) s out w s₁ out₁ w₁
+each-done {run} {body} i m {s} {out} {w} {s₁} {out₁} {w₁} e T =
+    subst (λ (j : ℕ). Tested run body (waiting (run .stretch .n) (w .fill .lip) j s) s out w s₁ out₁ w₁) e T

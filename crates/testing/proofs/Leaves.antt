@@ -25,10 +25,6 @@ use Rattle.testing.specs.Exchange.{localWord, wordAt, largestAt, wordsTe
 use Rattle.testing.specs.Telling.{NotedBy}
 use Rattle.testing.specs.Growing.{word-local}
 
-pub word-outside : (first : ℕ) (vs : List ℕ) (x : ℕ) → x < first → 0 ≡ localWord first vs x
-unfolding localWord
-word-outside first vs x l = rw (lt-leb first x l)
-
 pub word-inside : (first : ℕ) (vs : List ℕ) (x : ℕ) {r : ℕ} → first ≤ x → r ≡ getD vs (x - first) 0 → r ≡ localWord first vs x
 unfolding localWord
 word-inside first vs x l e = e ∙ rw (le-leb first x l)
@@ -88,14 +84,6 @@ module _ (run : Run) (at : ℕ) (s : List ℕ) where
   noted-past e r l = unchanged e (rw (r, lt-leb at (run .until .at) l))
 
   module _ (x : ℕ) (b : Bool) (r : run .role ≡ Reads) (there : at ≤ run .until .at) where
-    found-outside : x < run .first → Noted run at (toLsp x b) s s
-    unfolding noted drawn
-    found-outside l = unchanged (toLsp x b) (rw (r, le-leb at (run .until .at) there, lt-leb (run .first) x l))
-
-    inside-none : x < run .first → Noted run at (refined x b) s s
-    unfolding noted drawn
-    inside-none l = unchanged (refined x b) (rw (r, le-leb at (run .until .at) there, lt-leb (run .first) x l))
-
     module _ {w : ℕ} {s′ : List ℕ} (l : run .first ≤ x) (drew : ValueSet (run .stretch .n) s (x - run .first) w s′) where
       found-drawn : w ≡ wordOf b (2 ^ run .plane .0) → Noted run at (toLsp x b) s s′
       unfolding noted drawn
@@ -122,13 +110,6 @@ module _ (run : Run) (at : ℕ) (s : List ℕ) where
 
 -- a refinement, whether its bit is there or not: one that isn't is 0, and adds nothing
 module _ (run : Run) (at : ℕ) (s : List ℕ) (x : ℕ) (b : Bool) (r : run .role ≡ Reads) where
-  pub refined-outside : x < run .first → Noted run at (refined x b) s s
-  refined-outside l = by (decLe at (run .until .at))
-    where
-      by : Dec (at ≤ run .until .at) → Noted run at (refined x b) s s
-      by (yes there) = inside-none run at s x b r there l
-      by (no past) = noted-past run at s (refined x b) r (omega arith)
-
   module _ {w old : ℕ} {s′ : List ℕ} (l : run .first ≤ x) (drew : ValueSet (run .stretch .n) s (x - run .first) w s′)
       (o : old ≡ getD (valuesIn (run .stretch .n) s) (x - run .first) 0) (e : w ≡ old + cond b (2 * 2 ^ run .plane .0) 0) where
     unfolded : b ≡ false → w ≡ getD (valuesIn (run .stretch .n) s) (x - run .first) 0
@@ -152,9 +133,6 @@ module _ (run : Run) (at : ℕ) (f : Fill) (s : List ℕ) (x : ℕ) (bit negativ
   pub tested-past : run .role ≡ Reads → run .until .at < at → NotedBy bit run at x negative f s s
   tested-past h l = record { found = λ e. noted-past run at s (toLsp x negative) h l; missed = λ e. spared-none (run .stretch) s f g }
 
-  pub tested-outside : run .role ≡ Reads → at ≤ run .until .at → x < run .first → NotedBy bit run at x negative f s s
-  tested-outside h there l = record { found = λ e. found-outside run at s x negative h there l; missed = λ e. spared-none (run .stretch) s f g }
-
   pub tested-drawn : {w spare : ℕ} {s′ : List ℕ} → run .role ≡ Reads → at ≤ run .until .at → run .first ≤ x → f .lip < run .stretch .n
       → w ≡ wordOf negative (2 ^ run .plane .0) → spare ≡ lipFrom (run .stretch .n) + f .lip
       → SetOr bit (run .stretch .n) s (x - run .first) w spare s′ → NotedBy bit run at x negative f s s′
@@ -164,10 +142,9 @@ module _ (run : Run) (at : ℕ) (f : Fill) (s : List ℕ) (x : ℕ) (bit negativ
         missed = λ d. spared-at g room (subst (λ (i : ℕ). ButAt i s s′) p (drew .spared d));
       }
 
-pub spare-inside : {t : Stretch} {s : List ℕ} {f : Fill} {spare : ℕ} → Fits t s f → f .lip < t .n → spare ≡ lipFrom (t .n) + f .lip
-    → (4 * t .n ≤ length s) × (spare < length s)
+pub spare-inside : {t : Stretch} {s : List ℕ} {f : Fill} {spare : ℕ} → Fits t s f → f .lip < t .n → spare ≡ lipFrom (t .n) + f .lip → spare < length s
 unfolding lipFrom
-spare-inside g room e = (g .room, omega (arith, g .room))
+spare-inside g room e = omega (arith, g .room)
 
 pub word-small : (run : Run) (vs : List ℕ) (x : ℕ) {old : ℕ} → run .role ≡ Reads → run .first ≤ x → old ≡ getD vs (x - run .first) 0
     → (reads run ≡ true → localWord (run .first) vs x < 2 ^ 30) → old < 2 ^ 31

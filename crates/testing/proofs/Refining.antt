@@ -11,11 +11,11 @@ use Rattle.bits.specs.declared.BitRead.{BitRead}
 use Rattle.rules.specs.Document.Passes.{bit?, refined, Side}
 use Rattle.rules.specs.Laws.Pass.Steps.{bitNoted, sharpened, sharpenedAll, sharpenedAll-append}
 use Rattle.rules.specs.Laws.Counting.Sums.{sum, is, sum-append}
-use Rattle.stretches.specs.Seg.{seg, seg-same}
+use Rattle.stretches.specs.Seg.{seg}
 use Rattle.stretches.specs.Cut.{lspFrom, maximaFrom, valuesIn, values-same, maxima-same}
-use Rattle.lists.specs.Lists.{known, known-add, known-none, known-length}
+use Rattle.lists.specs.Lists.{known, lspAt, known-add, known-more, known-none, known-length}
 use Rattle.testing.specs.declared.Run.{Run}
-use Rattle.testing.specs.Exchange.{Chan, chan, localWord, wordAt, side, notes, Replied, Noted, noted-values, side-kept, reads, Silent}
+use Rattle.testing.specs.Exchange.{Chan, chan, Inside, localWord, wordAt, side, notes, Replied, Noted, noted-values, side-kept, reads, Silent}
 use Rattle.testing.specs.Growing.{refined-most}
 use Rattle.testing.specs.Finding.{Refining, Refined}
 
@@ -45,10 +45,6 @@ refined-one run body s out at x {bit} {s₁} {out₁} R N =
 module _ {run : Run} {body ps s out : List ℕ} {at : BitPosition} {s₁ out₁ : List ℕ} {at₁ : BitPosition} (a : Refined run body ps s out at s₁ out₁ at₁) where
   abbrev n : ℕ
   n = run .stretch .n
-
-  refined-known : (m : ℕ) → known n m s₁ ≡ known n m s
-  unfolding known lspFrom
-  refined-known m = seg-same (n + n) m s s₁ (a .long) (λ i l k. a .others i (omega arith))
 
   refined-side : side run s₁ body ≡ side run s body
   unfolding maximaFrom
@@ -80,12 +76,20 @@ module _ {run : Run} {body : List ℕ} {i m : ℕ} {s out : List ℕ} {at : BitP
   abbrev size : ℕ
   size = run .stretch .n
 
-  pub refining-next : {x : ℕ} {s₂ out₂ : List ℕ} {at₂ : BitPosition} → known size (i + 1) s₁ ≡ known size i s₁ ++ (x ∷ [])
-      → Refined run body (x ∷ []) s₁ out₁ at₁ s₂ out₂ at₂ → Refined run body (known size (i + 1) s) s out at s₂ out₂ at₂
-  refining-next {x} {s₂} {out₂} {at₂} e U =
-      let a : known size i s ++ (x ∷ []) ≡ known size (i + 1) s =
-      sym (sym (refined-known T (i + 1)) ∙ e ∙ ap (λ z. z ++ (x ∷ [])) (refined-known T i)) in
-      subst (λ ps. Refined run body ps s out at s₂ out₂ at₂) a (refined-on T U)
+  module _ {x : ℕ} (e : x ≡ lspAt size i s₁) where
+    refining-is : x ≡ lspAt size i s
+    unfolding lspAt lspFrom
+    refining-is = e ∙ T .others (size + size + i) (omega arith)
+
+    pub refining-inside : Inside run x
+    refining-inside = subst (Inside run) (sym refining-is) (H .inside i more)
+
+    pub refining-next : {s₂ out₂ : List ℕ} {at₂ : BitPosition} → Refined run body (x ∷ []) s₁ out₁ at₁ s₂ out₂ at₂
+        → Refined run body (known size (i + 1) s) s out at s₂ out₂ at₂
+    refining-next {s₂} {out₂} {at₂} U =
+        let a : known size i s ++ (x ∷ []) ≡ known size (i + 1) s =
+        ap (λ (y : ℕ). known size i s ++ (y ∷ [])) refining-is ∙ sym (known-more size i s (H .room) (omega (arith, H .few))) in
+        subst (λ ps. Refined run body ps s out at s₂ out₂ at₂) a (refined-on T U)
 
   pub refining-place : at₁ .at < 2 ^ 62
   refining-place = omega (arith, T .place, H .place, known-length size i s (H .room) (omega (arith, H .few)))

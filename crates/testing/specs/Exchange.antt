@@ -1,6 +1,7 @@
 -- The side of the conversation that the code is: the decoder reads a body and draws coefficients; the coder answers from the words and the maxima in
 -- the level's stretch, and sets bits.
 --
+--   Inside run x        x is a tree number of the level
 --   localWord a vs x    the word of tree number x in values that begin with number a; 0 of a number before it
 --   wordAt run s x      the word of x in the stretch s
 --   largestAt run s e   what the stretch s keeps as the maximum of a set
@@ -46,6 +47,9 @@ reading Reads = true
 
 abbrev pub reads : Run → Bool
 reads run = reading (run .role)
+
+abbrev pub Inside : Run → ℕ → Type 0
+Inside run x = (run .first ≤ x) × (x < run .first + run .stretch .n)
 
 unfoldable pub localWord : ℕ → List ℕ → ℕ → ℕ
 localWord first vs x = cond (leb first x) (getD vs (x - first) 0) 0

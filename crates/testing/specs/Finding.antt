@@ -9,16 +9,13 @@ use Rattle.bits.specs.declared.BitPosition.{BitPosition}
 use Rattle.rules.specs.Document.Pyramid.{mostPlanes}
 use Rattle.rules.specs.Document.Passes.{Course, listing}
 use Rattle.rules.specs.Laws.Pass.Steps.{triedAll, sharpenedAll}
-use Rattle.stretches.specs.Seg.{seg}
 use Rattle.stretches.specs.Cut.{valuesIn, maximaFrom}
 use Rattle.lists.specs.declared.Stretch.{Stretch}
-use Rattle.lists.specs.Lists.{waiting, known, Held, held, Fits}
+use Rattle.lists.specs.Lists.{waiting, known, lipAt, lspAt, Held, held, Fits}
 use Rattle.testing.specs.declared.Run.{Run}
 use Rattle.testing.specs.declared.Stand.{Stand}
 use Rattle.testing.specs.declared.Ends.{Ends}
-use Rattle.testing.specs.declared.Candidates.{Candidates}
-use Rattle.testing.specs.declared.Candidates.the-variants.{Waiting, Four}
-use Rattle.testing.specs.Exchange.{Chan, chan, side, reads, Around, around-none}
+use Rattle.testing.specs.Exchange.{Chan, chan, Inside, side, reads, Around, around-none}
 use Rattle.testing.specs.Growing.{Growth}
 
 -- where a pass stands: the lists that it has made so far, and its side
@@ -46,30 +43,14 @@ movedTo w e =
       at = e .at;
     }
 
--- the coefficients to test, m of them from the i-th on
-abbrev pub fourFrom : ℕ → List ℕ
-fourFrom x = x ∷ (x + 1) ∷ (x + 2) ∷ (x + 3) ∷ []
-
-abbrev pub chosen : ℕ → Candidates → ℕ → ℕ → List ℕ → List ℕ
-chosen n Waiting i m s = waiting n i m s
-chosen n (Four first) i m s = seg i m (fourFrom first)
-
-abbrev pub Choosing : Run → Candidates → ℕ → List ℕ → Type 0
-Choosing run Waiting i s = (4 * run .stretch .n ≤ length s) × (i < run .stretch .n)
-Choosing run (Four first) i s = (i < 4) × (first + 4 < 2 ^ 32)
-
--- What the tests of m of them ask for: LIP must be empty where its own entries are tested, as those that stay are put to its front.
-abbrev pub Suited : Candidates → ℕ → Stand → Type 0
-Suited Waiting m w = w .fill .lip ≤ 0
-Suited (Four first) m w = (m ≤ 4) × (first + 4 < 2 ^ 32)
-
-pub record Testing (run : Run) (from : Candidates) (m : ℕ) (s : List ℕ) (w : Stand) : Type 0 where
+-- m coefficients of the level wait behind LIP, and there is room for them.
+pub record Testing (run : Run) (m : ℕ) (s : List ℕ) (w : Stand) : Type 0 where
   pub plane : run .plane .0 < mostPlanes
   pub size : run .stretch .n < 2 ^ 32
   pub fits : Fits (run .stretch) s (w .fill)
   pub room : w .fill .lip + w .fill .lsp + m ≤ run .stretch .n
   pub place : w .at .at + 2 * m < 2 ^ 62
-  pub suited : Suited from m w
+  pub inside : (i : ℕ) → i < m → Inside run (lipAt (run .stretch .n) (w .fill .lip + i) s)
 
 -- The coefficients ps were tested. What lies ahead in LIP, what was in LSP, and the sets are as they were.
 pub record Tested (run : Run) (body : List ℕ) (ps s out : List ℕ) (w : Stand) (s′ out′ : List ℕ) (r : Stand) : Type 0 where
@@ -121,6 +102,7 @@ pub record Refining (run : Run) (m : ℕ) (s : List ℕ) (at : BitPosition) : Ty
   pub few : m ≤ run .stretch .n
   pub place : at .at + m < 2 ^ 62
   pub growth : reads run ≡ true → Growth (run .first) (run .plane .0) (2 ^ 30) (valuesIn (run .stretch .n) s) (known (run .stretch .n) m s)
+  pub inside : (i : ℕ) → i < m → Inside run (lspAt (run .stretch .n) i s)
 
 -- The coefficients ps were refined: nothing but values has changed.
 pub record Refined (run : Run) (body : List ℕ) (ps s out : List ℕ) (at : BitPosition) (s′ out′ : List ℕ) (r : BitPosition) : Type 0 where

@@ -8,10 +8,10 @@ ghost use lib.ListN.{length};
 ghost use Rattle.rules.specs.Document.Pyramid.{mostPlanes};
 ghost use Rattle.rules.specs.Document.Passes.{bit?, set?, refined};
 ghost use Rattle.bits.specs.Bits.{setBit};
-ghost use Rattle.lists.specs.Lists.{entryOf, indexOf, known, Fits};
-ghost use Rattle.testing.specs.Exchange.{wordAt, largestAt, side, Replied, Noted, reads, Silent};
+ghost use Rattle.lists.specs.Lists.{entryOf, indexOf, waiting, known, Fits};
+ghost use Rattle.testing.specs.Exchange.{Inside, wordAt, largestAt, side, Replied, Noted, reads, Silent};
 ghost use Rattle.testing.specs.Telling.{SaidFound, ReadFound, Answered, NotedBy};
-ghost use Rattle.testing.specs.Finding.{endsOf, movedTo, chosen, Choosing, Testing, Tested, Refining, Refined};
+ghost use Rattle.testing.specs.Finding.{endsOf, movedTo, Testing, Tested, Refining, Refined};
 use bits::BitPosition;
 use bits::BitRead;
 use lists::Fill;
@@ -65,12 +65,6 @@ pub struct Told {
     pub next: BitPosition,
 }
 
-// Coefficients to test: those at the front of LIP, or the four from a tree number on.
-pub enum Candidates {
-    Waiting,
-    Four(usize),
-}
-
 // The coder's reply, written as the next bit.
 fn say(out: &mut [u8], at: BitPosition, bit: bool) -> BitRead
     requires { ⌜ at .at < 2 ^ 62 ⌝ }
@@ -80,14 +74,11 @@ fn say(out: &mut [u8], at: BitPosition, bit: bool) -> BitRead
     BitRead { bit, next }
 }
 
-// The word of a coefficient of the level; 0 of any other.
+// The word of a coefficient of the level.
 fn word_at(run: Run, s: &[u32], x: usize) -> u32
-    requires { ⌜ 4 * run .stretch .n ≤ length (now s) ⌝ }
+    requires { ⌜ (4 * run .stretch .n ≤ length (now s)) × Inside run x ⌝ }
     ensures { λ r. ⌜ r ≡ wordAt run (now (s .entry)) x ⌝ }
 {
-    if x < run.first {
-        return 0;
-    }
     stretches::value_at(s, run.stretch.n, x - run.first)
 }
 
@@ -134,7 +125,7 @@ fn read_found(body: &[u8], at: BitPosition) -> Told
 
 // Whether a coefficient is significant and, if so, negative.
 fn ask_found(run: Run, body: &[u8], s: &[u32], out: &mut [u8], at: BitPosition, x: usize) -> Told
-    requires { ⌜ (at .at + 2 < 2 ^ 62) × (run .plane .0 < mostPlanes) × (4 * run .stretch .n ≤ length (now s)) ⌝ }
+    requires { ⌜ (at .at + 2 < 2 ^ 62) × (run .plane .0 < mostPlanes) × (4 * run .stretch .n ≤ length (now s)) × Inside run x ⌝ }
     ensures { λ r. ⌜ Answered (side run (now (s .entry)) (now (body .entry))) x (now (out .entry)) at r (now (out .exit)) ⌝ }
 {
     let role = run.role;
@@ -149,7 +140,7 @@ fn ask_found(run: Run, body: &[u8], s: &[u32], out: &mut [u8], at: BitPosition, 
 }
 
 fn ask_bit(run: Run, body: &[u8], s: &[u32], out: &mut [u8], at: BitPosition, x: usize) -> BitRead
-    requires { ⌜ (at .at < 2 ^ 62) × (run .plane .0 < mostPlanes) × (4 * run .stretch .n ≤ length (now s)) ⌝ }
+    requires { ⌜ (at .at < 2 ^ 62) × (run .plane .0 < mostPlanes) × (4 * run .stretch .n ≤ length (now s)) × Inside run x ⌝ }
     ensures { λ r. ⌜ Replied (side run (now (s .entry)) (now (body .entry))) (bit? x) (now (out .entry)) at r (now (out .exit)) ⌝ }
 {
     let role = run.role;
@@ -211,7 +202,8 @@ fn note_tested(
     found: bool,
     negative: bool,
 )
-    requires { ⌜ (run .plane .0 < mostPlanes) × Fits (run .stretch) (now s) f × (run .stretch .n < 2 ^ 32) × (f .lip < run .stretch .n) ⌝ }
+    requires { ⌜ (run .plane .0 < mostPlanes) × Fits (run .stretch) (now s) f × (run .stretch .n < 2 ^ 32) × (f .lip < run .stretch .n)
+        × Inside run x ⌝ }
     ensures { λ _. ⌜ NotedBy found run (at .at) x negative f (now (s .entry)) (now (s .exit)) ⌝ }
 {
     let role = run.role;
@@ -219,11 +211,9 @@ fn note_tested(
         Role::Codes => {}
         Role::Reads => {
             if at.at <= run.until.at {
-                if run.first <= x {
-                    let word = coefficients::found_word(negative, run.plane);
-                    let spare = lists::lip_end(run.stretch, f);
-                    stretches::set_value_or(s, run.stretch.n, x - run.first, word, found, spare);
-                }
+                let word = coefficients::found_word(negative, run.plane);
+                let spare = lists::lip_end(run.stretch, f);
+                stretches::set_value_or(s, run.stretch.n, x - run.first, word, found, spare);
             }
         }
     }
@@ -233,19 +223,17 @@ fn note_tested(
 // each is needed.
 fn note_refined(run: Run, s: &mut [u32], at: BitPosition, x: usize, bit: bool)
     requires { ⌜ (run .plane .0 < mostPlanes) × (4 * run .stretch .n ≤ length (now s)) × (reads run ≡ true → wordAt run (now s) x < 2 ^ 30)
-        × (reads run ≡ true → run .until .at < at .at → bit ≡ false) ⌝ }
+        × (reads run ≡ true → run .until .at < at .at → bit ≡ false) × Inside run x ⌝ }
     ensures { λ _. ⌜ Noted run (at .at) (refined x bit) (now (s .entry)) (now (s .exit)) ⌝ }
 {
     let role = run.role;
     match role {
         Role::Codes => {}
         Role::Reads => {
-            if run.first <= x {
-                let i = x - run.first;
-                let old = stretches::value_at(s, run.stretch.n, i);
-                let word = coefficients::refined_word(old, bit, run.plane);
-                stretches::set_value(s, run.stretch.n, i, word);
-            }
+            let i = x - run.first;
+            let old = stretches::value_at(s, run.stretch.n, i);
+            let word = coefficients::refined_word(old, bit, run.plane);
+            stretches::set_value(s, run.stretch.n, i, word);
         }
     }
 }
@@ -276,7 +264,7 @@ pub fn moved_to(w: Stand, e: Ends) -> Stand
 // A coefficient is tested: its bits, and its place at the end of LSP or of LIP.
 fn test(run: Run, body: &[u8], s: &mut [u32], w: Stand, out: &mut [u8], x: usize) -> Ends
     requires { ⌜ (run .plane .0 < mostPlanes) × Fits (run .stretch) (now s) (w .fill) × (run .stretch .n < 2 ^ 32)
-        × (w .fill .lip + w .fill .lsp < run .stretch .n) × (w .at .at + 2 < 2 ^ 62) × (x < 2 ^ 32) ⌝ }
+        × (w .fill .lip + w .fill .lsp < run .stretch .n) × (w .at .at + 2 < 2 ^ 62) × (x < 2 ^ 32) × Inside run x ⌝ }
     ensures { λ r. ⌜ Tested run (now (body .entry)) (x ∷ []) (now (s .entry)) (now (out .entry)) w (now (s .exit)) (now (out .exit)) (movedTo w r) ⌝ }
 {
     let told = ask_found(run, body, s, out, w.at, x);
@@ -286,35 +274,18 @@ fn test(run: Run, body: &[u8], s: &mut [u32], w: Stand, out: &mut [u8], x: usize
     ends_of(Stand { fill, at })
 }
 
-// The i-th of the coefficients to test.
-fn candidate(run: Run, s: &[u32], from: Candidates, i: usize) -> usize
-    requires { ⌜ Choosing run from i (now s) ⌝ }
-    ensures { λ r. ⌜ (chosen (run .stretch .n) from i 1 (now (s .entry)) ≡ r ∷ []) × (r < 2 ^ 32) ⌝ }
-{
-    match from {
-        Candidates::Waiting => lists::lip_at(s, run.stretch.n, i),
-        Candidates::Four(first) => first + i,
-    }
-}
-
-// Step 1, and the offspring of an opened set: m coefficients are tested, in order. LIP's entries that stay are put back to its front.
-pub fn test_each(
-    run: Run,
-    body: &[u8],
-    s: &mut [u32],
-    w: Stand,
-    out: &mut [u8],
-    from: Candidates,
-    m: usize,
-) -> Ends
-    requires { ⌜ Testing run from m (now s) w ⌝ }
-    ensures { λ r. ⌜ Tested run (now (body .entry)) (chosen (run .stretch .n) from 0 m (now (s .entry))) (now (s .entry)) (now (out .entry)) w
+// Step 1, and the offspring of an opened set: the m coefficients that wait behind LIP are tested, in order. Those that stay are put to its end, which
+// never passes the next one that waits.
+pub fn test_each(run: Run, body: &[u8], s: &mut [u32], w: Stand, out: &mut [u8], m: usize) -> Ends
+    requires { ⌜ Testing run m (now s) w ⌝ }
+    ensures { λ r. ⌜ Tested run (now (body .entry)) (waiting (run .stretch .n) (w .fill .lip) m (now (s .entry))) (now (s .entry)) (now (out .entry)) w
         (now (s .exit)) (now (out .exit)) (movedTo w r) ⌝ }
 {
     let mut r = ends_of(w);
+    let first = w.fill.lip;
     let mut i = 0;
     while i < m {
-        let x = candidate(run, s, from, i);
+        let x = lists::lip_at(s, run.stretch.n, first + i);
         i += 1;
         r = test(run, body, s, moved_to(w, r), out, x);
     }
@@ -331,7 +302,7 @@ fn refine(
     x: usize,
 ) -> BitPosition
     requires { ⌜ (at .at < 2 ^ 62) × (run .plane .0 < mostPlanes) × (4 * run .stretch .n ≤ length (now s))
-        × (reads run ≡ true → wordAt run (now s) x < 2 ^ 30) × Silent run (now body) ⌝ }
+        × (reads run ≡ true → wordAt run (now s) x < 2 ^ 30) × Silent run (now body) × Inside run x ⌝ }
     ensures { λ r. ⌜ Refined run (now (body .entry)) (x ∷ []) (now (s .entry)) (now (out .entry)) at (now (s .exit)) (now (out .exit)) r ⌝ }
 {
     let bit = ask_bit(run, body, s, out, at, x);

@@ -1,6 +1,6 @@
 -- `lists::lip_at` meets its contract.
 use Prim.Native.Nat.{_+_}
-use Rattle.lists.proofs.Laws.{waiting-next}
+use Rattle.lists.proofs.Laws.{lip-read}
 use native.Mathlib.Omega.{arith}
 use Rattle.stretches.specs.Cut.{lipFrom}
 use borrow.Author.Needs.{needs}
@@ -26,10 +26,9 @@ cast-result : tie.Need-cast-result
 cast-result c = omega (arith, c .shared-slice-known2 .given (c .before .lip-from .result + c .before .before .before .args .i))
 
 returns : tie.Need-returns
-unfolding lipFrom
 returns c =
     let word = c .shared-slice-known2 .given (c .before .lip-from .result + c .before .before .before .args .i) in
-    (waiting-next _ _ _ _ (omega arith) (search needs), omega (arith, word))
+    (lip-read _ _ _ _ (omega arith), omega (arith, word))
 
 pub lip-at-spec : {M : Type 1} → statement M
 lip-at-spec =

@@ -1,6 +1,6 @@
 -- `lists::lsp_at` meets its contract.
 use Prim.Native.Nat.{_+_}
-use Rattle.lists.proofs.Laws.{known-more}
+use Rattle.lists.proofs.Laws.{lsp-read}
 use native.Mathlib.Omega.{arith}
 use Rattle.stretches.specs.Cut.{lspFrom}
 use borrow.Author.Needs.{needs}
@@ -26,8 +26,7 @@ cast-result : tie.Need-cast-result
 cast-result c = omega (arith, c .shared-slice-known2 .given (c .before .lsp-from .result + c .before .before .before .args .i))
 
 returns : tie.Need-returns
-unfolding lspFrom
-returns c = known-more _ _ _ _ (omega arith) (search needs)
+returns c = lsp-read _ _ _ _ (omega arith)
 
 pub lsp-at-spec : {M : Type 1} → statement M
 lsp-at-spec =

@@ -1,15 +1,12 @@
 -- `passes::open_a` meets its contract.
-use Rattle.passes.proofs.Sets.{scaled-A, index-A, testing-A, room-A, opened-A-more, opened-A-less}
+use Rattle.passes.proofs.Sets.{index-A, set-room-A, opened-A-more, opened-A-less}
 use Rattle.testing.specs.Finding.{stood}
 use borrow.Author.Needs.{needs}
 use Rattle.passes.proofs.open_a.Statement.{statement}
 use Rattle.passes.proofs.open_a.Tie as tie
 
-mul-t15 : tie.Need-mul-t15
-mul-t15 c = search (needs, scaled-A)
-
-test-each-requires : tie.Need-test-each-requires
-test-each-requires c κs = search (needs, testing-A)
+test-offspring-requires : tie.Need-test-offspring-requires
+test-offspring-requires c κs = search needs
 
 moved-to-requires : tie.Need-moved-to-requires
 moved-to-requires c κs = search needs
@@ -19,8 +16,8 @@ add-set-requires c κs =
     let moving = c .before .before .before in
     let tested = moving .before .before .before .before .before in
     let start = tested .before .before .before .before .before .before in
-    let standing = stood (moving .moved-to .ensures) (tested .test-each .ensures) in
-    (standing .fits, start .pre .proper .size, room-A (start .pre) standing (c .before .if1 .taken), index-A (start .pre))
+    let standing = stood (moving .moved-to .ensures) (tested .test-offspring .ensures) in
+    (standing .fits, start .pre .proper .size, set-room-A (start .pre) standing (c .before .if1 .taken), index-A (start .pre))
 
 same-length : tie.Need-same-length
 same-length c = search needs
@@ -34,7 +31,7 @@ returns c =
     let moving = adding .before .before .before .before in
     let tested = moving .before .before .before .before .before in
     let start = tested .before .before .before .before .before .before in
-    let standing = stood (moving .moved-to .ensures) (tested .test-each .ensures) in
+    let standing = stood (moving .moved-to .ensures) (tested .test-offspring .ensures) in
     opened-A-more (start .pre) standing (adding .before .before .if1 .taken) (adding .add-set .ensures)
 
 same-length-3 : tie.Need-same-length-3
@@ -50,8 +47,7 @@ pub open-a-spec : {M : Type 1} → statement M
 open-a-spec =
     tie.close
     (tie.spec
-    mul-t15
-    test-each-requires
+    test-offspring-requires
     moved-to-requires
     add-set-requires
     same-length

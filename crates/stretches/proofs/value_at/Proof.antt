@@ -1,8 +1,6 @@
 -- `stretches::value_at` meets its contract.
-use Rattle.stretches.proofs.Laws.{value-past}
 use Rattle.stretches.specs.Cut.{values-at}
 use mathlib.Core.Path.{sym}
-use native.Mathlib.Omega.{arith}
 use borrow.Author.Needs.{needs}
 use Rattle.stretches.proofs.value_at.Statement.{statement}
 use Rattle.stretches.proofs.value_at.Tie as tie
@@ -16,8 +14,5 @@ shared-slice-read-result c = search needs
 returns : tie.Need-returns
 returns c = sym (values-at _ _ _ (search needs))
 
-returns-2 : tie.Need-returns-2
-returns-2 c = value-past _ _ _ (search needs) (omega arith)
-
 pub value-at-spec : {M : Type 1} → statement M
-value-at-spec = tie.close (tie.spec mul-result shared-slice-read-result returns returns-2)
+value-at-spec = tie.close (tie.spec mul-result shared-slice-read-result returns)

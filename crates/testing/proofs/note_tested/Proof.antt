@@ -1,5 +1,6 @@
 -- `testing::note_tested` meets its contract.
-use Rattle.testing.proofs.Leaves.{tested-coder, tested-past, tested-outside, tested-drawn, spare-inside}
+use Rattle.testing.proofs.Leaves.{tested-coder, tested-past, tested-drawn, spare-inside}
+use native.Mathlib.Omega.{arith}
 use borrow.Author.Needs.{needs}
 use Rattle.testing.proofs.note_tested.Statement.{statement}
 use Rattle.testing.proofs.note_tested.Tie as tie
@@ -16,12 +17,14 @@ found-word-requires c κs = search needs
 lip-end-requires : tie.Need-lip-end-requires
 lip-end-requires c κs = search needs
 
+sub-set-value-or : tie.Need-sub-set-value-or
+sub-set-value-or c = search needs
+
 set-value-or-requires : tie.Need-set-value-or-requires
 set-value-or-requires c κs =
     let ended = c .before .before in
-    let level = ended .before .before in
-    let start = level .before .before .before .before .before .before .before .before in
-    spare-inside (start .pre .1) (start .pre .3) (ended .lip-end .ensures)
+    let start = ended .before .before .before .before .before .before .before .before .pre in
+    (start .1 .room, omega (arith, start .4), spare-inside (start .1) (start .3) (ended .lip-end .ensures))
 
 returns : tie.Need-returns
 returns c = search (needs, tested-coder)
@@ -33,10 +36,7 @@ returns-2 : tie.Need-returns-2
 returns-2 c = search (needs, tested-drawn)
 
 returns-3 : tie.Need-returns-3
-returns-3 c = search (needs, tested-outside)
-
-returns-4 : tie.Need-returns-4
-returns-4 c = search (needs, tested-past)
+returns-3 c = search (needs, tested-past)
 
 pub note-tested-spec : {M : Type 1} → statement M
 note-tested-spec =
@@ -46,9 +46,9 @@ note-tested-spec =
     enum-told-2
     found-word-requires
     lip-end-requires
+    sub-set-value-or
     set-value-or-requires
     returns
     same-length
     returns-2
-    returns-3
-    returns-4)
+    returns-3)

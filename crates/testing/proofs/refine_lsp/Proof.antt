@@ -5,7 +5,7 @@ use Prim.Native.Nat.{_≤_, _-_}
 use lib.ListN.{length}
 use Rattle.lists.specs.Lists.{known}
 use Rattle.testing.specs.Finding.{Refined}
-use Rattle.testing.proofs.Refining.{refined-none, refining-next, refining-place, refining-small, refined-done}
+use Rattle.testing.proofs.Refining.{refined-none, refining-inside, refining-next, refining-place, refining-small, refined-done}
 use borrow.Author.Needs.{needs}
 use Rattle.testing.proofs.refine_lsp.Statement.{statement}
 use Rattle.testing.proofs.refine_lsp.Tie as tie
@@ -34,7 +34,14 @@ refine-requires c κs =
     let start = turn .before .before .before .before .pre in
     let asked = start .0 in
     let done = turn .loop .inv in
-    (refining-place asked (done .0) (omega arith), asked .plane, omega (arith, asked .room, done .2), refining-small asked (done .0) (done .1) _, start .1)
+    let own = refining-inside asked (done .0) (omega arith) (c .before .before .lsp-at .ensures) in (
+      refining-place asked (done .0) (omega arith),
+      asked .plane,
+      omega (arith, asked .room, done .2),
+      refining-small asked (done .0) (done .1) _,
+      start .1,
+      own,
+    )
 
 loop-less : tie.Need-loop-less Inv-loop μ-loop
 loop-less c = omega arith

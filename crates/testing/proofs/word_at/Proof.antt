@@ -1,17 +1,17 @@
 -- `testing::word_at` meets its contract.
-use Rattle.testing.proofs.Leaves.{word-outside, word-inside}
+use Rattle.testing.proofs.Leaves.{word-inside}
 use borrow.Author.Needs.{needs}
 use Rattle.testing.proofs.word_at.Statement.{statement}
 use Rattle.testing.proofs.word_at.Tie as tie
 
-returns : tie.Need-returns
-returns c = search (needs, word-outside)
+sub-value-at : tie.Need-sub-value-at
+sub-value-at c = search needs
 
 value-at-requires : tie.Need-value-at-requires
 value-at-requires c κs = search needs
 
-returns-2 : tie.Need-returns-2
-returns-2 c = search (needs, word-inside)
+returns : tie.Need-returns
+returns c = search (needs, word-inside)
 
 pub word-at-spec : {M : Type 1} → statement M
-word-at-spec = tie.close (tie.spec returns value-at-requires returns-2)
+word-at-spec = tie.close (tie.spec sub-value-at value-at-requires returns)
