@@ -34,7 +34,7 @@ stage-same : {s s′ : State} {o o′ : List ℕ} {a a′ : ℕ} → s ≡ s′ 
 stage-same e f g = cc
 
 module _ (z : Size) (n : Plane) (k : Level) (work : List ℕ) (p : Progress) (out : List ℕ) (at : BitPosition)
-    (start : at .at ≡ 8 * (p .place + shortHead)) (due : Due z n k work (stageOf z work p out)) where
+    (start : at .at ≡ 8 * (p .place + shortHead)) (due : Due z n k work (p .counts) (stageOf z work p out)) where
   l : legalSize z ≡ true
   l = due .holding .legal
 
@@ -45,6 +45,7 @@ module _ (z : Size) (n : Plane) (k : Level) (work : List ℕ) (p : Progress) (ou
         ready =
             record { legal = l; room = due .holding .room; plane = due .plane; coarser = due .coarser; level = due .level; sound = due .going .sound };
         place = omega (arith, start, due .going .near, area-bound z l);
+        marks = due .holding .marks;
       }
 
   few : (v : List ℤ) → (length (courseC v z n k work (p .counts) .side) ≤ partMost) × (n .0 < 128) × (k .0 < 128)
@@ -96,4 +97,5 @@ module _ (z : Size) (n : Plane) (k : Level) (work : List ℕ) (p : Progress) (ou
 
       pub part-written : Reached z (named n k ∷ []) work (stageOf z work p out) (record { counts = passed .counts; place = end }) work′ out″
       unfolding through
-      part-written = record { same = h .same; stage = λ v held. written v (h .coded v held); holds = λ v held. h .coded v held .holds }
+      part-written =
+          record { same = h .same; stage = λ v held. written v (h .coded v held); holds = λ v held. h .coded v held .holds; marks = h .marks }

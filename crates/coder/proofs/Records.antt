@@ -26,6 +26,7 @@ use Rattle.stretches.specs.Cut.{largestD, largestL}
 use Rattle.stretches.specs.Workspace.{wordIn, measured, Holds}
 use Rattle.placing.specs.Placing.{CopiedIn}
 use Rattle.largest.specs.Filling.{measureIn, Fillable, Filled}
+use Rattle.lists.specs.declared.Role.the-variants.{Codes}
 use Rattle.parts.specs.Standing.{Started, agree-same}
 use Rattle.coder.specs.declared.Progress.{Progress}
 use Rattle.coder.specs.Writing.{Given, Holding, Stage, stageOf, Clear, Going, Reached, headerMost, bytesOfParts, Stored}
@@ -66,7 +67,7 @@ module _ {pyramid : List ℤ} {z : Size} {work : List ℕ} (g : Given pyramid z 
       pub filled-room : workFor z ≤ length filled
       filled-room = omega (arith, g .room, c .same, f .same)
 
-      module _ {counts : Counts} {held : List ℕ} (s : Started z filled counts held) where
+      module _ {counts : Counts} {held : List ℕ} (s : Started Codes z filled counts held) where
         held-holds : Holds z pyramid held
         held-holds =
             record {
@@ -78,9 +79,9 @@ module _ {pyramid : List ℤ} {z : Size} {work : List ℕ} (g : Given pyramid z 
                   };
             }
 
-        pub parts-holding : Holding z held
+        pub parts-holding : Holding z held counts
         parts-holding =
-            record { legal = g .legal; room = omega (arith, filled-room, s .same); pyramid = pyramid; holds = held-holds }
+            record { legal = g .legal; room = omega (arith, filled-room, s .same); pyramid = pyramid; holds = held-holds; marks = s .marks }
 
         pub parts-going : (planes : ℕ) (out : List ℕ) (place : ℕ) → planes ≤ mostPlanes → Clear out place → place ≤ headerMost
             → Going z (levelPlaces * planes) (stageOf z held (record { counts = counts; place = place }) out)

@@ -22,7 +22,9 @@ use Rattle.rules.specs.Document.Calls.{Result, workFor, firstOver, codeOut, cod
 use Rattle.trees.specs.Family.{coefficientOf, trees}
 use Rattle.trees.specs.Sound.{TreeSound}
 use Rattle.stretches.specs.Workspace.{Holds}
-use Rattle.parts.specs.Standing.{stateOf}
+use Rattle.lists.specs.declared.Role.the-variants.{Codes}
+use Rattle.parts.specs.declared.Counts.{Counts}
+use Rattle.parts.specs.Standing.{stateOf, Marks}
 use Rattle.record.specs.Write.{placeMost}
 use Rattle.coder.specs.declared.Progress.{Progress}
 
@@ -49,12 +51,13 @@ pub record Given (pyramid : List ℤ) (z : Size) (work : List ℕ) : Type 0 wher
   pub room : workFor z ≤ length work
   pub range : firstOver mostMagnitude pyramid ≡ length pyramid
 
--- A workspace that holds a pyramid.
-pub record Holding (z : Size) (work : List ℕ) : Type 0 where
+-- A workspace that holds a pyramid, and lists with LIP's entries marked.
+pub record Holding (z : Size) (work : List ℕ) (counts : Counts) : Type 0 where
   pub legal : legalSize z ≡ true
   pub room : workFor z ≤ length work
   pub pyramid : List ℤ
   pub holds : Holds z pyramid work
+  pub marks : Marks Codes z work counts
 
 -- No header and no part has more bytes; no part begins behind this place.
 abbrev pub headerMost : ℕ
@@ -107,8 +110,8 @@ pub record Going (z : Size) (m : ℕ) (x : Stage) : Type 0 where
   pub near : x .place + bytesMost * m ≤ placeMost
 
 -- A part is due at the stage x.
-pub record Due (z : Size) (n : Plane) (k : Level) (work : List ℕ) (x : Stage) : Type 0 where
-  pub holding : Holding z work
+pub record Due (z : Size) (n : Plane) (k : Level) (work : List ℕ) (counts : Counts) (x : Stage) : Type 0 where
+  pub holding : Holding z work counts
   pub plane : n .0 < mostPlanes
   pub coarser : 1 ≤ k .0
   pub level : k .0 ≤ levels z
@@ -119,6 +122,7 @@ pub record Reached (z : Size) (ps : List PartName) (work : List ℕ) (x : Stage)
   pub same : length work′ ≡ length work
   pub stage : (v : List ℤ) → Holds z v work → stageOf z work′ p out′ ≡ through v z ps x
   pub holds : (v : List ℤ) → Holds z v work → Holds z v work′
+  pub marks : Marks Codes z work′ (p .counts)
 
 -- Bytes stored from a place on, as many as there is room for, and the place after them.
 pub record Stored (out : List ℕ) (at : ℕ) (bytes : List ℕ) (end : ℕ) (out′ : List ℕ) : Type 0 where

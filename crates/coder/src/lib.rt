@@ -15,6 +15,7 @@ ghost use Rattle.parts.specs.Standing.{named};
 ghost use Rattle.coder.specs.Writing.{Answered, judgedInput, Given, Holding, headerMost};
 ghost use Rattle.coder.specs.Writing.{stageOf, Clear, Going, Due, Reached, bytesOfParts, Stored};
 use bits::BitPosition;
+use lists::Role;
 use parts::Counts;
 use record::write;
 use rules::Coded;
@@ -79,7 +80,7 @@ fn write_part(
     work: &mut [u32],
     progress: Progress,
 ) -> Progress
-    requires { ⌜ Due z plane level (now work) (stageOf z (now work) progress (now out)) ⌝ }
+    requires { ⌜ Due z plane level (now work) (progress .counts) (stageOf z (now work) progress (now out)) ⌝ }
     ensures { λ r.
         ⌜ Reached z (named plane level ∷ []) (now (work .entry)) (stageOf z (now (work .entry)) progress (now (out .entry)))
         r (now (work .exit)) (now (out .exit)) ⌝ }
@@ -113,7 +114,7 @@ fn write_plane(
     work: &mut [u32],
     progress: Progress,
 ) -> Progress
-    requires { ⌜ Holding z (now work) × (plane .0 < mostPlanes) × Going z levelPlaces (stageOf z (now work) progress (now out)) ⌝ }
+    requires { ⌜ Holding z (now work) (progress .counts) × (plane .0 < mostPlanes) × Going z levelPlaces (stageOf z (now work) progress (now out)) ⌝ }
     ensures { λ r.
         ⌜ Reached z (partsOfPlane (plane .0) (levels z)) (now (work .entry)) (stageOf z (now (work .entry)) progress (now (out .entry)))
         r (now (work .exit)) (now (out .exit)) ⌝ }
@@ -135,7 +136,7 @@ fn write_planes(
     work: &mut [u32],
     progress: Progress,
 ) -> Progress
-    requires { ⌜ Holding z (now work) × (planes ≤ mostPlanes) × Going z (levelPlaces * planes) (stageOf z (now work) progress (now out)) ⌝ }
+    requires { ⌜ Holding z (now work) (progress .counts) × (planes ≤ mostPlanes) × Going z (levelPlaces * planes) (stageOf z (now work) progress (now out)) ⌝ }
     ensures { λ r.
         ⌜ Reached z (partNames (levels z) planes) (now (work .entry)) (stageOf z (now (work .entry)) progress (now (out .entry)))
         r (now (work .exit)) (now (out .exit)) ⌝ }
@@ -164,7 +165,7 @@ fn write_parts(
 {
     placing::copy_in(pyramid, z, work);
     largest::fill(z, work);
-    let counts = parts::start(z, work);
+    let counts = parts::start(Role::Codes, z, work);
     let end = write_planes(z, planes, out, work, Progress { counts, place });
     end.place
 }

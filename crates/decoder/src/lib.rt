@@ -11,6 +11,7 @@ ghost use Rattle.decoder.specs.Walking.{Begun, Past, Drawing, Drawn, Tak
 ghost use Rattle.decoder.specs.Walking.{Standing, Turned, Walking};
 ghost use Rattle.decoder.specs.Walking.{Lent, Answered, Refusing, Accepting};
 use bits::BitPosition;
+use lists::Role;
 use parts::Counts;
 use parts::Passed;
 use record::read;
@@ -52,7 +53,7 @@ fn first_walk(h: Header, work: &mut [u32]) -> Walk
     requires { ⌜ Roomy (h .size) (now work) ⌝ }
     ensures { λ r. ⌜ Begun h (now (work .entry)) r (now (work .exit)) ⌝ }
 {
-    let counts = parts::start(h.size, work);
+    let counts = parts::start(Role::Reads, h.size, work);
     Walk {
         cursor: Cursor::first(h),
         reached: reached::none_reached(h),

@@ -3,20 +3,26 @@ use mathlib.Core.Path.{_≡_, refl, sym, ap, ap₂, _∙_, subst}
 use mathlib.Core.Bool.{Bool, true, false, cond}
 use mir.Val.{boolByte}
 use mathlib.Core.List.{List, [], _∷_, _++_, map, map-append, append-assoc}
-use Prim.Native.Nat.{ℕ, _+_, _-_, _*_, _/_, _%_, _≤_, _<_}
+use Prim.Native.Nat.{ℕ, _+_, _-_, _*_, _/_, _%_, _^_, _≤_, _<_}
+use lib.Pow.{pow-mono}
 use native.Mathlib.Nat.{zero-add}
 use native.Mathlib.Omega.{arith}
+use native.Mathlib.Decide.{decLt}
 use borrow.Author.Tests.{eq-eqb, ne-eqb}
 use lib.ListN.{length, getD, set, take, drop, length-set, length-append}
-use lib.Seq.{getD-set-other, take-at, drop-at}
+use lib.Seq.{getD-set-same, getD-set-other, take-at, drop-at}
+use Rattle.rules.specs.Document.Pyramid.{planesOf}
 use Rattle.rules.specs.Document.Passes.{Entry, typeA, typeB}
+use Rattle.rules.specs.Laws.Rounding.Planes.{planesOf-counts}
 use Rattle.stretches.specs.Seg.{seg, seg-cons, seg-below, seg-above, seg-snoc}
-use Rattle.stretches.specs.Cut.{setRoom, lipFrom, lspFrom, lisFrom, maximaFrom}
+use Rattle.stretches.specs.Cut.{setRoom, lipFrom, lspFrom, lisFrom, maximaFrom, valuesIn, values-at}
+use Rattle.lists.specs.declared.Role.the-variants.{Reads}
 use Rattle.lists.specs.declared.Stretch.{Stretch}
 use Rattle.lists.specs.declared.Fill.{Fill}
-use Rattle.lists.specs.Lists.{entry, fourFrom, sets, waiting, known, lipAt, lspAt, Held, held, Fits, Beside, LipPushed, LspPushed, PushedBy, LinedUp}
+use Rattle.lists.specs.Lists.{coefficient, markOf, Marked, Inside, entry, fourFrom, sets, waiting, known, lipAt, lspAt, Held, held, Fits, Beside}
+use Rattle.lists.specs.Lists.{LipPushed, LspPushed, PushedBy, raised, LinedUp}
 use Rattle.lists.specs.Lists.{NextSet, SetAdded, SetKept, SetMoved, waiting-add, waiting-length}
-use Rattle.lists.specs.Besides.{held-same, beside-then}
+use Rattle.lists.specs.Besides.{held-same, beside-then, marked-same, marked-none, marks-kept}
 
 -- entry
 pub entry-even : (m : ℕ) → m % 2 ≡ 0 → entry m ≡ typeA (m / 2)
@@ -33,23 +39,56 @@ entry-A p = entry-even (p * 2) (omega arith) ∙ ap typeA (omega arith)
 pub entry-B : (p : ℕ) → entry (p * 2 + 1) ≡ typeB p
 entry-B p = entry-odd (p * 2 + 1) (λ e. omega arith) ∙ ap typeB (omega arith)
 
--- sets
-sets-below : (b m : ℕ) (s : List ℕ) (i a : ℕ) → i < b → sets b m (set s i a) ≡ sets b m s
-unfolding sets
-sets-below b m s i a h = ap (map entry) (seg-below b m s i a h)
+-- a list of what entries stand for, and a store before it, behind it and at its end; its first
+module _ {X : Type 0} (f : ℕ → X) (b m : ℕ) (s : List ℕ) where
+  below : (i a : ℕ) → i < b → map f (seg b m (set s i a)) ≡ map f (seg b m s)
+  below i a h = ap (map f) (seg-below b m s i a h)
 
-sets-above : (b m : ℕ) (s : List ℕ) (i a : ℕ) → b + m ≤ i → sets b m (set s i a) ≡ sets b m s
-unfolding sets
-sets-above b m s i a h = ap (map entry) (seg-above b m s i a h)
+  above : (i a : ℕ) → b + m ≤ i → map f (seg b m (set s i a)) ≡ map f (seg b m s)
+  above i a h = ap (map f) (seg-above b m s i a h)
 
-sets-snoc : (b m : ℕ) (s : List ℕ) (i a : ℕ) (e : Entry) → entry a ≡ e → i ≡ b + m → i < length s → sets b (m + 1) (set s i a) ≡ sets b m s ++ (e ∷ [])
-unfolding sets
-sets-snoc b m s i a e q j h =
-    ap (map entry) (seg-snoc b m s i a j h) ∙ map-append entry (seg b m s) (a ∷ []) ∙ ap (λ x. map entry (seg b m s) ++ (x ∷ [])) q
+  snoc : (i a : ℕ) (e : X) → f a ≡ e → i ≡ b + m → i < length s → map f (seg b (m + 1) (set s i a)) ≡ map f (seg b m s) ++ (e ∷ [])
+  snoc i a e q j h =
+      ap (map f) (seg-snoc b m s i a j h) ∙ map-append f (seg b m s) (a ∷ []) ∙ ap (λ x. map f (seg b m s) ++ (x ∷ [])) q
 
 sets-cons : (b c m : ℕ) (s : List ℕ) (e : Entry) → entry (getD s b 0) ≡ e → c ≡ b + 1 → b < length s → 0 < m → sets b m s ≡ e ∷ sets c (m - 1) s
 unfolding sets
 sets-cons b c m s e q j h l = ap (map entry) (seg-cons b m s h l) ∙ rw (q, j)
+
+-- a mark, and an entry with it or without
+planes-few : (m : ℕ) → m < 2 ^ 31 → planesOf m < 32
+planes-few m h = by (decLt (planesOf m) 32)
+  where
+    by : Dec (planesOf m < 32) → planesOf m < 32
+    by (yes l) = l
+    by (no l) = absurd (omega (arith, planesOf-counts m (omega arith) .least, pow-mono {i = 32} {j = planesOf m} (omega arith)))
+
+pub mark-planes : {p : ℕ} (w : ℕ) → w < 2 ^ 32 → p ≡ planesOf (w / 2) → p < 32
+mark-planes w h e = omega (arith, planes-few (w / 2) (omega arith))
+
+pub mark-made : {p : ℕ} (w : ℕ) → w < 2 ^ 32 → p ≡ planesOf (w / 2) → (2 * p + w % 2 ≡ markOf w) × (2 * p + w % 2 < 64)
+unfolding markOf
+mark-made w h e = (rw e, omega (arith, mark-planes w h e))
+
+module _ (t : Stretch) (s : List ℕ) (x : ℕ) (small : x < 2 ^ 26) where
+  pub unmarked-made : t .role ≡ Reads → (coefficient (64 * x) ≡ x) × (64 * x < 2 ^ 32) × Marked t s (64 * x)
+  unfolding coefficient
+  unmarked-made r = (omega arith, omega arith, marked-none r)
+
+  pub marked-made : {v m : ℕ} → Inside t x → v ≡ getD (valuesIn (t .n) s) (x - t .first) 0 → (m ≡ markOf v) × (m < 64)
+      → (coefficient (64 * x + m) ≡ x) × (64 * x + m < 2 ^ 32) × Marked t s (64 * x + m)
+  unfolding coefficient
+  marked-made {v} {m} i e k =
+      let at : (64 * x + m) / 64 ≡ x = omega (arith, k .1) in (
+        at,
+        omega (arith, k .1),
+        record {
+          inside = λ c. (omega (arith, at, i .0), omega (arith, at, i .1));
+          mark =
+              λ c. omega (arith, k .1) ∙ k .0 ∙ ap markOf (e ∙ values-at (t .n) s (x - t .first) (omega (arith, i .0, i .1)))
+              ∙ ap (λ (y : ℕ). markOf (getD s (y - t .first) 0)) (sym at);
+        },
+      )
 
 -- an entry read
 pub lip-read : (n i at : ℕ) (s : List ℕ) → at ≡ lipFrom n + i → getD s at 0 ≡ lipAt n i s
@@ -83,39 +122,58 @@ module _ (t : Stretch) (s : List ℕ) (f : Fill) (h : Fits t s f) where
         rest = λ j k. getD-set-other s i j a 0 (λ x. omega arith);
       }
 
-  pub push-lip-law : (p i : ℕ) → i ≡ lipFrom (t .n) + f .lip → f .lip < t .n
-      → LipPushed t s f p (set s i p)
+  -- LIP's entries stay marked, and so does one more
+  still-marked : (i a : ℕ) → t .n + f .lip ≤ i → (j : ℕ) → j < f .lip → Marked t (set s i a) (lipAt (t .n) j (set s i a))
+  unfolding lipAt lipFrom
+  still-marked i a l =
+      marks-kept (λ c j k. getD-set-other s i j a 0 (λ x. omega arith)) (λ j k. getD-set-other s i (t .n + j) a 0 (λ x. omega arith)) (h .marked)
+
+  one-more-marked : (i e : ℕ) → Marked t s e → i ≡ t .n + f .lip → i < length s → (j : ℕ) → j < f .lip + 1
+      → Marked t (set s i e) (lipAt (t .n) j (set s i e))
+  unfolding lipAt lipFrom
+  one-more-marked i e m q r j l = by (decLt j (f .lip))
+    where
+      by : Dec (j < f .lip) → Marked t (set s i e) (getD (set s i e) (t .n + j) 0)
+      by (yes k) = still-marked i e (omega arith) j k
+      by (no k) =
+          let at : t .n + j ≡ i = omega arith in
+          subst (Marked t (set s i e)) (sym (ap (λ (x : ℕ). getD (set s i e) x 0) at ∙ getD-set-same s i e 0 r))
+          (marked-same (λ c x y. getD-set-other s i x e 0 (λ z. omega arith)) m)
+
+  pub push-lip-law : {x : ℕ} (e i : ℕ) → coefficient e ≡ x → Marked t s e → i ≡ lipFrom (t .n) + f .lip → f .lip < t .n
+      → LipPushed t s f x (set s i e)
       (record { lip = f .lip + 1; lsp = f .lsp; kept = f .kept; visited = f .visited; left = f .left; moved = f .moved })
-  unfolding held waiting known lipFrom lspFrom lisFrom maximaFrom
-  push-lip-law p i j l =
+  unfolding held waiting known sets lipAt lipFrom lspFrom lisFrom maximaFrom
+  push-lip-law {x} e i q m j l =
       let n : ℕ = t .n in
       let room = h .room in
       let out = h .behind in
       record {
         fill = refl;
         holds =
-            held-same (seg-snoc (n + 0) (f .lip) s i p (omega arith) (omega arith)) (seg-below (n + n) (f .lsp) s i p (omega arith))
-            (sets-below (n + n + n) (f .kept) s i p (omega arith)) (sets-below (n + n + n + f .visited) (f .left) s i p (omega arith))
-            (sets-below (t .away) (f .moved) s i p (omega arith));
+            held-same (snoc coefficient (n + 0) (f .lip) s i e x q (omega arith) (omega arith)) (below coefficient (n + n) (f .lsp) s i e (omega arith))
+            (below entry (n + n + n) (f .kept) s i e (omega arith)) (below entry (n + n + n + f .visited) (f .left) s i e (omega arith))
+            (below entry (t .away) (f .moved) s i e (omega arith));
         fits = record {
-          room = rw (length-set s i p) room;
+          room = rw (length-set s i e) room;
+          marked = one-more-marked i e m (omega arith) (omega arith);
           lip = omega arith;
           lsp = h .lsp;
           kept = h .kept;
           visits = h .visits;
           behind = out;
-          moved = rw (length-set s i p) (h .moved);
+          moved = rw (length-set s i e) (h .moved);
         };
-        beside = listed-beside (f .moved) i p (omega arith) (omega arith);
-        ahead = λ b m a e. seg-below (n + b) m s i p (omega arith);
-        known = λ m a. seg-below (n + n) m s i p (omega arith);
+        beside = listed-beside (f .moved) i e (omega arith) (omega arith);
+        ahead = λ b a c. getD-set-other s i (n + b) e 0 (λ y. omega arith);
+        known = λ b a. below coefficient (n + n) b s i e (omega arith);
       }
 
-  pub push-lsp-law : (p i : ℕ) → i ≡ lspFrom (t .n) + f .lsp → f .lsp < t .n
-      → LspPushed t s f p (set s i p)
+  pub push-lsp-law : {x : ℕ} (e i : ℕ) → coefficient e ≡ x → i ≡ lspFrom (t .n) + f .lsp → f .lsp < t .n
+      → LspPushed t s f x (set s i e)
       (record { lip = f .lip; lsp = f .lsp + 1; kept = f .kept; visited = f .visited; left = f .left; moved = f .moved })
-  unfolding held waiting known lipFrom lspFrom lisFrom maximaFrom
-  push-lsp-law p i j l =
+  unfolding held waiting known sets lipAt lipFrom lspFrom lisFrom maximaFrom
+  push-lsp-law {x} e i q j l =
       let n : ℕ = t .n in
       let room = h .room in
       let out = h .behind in
@@ -123,21 +181,22 @@ module _ (t : Stretch) (s : List ℕ) (f : Fill) (h : Fits t s f) where
       record {
         fill = refl;
         holds =
-            held-same (seg-above (n + 0) (f .lip) s i p (omega arith)) (seg-snoc (n + n) (f .lsp) s i p j (omega arith))
-            (sets-below (n + n + n) (f .kept) s i p (omega arith)) (sets-below (n + n + n + f .visited) (f .left) s i p (omega arith))
-            (sets-below (t .away) (f .moved) s i p (omega arith));
+            held-same (above coefficient (n + 0) (f .lip) s i e (omega arith)) (snoc coefficient (n + n) (f .lsp) s i e x q j (omega arith))
+            (below entry (n + n + n) (f .kept) s i e (omega arith)) (below entry (n + n + n + f .visited) (f .left) s i e (omega arith))
+            (below entry (t .away) (f .moved) s i e (omega arith));
         fits = record {
-          room = rw (length-set s i p) room;
+          room = rw (length-set s i e) room;
+          marked = still-marked i e (omega arith);
           lip = a;
           lsp = omega arith;
           kept = h .kept;
           visits = h .visits;
           behind = out;
-          moved = rw (length-set s i p) (h .moved);
+          moved = rw (length-set s i e) (h .moved);
         };
-        beside = listed-beside (f .moved) i p (omega arith) (omega arith);
-        ahead = λ b m a e. seg-above (n + b) m s i p (omega arith);
-        known = λ m a. seg-above (n + n) m s i p (omega arith);
+        beside = listed-beside (f .moved) i e (omega arith) (omega arith);
+        ahead = λ b a c. getD-set-other s i (n + b) e 0 (λ y. omega arith);
+        known = λ m a. above coefficient (n + n) m s i e (omega arith);
       }
 
   -- the end of the one list or the other, by a bit
@@ -151,16 +210,16 @@ module _ (t : Stretch) (s : List ℕ) (f : Fill) (h : Fits t s f) where
         by true d = omega (arith, h .room)
         by false d = omega (arith, h .room)
 
-    pub push-by-law : (p : ℕ) → PushedBy b t s f p (set s i p)
+    pub push-by-law : {x : ℕ} (p : ℕ) → coefficient p ≡ x → Marked t s p → PushedBy b t s f x (set s i p)
         (record { lip = f .lip + 1 - boolByte b; lsp = f .lsp + boolByte b; kept = f .kept; visited = f .visited; left = f .left; moved = f .moved })
-    push-by-law p =
+    push-by-law {x} p q m =
         record {
           to-lsp =
-              λ x. subst (λ r. LspPushed t s f p (set s i p) r) (ap₂ filled (omega (arith, ap boolByte x)) (omega (arith, ap boolByte x)))
-              (push-lsp-law p i (e ∙ ap (λ c. cond c lsp lip) x ∙ at-lsp) (omega arith));
+              λ y. subst (λ r. LspPushed t s f x (set s i p) r) (ap₂ filled (omega (arith, ap boolByte y)) (omega (arith, ap boolByte y)))
+              (push-lsp-law p i q (e ∙ ap (λ c. cond c lsp lip) y ∙ at-lsp) (omega arith));
           to-lip =
-              λ x. subst (λ r. LipPushed t s f p (set s i p) r) (ap₂ filled (omega (arith, ap boolByte x)) (omega (arith, ap boolByte x)))
-              (push-lip-law p i (e ∙ ap (λ c. cond c lsp lip) x ∙ at-lip) (omega arith));
+              λ y. subst (λ r. LipPushed t s f x (set s i p) r) (ap₂ filled (omega (arith, ap boolByte y)) (omega (arith, ap boolByte y)))
+              (push-lip-law p i q m (e ∙ ap (λ c. cond c lsp lip) y ∙ at-lip) (omega arith));
         }
       where
         filled : ℕ → ℕ → Fill
@@ -178,6 +237,7 @@ module _ (t : Stretch) (s : List ℕ) (f : Fill) (h : Fits t s f) where
             (rw (← j) (sets-cons i (n + n + n + (f .visited + 1)) (f .left) s e q (omega arith) (omega arith) l)) refl;
         fits = record {
           room = room;
+          marked = h .marked;
           lip = h .lip;
           lsp = h .lsp;
           kept = omega (arith, h .kept);
@@ -191,7 +251,7 @@ module _ (t : Stretch) (s : List ℕ) (f : Fill) (h : Fits t s f) where
     pub add-set-law : (i : ℕ) → i ≡ lisFrom (t .n) + f .visited + f .left → f .visited + f .left < setRoom (t .n)
         → SetAdded t s f e (set s i a)
         (record { lip = f .lip; lsp = f .lsp; kept = f .kept; visited = f .visited; left = f .left + 1; moved = f .moved })
-    unfolding held waiting known lipFrom lspFrom lisFrom maximaFrom setRoom
+    unfolding held waiting known sets lipFrom lspFrom lisFrom maximaFrom setRoom
     add-set-law i j l =
         let n : ℕ = t .n in
         let room = h .room in
@@ -202,12 +262,13 @@ module _ (t : Stretch) (s : List ℕ) (f : Fill) (h : Fits t s f) where
         record {
           fill = refl;
           holds =
-              held-same (seg-above (n + 0) (f .lip) s i a (omega arith)) (seg-above (n + n) (f .lsp) s i a (omega arith))
-              (sets-above (n + n + n) (f .kept) s i a (omega arith))
-              (sets-snoc (n + n + n + f .visited) (f .left) s i a e q j (omega arith))
-              (sets-below (t .away) (f .moved) s i a (omega arith));
+              held-same (above coefficient (n + 0) (f .lip) s i a (omega arith)) (above coefficient (n + n) (f .lsp) s i a (omega arith))
+              (above entry (n + n + n) (f .kept) s i a (omega arith))
+              (snoc entry (n + n + n + f .visited) (f .left) s i a e q j (omega arith))
+              (below entry (t .away) (f .moved) s i a (omega arith));
           fits = record {
             room = rw (length-set s i a) room;
+            marked = still-marked i a (omega arith);
             lip = b;
             lsp = c;
             kept = d;
@@ -216,13 +277,13 @@ module _ (t : Stretch) (s : List ℕ) (f : Fill) (h : Fits t s f) where
             moved = rw (length-set s i a) (h .moved);
           };
           beside = listed-beside (f .moved) i a (omega arith) (omega arith);
-          known = λ m g. seg-above (n + n) m s i a (omega arith);
+          known = λ m g. above coefficient (n + n) m s i a (omega arith);
         }
 
     pub keep-set-law : (i : ℕ) → i ≡ lisFrom (t .n) + f .kept → f .kept < f .visited
         → SetKept t s f e (set s i a)
         (record { lip = f .lip; lsp = f .lsp; kept = f .kept + 1; visited = f .visited; left = f .left; moved = f .moved })
-    unfolding held waiting known lipFrom lspFrom lisFrom maximaFrom setRoom
+    unfolding held waiting known sets lipFrom lspFrom lisFrom maximaFrom setRoom
     keep-set-law i j l =
         let n : ℕ = t .n in
         let room = h .room in
@@ -233,12 +294,13 @@ module _ (t : Stretch) (s : List ℕ) (f : Fill) (h : Fits t s f) where
         record {
           fill = refl;
           holds =
-              held-same (seg-above (n + 0) (f .lip) s i a (omega arith)) (seg-above (n + n) (f .lsp) s i a (omega arith))
-              (sets-snoc (n + n + n) (f .kept) s i a e q j (omega arith))
-              (sets-below (n + n + n + f .visited) (f .left) s i a (omega arith))
-              (sets-below (t .away) (f .moved) s i a (omega arith));
+              held-same (above coefficient (n + 0) (f .lip) s i a (omega arith)) (above coefficient (n + n) (f .lsp) s i a (omega arith))
+              (snoc entry (n + n + n) (f .kept) s i a e q j (omega arith))
+              (below entry (n + n + n + f .visited) (f .left) s i a (omega arith))
+              (below entry (t .away) (f .moved) s i a (omega arith));
           fits = record {
             room = rw (length-set s i a) room;
+            marked = still-marked i a (omega arith);
             lip = b;
             lsp = c;
             kept = omega arith;
@@ -247,13 +309,13 @@ module _ (t : Stretch) (s : List ℕ) (f : Fill) (h : Fits t s f) where
             moved = rw (length-set s i a) (h .moved);
           };
           beside = listed-beside (f .moved) i a (omega arith) (omega arith);
-          known = λ m g. seg-above (n + n) m s i a (omega arith);
+          known = λ m g. above coefficient (n + n) m s i a (omega arith);
         }
 
     pub move-set-law : (i : ℕ) → i ≡ t .away + f .moved → t .away + f .moved < length s
         → SetMoved t s f e (set s i a)
         (record { lip = f .lip; lsp = f .lsp; kept = f .kept; visited = f .visited; left = f .left; moved = f .moved + 1 })
-    unfolding held waiting known lipFrom lspFrom lisFrom setRoom
+    unfolding held waiting known sets lipFrom lspFrom lisFrom setRoom
     move-set-law i j l =
         let n : ℕ = t .n in
         let out = h .behind in
@@ -264,12 +326,13 @@ module _ (t : Stretch) (s : List ℕ) (f : Fill) (h : Fits t s f) where
         record {
           fill = refl;
           holds =
-              held-same (seg-above (n + 0) (f .lip) s i a (omega arith)) (seg-above (n + n) (f .lsp) s i a (omega arith))
-              (sets-above (n + n + n) (f .kept) s i a (omega arith))
-              (sets-above (n + n + n + f .visited) (f .left) s i a (omega arith))
-              (sets-snoc (t .away) (f .moved) s i a e q j (omega arith));
+              held-same (above coefficient (n + 0) (f .lip) s i a (omega arith)) (above coefficient (n + n) (f .lsp) s i a (omega arith))
+              (above entry (n + n + n) (f .kept) s i a (omega arith))
+              (above entry (n + n + n + f .visited) (f .left) s i a (omega arith))
+              (snoc entry (t .away) (f .moved) s i a e q j (omega arith));
           fits = record {
             room = rw (length-set s i a) (h .room);
+            marked = still-marked i a (omega arith);
             lip = b;
             lsp = c;
             kept = g;
@@ -278,12 +341,12 @@ module _ (t : Stretch) (s : List ℕ) (f : Fill) (h : Fits t s f) where
             moved = rw (length-set s i a) (omega arith);
           };
           beside = moved-beside i a j;
-          known = λ m x. seg-above (n + n) m s i a (omega arith);
+          known = λ m x. above coefficient (n + n) m s i a (omega arith);
         }
 
 -- Several coefficients were put at the end of LIP, one after another.
 record Lengthened (xs : List ℕ) (t : Stretch) (s : List ℕ) (f : Fill) (s′ : List ℕ) (r : Fill) : Type 0 where
-  fill : r ≡ record { lip = f .lip + length xs; lsp = f .lsp; kept = f .kept; visited = f .visited; left = f .left; moved = f .moved }
+  fill : r ≡ raised f (length xs)
   holds : held t s′ r ≡ record {
     lip = held t s f .lip ++ xs;
     lsp = held t s f .lsp;
@@ -293,7 +356,7 @@ record Lengthened (xs : List ℕ) (t : Stretch) (s : List ℕ) (f : Fill) (s′ 
   }
   fits : Fits t s′ r
   beside : Beside t (r .moved) s s′
-  ahead : (i m : ℕ) → f .lip + length xs ≤ i → i + m ≤ t .n → waiting (t .n) i m s′ ≡ waiting (t .n) i m s
+  ahead : (i : ℕ) → f .lip + length xs ≤ i → i < t .n → lipAt (t .n) i s′ ≡ lipAt (t .n) i s
   known : (m : ℕ) → m ≤ f .lsp → known (t .n) m s′ ≡ known (t .n) m s
 
 longer-one : {t : Stretch} {s s′ : List ℕ} {f r : Fill} {x : ℕ} → LipPushed t s f x s′ r → Lengthened (x ∷ []) t s f s′ r
@@ -303,7 +366,7 @@ longer-one a =
       holds = a .holds;
       fits = a .fits;
       beside = a .beside;
-      ahead = λ i m h k. a .ahead i m (omega arith) k;
+      ahead = λ i h k. a .ahead i (omega arith) k;
       known = a .known;
     }
 
@@ -323,9 +386,9 @@ longer-on {xs} {ys} {t} {s} {f = f} a b =
           (append-assoc (held t s f .lip) xs ys);
       fits = b .fits;
       beside = beside-then (a .beside) (b .beside) (omega (arith, ap (λ g. g .moved) (b .fill)));
-      ahead = λ i m h k.
+      ahead = λ i h k.
           let l = length-append xs ys in
-          b .ahead i m (omega (arith, ap (λ g. g .lip) (a .fill))) k ∙ a .ahead i m (omega arith) k;
+          b .ahead i (omega (arith, ap (λ g. g .lip) (a .fill))) k ∙ a .ahead i (omega arith) k;
       known = λ m h. b .known m (omega (arith, ap (λ g. g .lsp) (a .fill))) ∙ a .known m h;
     }
 
@@ -341,8 +404,7 @@ lined : {xs : List ℕ} {t : Stretch} {s s′ : List ℕ} {f r : Fill} → Fits 
 unfolding held
 lined {xs} {t} {s} {s′} {f} {r} h l a =
     let n : ℕ = t .n in
-    let long : Fill = record { lip = f .lip + length xs; lsp = f .lsp; kept = f .kept; visited = f .visited; left = f .left; moved = f .moved } in
-    let g : Fits t s′ long = subst (Fits t s′) (a .fill) (a .fits) in
+    let g : Fits t s′ (raised f (length xs)) = subst (Fits t s′) (a .fill) (a .fits) in
     let e = ap (held t s′) (sym (a .fill)) ∙ a .holds in
     let p : _ = both-parts (waiting n 0 (f .lip) s′) (waiting n 0 (f .lip) s) (waiting n (f .lip) (length xs) s′) xs
     (waiting-length n 0 (f .lip) s′ (g .room) (omega arith) ∙ sym (waiting-length n 0 (f .lip) s (h .room) (omega arith)))
@@ -351,7 +413,7 @@ lined {xs} {t} {s} {s′} {f} {r} h l a =
     record {
       waits = p .1;
       holds = held-same (p .0) (ap (λ x. x .lsp) e) (ap (λ x. x .kept) e) (ap (λ x. x .todo) e) (ap (λ x. x .moved) e);
-      fits = record { room = g .room; lip = h .lip; lsp = g .lsp; kept = g .kept; visits = g .visits; behind = g .behind; moved = g .moved };
+      fits = g;
       beside = subst (λ (m : ℕ). Beside t m s s′) (ap (λ x. x .moved) (a .fill)) (a .beside);
       ahead = a .ahead;
       known = a .known;

@@ -1,28 +1,34 @@
 -- What a level's stretch holds: LIP, LSP and LIS, each from a place of its own, and behind it the sets that moved out; and what the list operations
 -- leave.
 --
---   waiting n i m s     m entries of LIP, from entry i on
---   known n m s         the first m entries of LSP
---   lipAt, lspAt n i s  the i-th of each
+--   Inside t x          x is a tree number of the level
+--   markOf w            what the coder has beside the tree number of a coefficient whose word is w
+--   lipAt, lspAt n i s  the i-th entry of LIP, and of LSP; of an entry e the coefficient is `coefficient e`
+--   Marked t s e        the coder's entry e is of the level, and its mark is that of the word in the stretch s
+--   waiting n i m s     m coefficients of LIP, from the i-th on
+--   known n m s         the first m of LSP
 --   held t s f          the lists in the midst of a pass: t is the stretch, f how full they are
 --   listsIn n s ..      the lists of the level between passes
 --   Beside t m s s′     what is no list is as it was: values, maxima, and all behind the stretch but m sets that moved out
 use mathlib.Core.Path.{_≡_, refl, ap, ap₂, _∙_, subst}
-use mathlib.Core.List.{List, [], _∷_, _++_, map}
+use mathlib.Core.List.{List, [], _∷_, _++_, map, map-append}
 use mathlib.Core.Bool.{Bool, true, false, cond}
 use mir.Val.{boolByte}
 use Prim.Native.Nat.{ℕ, zero, suc, _+_, _-_, _*_, _/_, _%_, _≤_, _<_}
 use lib.Dec.{eqb}
 use native.Mathlib.Omega.{arith}
 use lib.ListN.{length, getD, length-map}
+use Rattle.rules.specs.Document.Pyramid.{planesOf}
 use Rattle.rules.specs.Document.Passes.{Entry, typeA, typeB, Lists}
 use Rattle.rules.specs.Laws.Counting.Sums.{All}
 use Rattle.stretches.specs.Cut.{setRoom, lipFrom, lspFrom, lisFrom, maximaFrom}
+use Rattle.lists.specs.declared.Role.{Role}
+use Rattle.lists.specs.declared.Role.the-variants.{Codes, Reads}
 use Rattle.lists.specs.declared.Stretch.{Stretch}
 use Rattle.lists.specs.declared.Fill.{Fill}
 use Rattle.lists.specs.declared.Set.{Set}
 use Rattle.lists.specs.declared.Set.the-variants.{TypeA, TypeB}
-use Rattle.stretches.specs.Seg.{seg, seg-none, seg-length, seg-cons, seg-more, seg-add, seg-count}
+use Rattle.stretches.specs.Seg.{seg, seg-none, seg-length, seg-cons, seg-more, seg-add, seg-count, seg-same}
 
 -- An entry of LIS as a number: index x 2, and 1 more for type B.
 unfoldable pub entry : ℕ → Entry
@@ -39,19 +45,37 @@ indexOf (TypeB p) = p
 unfoldable pub sets : ℕ → ℕ → List ℕ → List Entry
 sets b m s = map entry (seg b m s)
 
--- the coefficients of LIP from place i on, m of them, and the first m of LSP
-unfoldable pub waiting : ℕ → ℕ → ℕ → List ℕ → List ℕ
-waiting n i m s = seg (lipFrom n + i) m s
+-- whether the lists are the coder's
+abbrev pub codes : Role → Bool
+codes Codes = true
+codes Reads = false
 
-unfoldable pub known : ℕ → ℕ → List ℕ → List ℕ
-known n m s = seg (lspFrom n) m s
+abbrev pub Inside : Stretch → ℕ → Type 0
+Inside t x = (t .first ≤ x) × (x < t .first + t .n)
 
--- the i-th of LIP, and of LSP
+-- An entry of LIP or LSP: 64 x tree number, and by the coder how many planes the coefficient has, twice, and 1 more where it is negative.
+unfoldable pub coefficient : ℕ → ℕ
+coefficient e = e / 64
+
+unfoldable pub markOf : ℕ → ℕ
+markOf w = 2 * planesOf (w / 2) + w % 2
+
+pub record Marked (t : Stretch) (s : List ℕ) (e : ℕ) : Type 0 where
+  pub inside : codes (t .role) ≡ true → Inside t (coefficient e)
+  pub mark : codes (t .role) ≡ true → e % 64 ≡ markOf (getD s (coefficient e - t .first) 0)
+
 unfoldable pub lipAt : ℕ → ℕ → List ℕ → ℕ
 lipAt n i s = getD s (lipFrom n + i) 0
 
 unfoldable pub lspAt : ℕ → ℕ → List ℕ → ℕ
 lspAt n i s = getD s (lspFrom n + i) 0
+
+-- the coefficients of LIP from place i on, m of them, and the first m of LSP
+unfoldable pub waiting : ℕ → ℕ → ℕ → List ℕ → List ℕ
+waiting n i m s = map coefficient (seg (lipFrom n + i) m s)
+
+unfoldable pub known : ℕ → ℕ → List ℕ → List ℕ
+known n m s = map coefficient (seg (lspFrom n) m s)
 
 -- four tree numbers in a row
 abbrev pub fourFrom : ℕ → List ℕ
@@ -79,9 +103,10 @@ held t s f =
 unfoldable pub listsIn : ℕ → List ℕ → ℕ → ℕ → ℕ → Lists
 listsIn n s lip lis lsp = record { lip = waiting n 0 lip s; lis = sets (lisFrom n) lis s; lsp = known n lsp s }
 
--- Each list keeps to its own places.
+-- Each list keeps to its own places, and LIP's entries are marked.
 pub record Fits (t : Stretch) (s : List ℕ) (f : Fill) : Type 0 where
   pub room : 4 * t .n ≤ length s
+  pub marked : (i : ℕ) → i < f .lip → Marked t s (lipAt (t .n) i s)
   pub lip : f .lip ≤ t .n
   pub lsp : f .lsp ≤ t .n
   pub kept : f .kept ≤ f .visited
@@ -108,16 +133,20 @@ pub record LipPushed (t : Stretch) (s : List ℕ) (f : Fill) (p : ℕ) (s′ : L
   }
   pub fits : Fits t s′ r
   pub beside : Beside t (r .moved) s s′
-  pub ahead : (i m : ℕ) → f .lip < i → i + m ≤ t .n → waiting (t .n) i m s′ ≡ waiting (t .n) i m s
+  pub ahead : (i : ℕ) → f .lip < i → i < t .n → lipAt (t .n) i s′ ≡ lipAt (t .n) i s
   pub known : (m : ℕ) → m ≤ f .lsp → known (t .n) m s′ ≡ known (t .n) m s
+
+-- LIP longer by so many entries that wait behind it
+abbrev pub raised : Fill → ℕ → Fill
+raised f m = record { lip = f .lip + m; lsp = f .lsp; kept = f .kept; visited = f .visited; left = f .left; moved = f .moved }
 
 -- Some coefficients wait behind LIP; all that counts is as it was.
 pub record LinedUp (xs : List ℕ) (t : Stretch) (s : List ℕ) (f : Fill) (s′ : List ℕ) : Type 0 where
   pub waits : waiting (t .n) (f .lip) (length xs) s′ ≡ xs
   pub holds : held t s′ f ≡ held t s f
-  pub fits : Fits t s′ f
+  pub fits : Fits t s′ (raised f (length xs))
   pub beside : Beside t (f .moved) s s′
-  pub ahead : (i m : ℕ) → f .lip + length xs ≤ i → i + m ≤ t .n → waiting (t .n) i m s′ ≡ waiting (t .n) i m s
+  pub ahead : (i : ℕ) → f .lip + length xs ≤ i → i < t .n → lipAt (t .n) i s′ ≡ lipAt (t .n) i s
   pub known : (m : ℕ) → m ≤ f .lsp → known (t .n) m s′ ≡ known (t .n) m s
 
 pub record LspPushed (t : Stretch) (s : List ℕ) (f : Fill) (p : ℕ) (s′ : List ℕ) (r : Fill) : Type 0 where
@@ -131,7 +160,7 @@ pub record LspPushed (t : Stretch) (s : List ℕ) (f : Fill) (p : ℕ) (s′ : L
   }
   pub fits : Fits t s′ r
   pub beside : Beside t (r .moved) s s′
-  pub ahead : (i m : ℕ) → f .lip < i → i + m ≤ t .n → waiting (t .n) i m s′ ≡ waiting (t .n) i m s
+  pub ahead : (i : ℕ) → f .lip < i → i < t .n → lipAt (t .n) i s′ ≡ lipAt (t .n) i s
   pub known : (m : ℕ) → m ≤ f .lsp → known (t .n) m s′ ≡ known (t .n) m s
 
 -- A tested coefficient was put at the end of LSP where it was found, else at the end of LIP.
@@ -144,7 +173,7 @@ pub record Spared (t : Stretch) (s : List ℕ) (f : Fill) (s′ : List ℕ) : Ty
   pub holds : held t s′ f ≡ held t s f
   pub fits : Fits t s′ f
   pub beside : Beside t (f .moved) s s′
-  pub ahead : (i m : ℕ) → f .lip < i → i + m ≤ t .n → waiting (t .n) i m s′ ≡ waiting (t .n) i m s
+  pub ahead : (i : ℕ) → f .lip < i → i < t .n → lipAt (t .n) i s′ ≡ lipAt (t .n) i s
   pub known : (m : ℕ) → m ≤ f .lsp → known (t .n) m s′ ≡ known (t .n) m s
 
 -- The next set of LIS: what is held once it counts as visited.
@@ -225,51 +254,68 @@ sets-length b m s h = length-map (seg b m s) entry ∙ seg-length b m s h
 
 pub waiting-add : (n b i m : ℕ) (s : List ℕ) → waiting n b (i + m) s ≡ waiting n b i s ++ waiting n (b + i) m s
 unfolding waiting
-waiting-add n b i m s = seg-add (lipFrom n + b) i m s ∙ ap (λ (x : ℕ). seg (lipFrom n + b) i s ++ seg x m s) (omega arith)
+waiting-add n b i m s =
+    ap (map coefficient) (seg-add (lipFrom n + b) i m s ∙ ap (λ (x : ℕ). seg (lipFrom n + b) i s ++ seg x m s) (omega arith))
+    ∙ map-append coefficient (seg (lipFrom n + b) i s) (seg (lipFrom n + (b + i)) m s)
 
 pub waiting-none : (n i : ℕ) (s : List ℕ) → waiting n i 0 s ≡ []
 unfolding waiting
-waiting-none n i s = seg-none (lipFrom n + i) s
+waiting-none n i s = ap (map coefficient) (seg-none (lipFrom n + i) s)
 
 pub waiting-length : (n i m : ℕ) (s : List ℕ) → 4 * n ≤ length s → i + m ≤ n → length (waiting n i m s) ≡ m
 unfolding waiting lipFrom
-waiting-length n i m s h k = seg-length (n + i) m s (omega arith)
+waiting-length n i m s h k = length-map (seg (n + i) m s) coefficient ∙ seg-length (n + i) m s (omega arith)
 
-pub waiting-one : (n i : ℕ) (s : List ℕ) → 4 * n ≤ length s → i < n → waiting n i 1 s ≡ lipAt n i s ∷ []
+pub waiting-same : (n i m : ℕ) (s s′ : List ℕ) → length s′ ≡ length s → ((j : ℕ) → i ≤ j → j < i + m → lipAt n j s′ ≡ lipAt n j s)
+    → waiting n i m s′ ≡ waiting n i m s
 unfolding waiting lipAt lipFrom
-waiting-one n i s h k = seg-cons (n + i) 1 s (omega arith) (omega arith) ∙ ap (λ x. getD s (n + i) 0 ∷ x) (seg-none (n + i + 1) s)
+waiting-same n i m s s′ l e =
+    ap (map coefficient)
+    (seg-same (n + i) m s s′ l
+    (λ j a b. let p : n + (j - n) ≡ j = omega arith in subst (λ (x : ℕ). getD s′ x 0 ≡ getD s x 0) p (e (j - n) (omega arith) (omega arith))))
 
-pub known-add : (n i m : ℕ) (s : List ℕ) → known n (i + m) s ≡ known n i s ++ seg (lspFrom n + i) m s
+pub waiting-one : (n i : ℕ) (s : List ℕ) → 4 * n ≤ length s → i < n → waiting n i 1 s ≡ coefficient (lipAt n i s) ∷ []
+unfolding waiting lipAt lipFrom
+waiting-one n i s h k =
+    ap (map coefficient) (seg-cons (n + i) 1 s (omega arith) (omega arith) ∙ ap (λ x. getD s (n + i) 0 ∷ x) (seg-none (n + i + 1) s))
+
+pub known-add : (n i m : ℕ) (s : List ℕ) → known n (i + m) s ≡ known n i s ++ map coefficient (seg (lspFrom n + i) m s)
 unfolding known
-known-add n i m s = seg-add (lspFrom n) i m s
+known-add n i m s = ap (map coefficient) (seg-add (lspFrom n) i m s) ∙ map-append coefficient (seg (lspFrom n) i s) (seg (lspFrom n + i) m s)
 
-pub known-more : (n i : ℕ) (s : List ℕ) → 4 * n ≤ length s → i < n → known n (i + 1) s ≡ known n i s ++ (lspAt n i s ∷ [])
+pub known-more : (n i : ℕ) (s : List ℕ) → 4 * n ≤ length s → i < n → known n (i + 1) s ≡ known n i s ++ (coefficient (lspAt n i s) ∷ [])
 unfolding known lspAt lspFrom
-known-more n i s h k = seg-more (n + n) i s (omega arith)
+known-more n i s h k =
+    ap (map coefficient) (seg-more (n + n) i s (omega arith)) ∙ map-append coefficient (seg (n + n) i s) (getD s (n + n + i) 0 ∷ [])
 
 -- what holds of each of a list's entries holds of the i-th
-all-at : (P : ℕ → Type 0) (i b m : ℕ) (s : List ℕ) → b + m ≤ length s → i < m → All P (seg b m s) → P (getD s (b + i) 0)
+all-at : (P : ℕ → Type 0) (i b m : ℕ) (s : List ℕ) → b + m ≤ length s → i < m → All P (map coefficient (seg b m s)) → P (coefficient (getD s (b + i) 0))
 unfolding All
-all-at P zero b m s h l a = subst P (ap (λ (x : ℕ). getD s x 0) (omega arith)) (subst (All P) (seg-cons b m s (omega arith) (omega arith)) a .0)
+all-at P zero b m s h l a =
+    subst P (ap (λ (x : ℕ). coefficient (getD s x 0)) (omega arith))
+    (subst (λ xs. All P (map coefficient xs)) (seg-cons b m s (omega arith) (omega arith)) a .0)
 all-at P (suc i) b m s h l a =
-    subst P (ap (λ (x : ℕ). getD s x 0) (omega arith))
-    (all-at P i (b + 1) (m - 1) s (omega arith) (omega arith) (subst (All P) (seg-cons b m s (omega arith) (omega arith)) a .1))
+    subst P (ap (λ (x : ℕ). coefficient (getD s x 0)) (omega arith))
+    (all-at P i (b + 1) (m - 1) s (omega arith) (omega arith)
+    (subst (λ xs. All P (map coefficient xs)) (seg-cons b m s (omega arith) (omega arith)) a .1))
 
-pub all-waiting : (P : ℕ → Type 0) (n b m : ℕ) (s : List ℕ) → 4 * n ≤ length s → b + m ≤ n → All P (waiting n b m s) → (i : ℕ) → i < m → P (lipAt n (b + i) s)
+pub all-waiting : (P : ℕ → Type 0) (n b m : ℕ) (s : List ℕ) → 4 * n ≤ length s → b + m ≤ n → All P (waiting n b m s) → (i : ℕ) → i < m
+    → P (coefficient (lipAt n (b + i) s))
 unfolding waiting lipAt lipFrom
-all-waiting P n b m s h k a i l = subst P (ap (λ (x : ℕ). getD s x 0) (omega arith)) (all-at P i (n + b) m s (omega arith) l a)
+all-waiting P n b m s h k a i l = subst P (ap (λ (x : ℕ). coefficient (getD s x 0)) (omega arith)) (all-at P i (n + b) m s (omega arith) l a)
 
-pub all-known : (P : ℕ → Type 0) (n m : ℕ) (s : List ℕ) → 4 * n ≤ length s → m ≤ n → All P (known n m s) → (i : ℕ) → i < m → P (lspAt n i s)
+pub all-known : (P : ℕ → Type 0) (n m : ℕ) (s : List ℕ) → 4 * n ≤ length s → m ≤ n → All P (known n m s) → (i : ℕ) → i < m
+    → P (coefficient (lspAt n i s))
 unfolding known lspAt lspFrom
 all-known P n m s h k a i l = all-at P i (n + n) m s (omega arith) l a
 
 pub known-none : (n : ℕ) (s : List ℕ) → known n 0 s ≡ []
 unfolding known
-known-none n s = seg-none (lspFrom n) s
+known-none n s = ap (map coefficient) (seg-none (lspFrom n) s)
 
 pub known-length : (n m : ℕ) (s : List ℕ) → 4 * n ≤ length s → m ≤ n → length (known n m s) ≡ m
 unfolding known lspFrom
-known-length n m s h k = seg-length (n + n) m s (omega arith)
+known-length n m s h k = length-map (seg (n + n) m s) coefficient ∙ seg-length (n + n) m s (omega arith)
 
 pub lists-none : (n : ℕ) (s : List ℕ) → listsIn n s 0 0 0 ≡ record { lip = []; lis = []; lsp = [] }
 unfolding listsIn
@@ -332,15 +378,16 @@ module _ (t : Stretch) (s : List ℕ) (f : Fill) where
 -- Lists that keep to their places have no more entries than they count.
 pub lists-fit : (t : Stretch) (s : List ℕ) (lip lis lsp : ℕ) → 1 ≤ t .n → 4 * t .n ≤ length s → 4 * t .n ≤ t .away → t .away ≤ length s
     → length (listsIn (t .n) s lip lis lsp .lip) ≤ t .n → 4 * length (listsIn (t .n) s lip lis lsp .lis) ≤ 3 * t .n
-    → length (listsIn (t .n) s lip lis lsp .lsp) ≤ t .n
+    → length (listsIn (t .n) s lip lis lsp .lsp) ≤ t .n → ((i : ℕ) → i < lip → Marked t s (lipAt (t .n) i s))
     → Fits t s (record { lip = lip; lsp = lsp; kept = 0; visited = 0; left = lis; moved = 0 })
 unfolding listsIn waiting sets known lipFrom lspFrom lisFrom setRoom
-lists-fit t s lip lis lsp a h b w i j k =
+lists-fit t s lip lis lsp a h b w i j k marked =
     let n : ℕ = t .n in
     record {
       room = h;
-      lip = seg-count (n + 0) lip s n (omega arith) i;
-      lsp = seg-count (n + n) lsp s n (omega arith) k;
+      marked = marked;
+      lip = seg-count (n + 0) lip s n (omega arith) (omega (arith, i, length-map (seg (n + 0) lip s) coefficient));
+      lsp = seg-count (n + n) lsp s n (omega arith) (omega (arith, k, length-map (seg (n + n) lsp s) coefficient));
       kept = omega arith;
       visits =
           let m = length-map (seg (n + n + n) lis s) entry in

@@ -1,15 +1,25 @@
 // The lists of a level, in its stretch of the workspace: LIP, LSP and LIS; and behind the stretch, at the end of the next level's LIS, the sets
-// that move out of the level.
+// that move out of the level. In LIP and LSP the coder has beside each tree number what a test asks for: past the caches a word that is looked up at
+// its place costs more than the test.
 ghost use mathlib.Core.Path.{_≡_};
 ghost use Prim.Native.Nat.{_+_, _*_, _^_, _≤_, _<_};
 ghost use lib.ListN.{length};
 ghost use Rattle.stretches.specs.Cut.{setRoom, lipFrom, lspFrom, lisFrom};
-ghost use Rattle.lists.specs.Lists.{entry, entryOf, indexOf, fourFrom, lipAt, lspAt, past, emptied};
+ghost use Rattle.lists.specs.Lists.{Inside, markOf, Marked, coefficient, entry, entryOf, indexOf, fourFrom, lipAt, lspAt, past, emptied};
 ghost use Rattle.lists.specs.Lists.{Fits, LipPushed, LinedUp, PushedBy, NextSet, SetAdded, SetKept, SetMoved};
 
-// A level's stretch: for how many coefficients, and the place behind it where the sets go that move out of the level.
+// Which side of the conversation a pass is run for: the coder answers from the stretch and writes bits, the decoder reads them and draws coefficients.
+pub enum Role {
+    Codes,
+    Reads,
+}
+
+// A level's stretch: whose lists it has, for how many coefficients, from which tree number on, and the place behind it where the sets go that move out
+// of the level.
 pub struct Stretch {
+    pub role: Role,
     pub n: usize,
+    pub first: usize,
     pub away: usize,
 }
 
@@ -71,6 +81,25 @@ fn set_of(m: u32) -> Set
     Set::TypeB(p)
 }
 
+// Of a coefficient: how many planes it has, twice, and 1 more where it is negative.
+fn mark_of(word: u32) -> usize
+    ensures { λ r. ⌜ (r ≡ markOf word) × (r < 64) ⌝ }
+{
+    2 * coefficients::planes_of(word / 2) + ((word % 2) as usize)
+}
+
+// An entry of LIP: 64 x tree number, and by the coder the mark of its word.
+fn marked(s: &[u32], stretch: Stretch, x: usize) -> usize
+    requires { ⌜ (4 * stretch .n ≤ length (now s)) × Inside stretch x × (x < 2 ^ 26) ⌝ }
+    ensures { λ r. ⌜ (coefficient r ≡ x) × (r < 2 ^ 32) × Marked stretch (now (s .entry)) r ⌝ }
+{
+    let role = stretch.role;
+    match role {
+        Role::Reads => 64 * x,
+        Role::Codes => 64 * x + mark_of(stretches::value_at(s, stretch.n, x - stretch.first)),
+    }
+}
+
 // Entry i of LIP.
 pub fn lip_at(s: &[u32], n: usize, i: usize) -> usize
     requires { ⌜ (4 * n ≤ length (now s)) × (i < n) ⌝ }
@@ -80,13 +109,20 @@ pub fn lip_at(s: &[u32], n: usize, i: usize) -> usize
     s[at] as usize
 }
 
-// Entry i of LSP.
+// The coefficient of an entry.
+pub fn coefficient_of(e: usize) -> usize
+    ensures { λ r. ⌜ r ≡ coefficient e ⌝ }
+{
+    e / 64
+}
+
+// The i-th coefficient of LSP.
 pub fn lsp_at(s: &[u32], n: usize, i: usize) -> usize
     requires { ⌜ (4 * n ≤ length (now s)) × (n < 2 ^ 32) × (i < n) ⌝ }
-    ensures { λ r. ⌜ r ≡ lspAt n i (now (s .entry)) ⌝ }
+    ensures { λ r. ⌜ r ≡ coefficient (lspAt n i (now (s .entry))) ⌝ }
 {
     let at = lsp_from(n) + i;
-    s[at] as usize
+    coefficient_of(s[at] as usize)
 }
 
 // LIP counts as empty: its entries are read from its front while those that stay are put back there.
@@ -100,11 +136,12 @@ pub fn empty_lip(f: Fill) -> Fill
 
 // A coefficient to the end of LIP.
 pub fn push_lip(s: &mut [u32], stretch: Stretch, f: Fill, x: usize) -> Fill
-    requires { ⌜ Fits stretch (now s) f × (stretch .n < 2 ^ 32) × (f .lip < stretch .n) × (x < 2 ^ 32) ⌝ }
+    requires { ⌜ Fits stretch (now s) f × (stretch .n < 2 ^ 32) × (f .lip < stretch .n) × Inside stretch x × (x < 2 ^ 26) ⌝ }
     ensures { λ r. ⌜ LipPushed stretch (now (s .entry)) f x (now (s .exit)) r ⌝ }
 {
+    let e = marked(s, stretch, x);
     let at = lip_from(stretch.n) + f.lip;
-    s[at] = x as u32;
+    s[at] = e as u32;
     let mut r = f;
     r.lip = f.lip + 1;
     r
@@ -112,7 +149,8 @@ pub fn push_lip(s: &mut [u32], stretch: Stretch, f: Fill, x: usize) -> Fill
 
 // Four tree numbers behind LIP, where they wait to be tested; LIP itself is as it was.
 pub fn line_up(s: &mut [u32], stretch: Stretch, f: Fill, first: usize)
-    requires { ⌜ Fits stretch (now s) f × (stretch .n < 2 ^ 32) × (f .lip + 4 ≤ stretch .n) × (first + 4 < 2 ^ 32) ⌝ }
+    requires { ⌜ Fits stretch (now s) f × (stretch .n < 2 ^ 32) × (f .lip + 4 ≤ stretch .n) × (stretch .first ≤ first)
+        × (first + 4 ≤ stretch .first + stretch .n) × (first + 4 < 2 ^ 26) ⌝ }
     ensures { λ _. ⌜ LinedUp (fourFrom first) stretch (now (s .entry)) f (now (s .exit)) ⌝ }
 {
     let a = push_lip(s, stretch, f, first);
@@ -129,14 +167,15 @@ pub fn lip_end(stretch: Stretch, f: Fill) -> usize
     lip_from(stretch.n) + f.lip
 }
 
-// A tested coefficient to the end of LSP if it was found, else to the end of LIP. List and counts are chosen as numbers: no branch waits for the bit.
-pub fn push_tested(s: &mut [u32], stretch: Stretch, f: Fill, x: usize, found: bool) -> Fill
-    requires { ⌜ Fits stretch (now s) f × (stretch .n < 2 ^ 32) × (f .lip + f .lsp < stretch .n) × (x < 2 ^ 32) ⌝ }
-    ensures { λ r. ⌜ PushedBy found stretch (now (s .entry)) f x (now (s .exit)) r ⌝ }
+// The entry of a tested coefficient to the end of LSP if it was found, else to the end of LIP. List and counts are chosen as numbers: no branch waits for
+// the bit.
+pub fn push_tested(s: &mut [u32], stretch: Stretch, f: Fill, e: usize, found: bool) -> Fill
+    requires { ⌜ Fits stretch (now s) f × (stretch .n < 2 ^ 32) × (f .lip + f .lsp < stretch .n) × (e < 2 ^ 32) × Marked stretch (now s) e ⌝ }
+    ensures { λ r. ⌜ PushedBy found stretch (now (s .entry)) f (coefficient e) (now (s .exit)) r ⌝ }
 {
     let lsp_end = lsp_from(stretch.n) + f.lsp;
     let at = stretches::either(found, lsp_end, lip_end(stretch, f));
-    s[at] = x as u32;
+    s[at] = e as u32;
     let bit = found as usize;
     let mut r = f;
     r.lip = f.lip + 1 - bit;

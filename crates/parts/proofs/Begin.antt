@@ -27,21 +27,22 @@ use Rattle.rules.specs.Laws.Offspring.Once.{band-level}
 use Rattle.rules.specs.Laws.Offspring.Start.{band-length}
 use Rattle.rules.specs.Laws.Pass.Slots.{room-slots}
 use Rattle.rules.specs.Promises.Vocabulary.{Legal}
-use Rattle.trees.specs.Family.{treeLevel, treeOffspring, coefficientOf, offspring-same}
+use Rattle.trees.specs.Family.{treeLevel, treeOffspring, coefficientOf, level-same, offspring-same}
 use Rattle.trees.specs.Lawful.{trees-lawful}
 use Rattle.trees.specs.Renamed.{map-append, map-length}
 use Rattle.trees.specs.Run.{numberOf, treeRoot, treeStart, coefficient-number}
-use Rattle.trees.specs.Sound.{tree-start-sound, tree-part-room}
+use Rattle.trees.specs.Sound.{tree-start-sound, tree-part-room, tree-level-area}
 use Rattle.stretches.specs.Seg.{seg, seg-same}
 use Rattle.stretches.specs.Cut.{setRoom, maximaIn, stretchOf}
 use Rattle.stretches.specs.Workspace.{wordIn, maximumIn}
+use Rattle.lists.specs.declared.Role.{Role}
 use Rattle.lists.specs.declared.Stretch.{Stretch}
 use Rattle.lists.specs.declared.Fill.{Fill}
-use Rattle.lists.specs.Lists.{known, held, listsIn, Fits, Beside, LipPushed, SetAdded, sets-fit, todo-none, waiting-none, held-waiting, held-known}
+use Rattle.lists.specs.Lists.{Inside, Marked, lipAt, known, held, listsIn, Fits, Beside, LipPushed, SetAdded, sets-fit, todo-none, waiting-none, held-waiting, held-known}
 use Rattle.lists.specs.Lists.{known-none, held-begins, lists-none}
-use Rattle.lists.specs.Besides.{beside-none, beside-then}
+use Rattle.lists.specs.Besides.{beside-none, beside-then, marked-lent}
 use Rattle.parts.specs.declared.Counts.{Counts}
-use Rattle.parts.specs.Standing.{countAt, nothing, listsAt, stateOf, Started}
+use Rattle.parts.specs.Standing.{countAt, nothing, listsAt, stateOf, stretchBy, Started}
 use Rattle.parts.specs.Begin.{empty, lengths, rowOf, bandAt, InBand, Listing, Listed}
 use Rattle.parts.proofs.Levels.{level-place, level-some, level-before, stretch-at, word-in}
 use Rattle.parts.proofs.Workspace.{put-behind}
@@ -215,6 +216,17 @@ module _ (z : Size) where
     unfolding All
     one-top = A .band .0
 
+    -- its tree number is one of level N+1
+    pub one-inside : {x : ℕ} → x ≡ numberOf z p → Inside t x × (x < 2 ^ 26)
+    one-inside {x} e =
+        let Z = legal z (A .legal) in
+        let top : treeLevel z x ≡ levels z =
+        ap (treeLevel z) e ∙ sym (level-same z Z (numberOf z p))
+        ∙ ap (levelOf z) (coefficient-number z Z p (level-area z Z p (omega (arith, one-top)))) ∙ one-top in
+        let place = level-place z Z (levels z) x top (omega arith) in
+        let small = tree-level-area z Z x (omega (arith, top)) in
+        ((omega (arith, place .1, A .first), omega (arith, place .2, A .first, A .count)), omega (arith, small, area-bound z (A .legal)))
+
     one-slot : {x : ℕ} {s₁ : List ℕ} {f₁ : Fill} → 1 ≤ length (treeOffspring z (numberOf z p)) → LipPushed t s f x s₁ f₁
         → f₁ .visited + f₁ .left < setRoom (t .n)
     one-slot h P = omega (arith, A .sets, ap length (root-some p h), ap (λ g. g .visited) (P .fill), ap (λ g. g .left) (P .fill))
@@ -242,6 +254,8 @@ module _ (z : Size) where
         band = all-first _ ps qs (A .band);
         fits = A .fits;
         size = A .size;
+        first = A .first;
+        count = A .count;
         coefficients = omega (arith, A .coefficients, length-append ps qs);
         sets = omega (arith, A .sets, roots-length z ps qs);
       }
@@ -254,6 +268,8 @@ module _ (z : Size) where
         band = all-others _ ps qs (A .band);
         fits = L .fits;
         size = A .size;
+        first = A .first;
+        count = A .count;
         coefficients = omega (arith, A .coefficients, length-append ps qs, ap (λ g. g .lip) (L .fill));
         sets = omega (arith, A .sets, roots-length z ps qs, ap (λ g. g .visited) (L .fill), ap (λ g. g .left) (L .fill));
       }
@@ -311,8 +327,8 @@ top-under z {n} e i =
 pub top-room : (z : Size) {n m : ℕ} → legalSize z ≡ true → n ≡ levelSize z (z .n + 1) → workFor z ≤ m → 4 * n ≤ m
 top-room z e i h = omega (arith, top-under z e i .0)
 
-abbrev topStretch : ℕ → Stretch
-topStretch n = record { n = n; away = 4 * n }
+abbrev topStretch : Role → ℕ → Stretch
+topStretch role n = record { role = role; n = n; first = 0; away = 4 * n }
 
 start-lis : (z : Size) → treeStart z (levels z) ≡ record { lip = map (numberOf z) (bandLL z); lis = rootsOf z (bandLL z); lsp = [] }
 unfolding treeStart
@@ -323,9 +339,9 @@ unfolding treeStart
 start-none z k d = rw (ne-eqb k (levels z) d)
 
 -- The LL band can be listed in the stretch of level N+1.
-pub band-listing : (z : Size) (n : ℕ) (work : List ℕ) → legalSize z ≡ true → n ≡ levelSize z (levels z) → 4 * n ≤ length work
-    → Listing z (bandLL z) (topStretch n) (midOf 0 (4 * n - 0) work) empty
-band-listing z n work e i h =
+pub band-listing : (role : Role) (z : Size) (n : ℕ) (work : List ℕ) → legalSize z ≡ true → n ≡ levelSize z (levels z) → 4 * n ≤ length work
+    → Listing z (bandLL z) (topStretch role n) (midOf 0 (4 * n - 0) work) empty
+band-listing role z n work e i h =
     let Z : Legal z = legal z e in
     let room : 4 * n ≤ length (midOf 0 (4 * n - 0) work) = omega (arith, mid-len 0 (4 * n) work h) in
     record {
@@ -333,6 +349,7 @@ band-listing z n work e i h =
       band = every-all _ (bandLL z) (band-level z Z);
       fits = record {
         room = room;
+        marked = λ j l. absurd (omega arith);
         lip = omega arith;
         lsp = omega arith;
         kept = omega arith;
@@ -341,6 +358,8 @@ band-listing z n work e i h =
         moved = omega arith;
       };
       size = omega (arith, levelSize-top z Z, span-most z Z (z .n) (omega arith), area-bound z e);
+      first = sym (levelStart-top z);
+      count = i;
       coefficients = omega (arith, levelSize-top z Z, band-length z);
       sets =
           sets-fit n _
@@ -363,7 +382,7 @@ none-at i = go levelPlaces i
     go (suc m) zero = refl
     go (suc m) (suc j) = go m j
 
-module _ (z : Size) (r : Fill) where
+module _ (role : Role) (z : Size) (r : Fill) where
   abbrev counts : Counts
   counts = record { lip = set none (z .n) (r .lip); lsp = none; lis = set none (z .n) (r .left) }
 
@@ -375,7 +394,7 @@ module _ (z : Size) (r : Fill) where
 
   module _ (e : legalSize z ≡ true) (n : ℕ) (i : n ≡ levelSize z (levels z)) (work ys : List ℕ) (h : 4 * n ≤ length work)
       (l : length ys ≡ length (midOf 0 (4 * n - 0) work))
-      (B : Listed z (bandLL z) (topStretch n) (midOf 0 (4 * n - 0) work) empty ys r) where
+      (B : Listed z (bandLL z) (topStretch role n) (midOf 0 (4 * n - 0) work) empty ys r) where
     abbrev work′ : List ℕ
     work′ = putMid 0 (4 * n - 0) work ys
 
@@ -400,10 +419,10 @@ module _ (z : Size) (r : Fill) where
         ap₂ (λ (x y : ℕ). take y (drop x work)) a b
 
     band-held : _≡_ {A = Lists}
-        (record { lip = held (topStretch n) ys r .lip; lis = held (topStretch n) ys r .todo; lsp = held (topStretch n) ys r .lsp })
+        (record { lip = held (topStretch role n) ys r .lip; lis = held (topStretch role n) ys r .todo; lsp = held (topStretch role n) ys r .lsp })
         (record { lip = map (numberOf z) (bandLL z); lis = rootsOf z (bandLL z); lsp = [] })
     band-held =
-        let t : Stretch = topStretch n in
+        let t : Stretch = topStretch role n in
         let xs : List ℕ = midOf 0 (4 * n - 0) work in
         let a : held t ys r .lip ≡ map (numberOf z) (bandLL z) =
         B .lip ∙ ap (λ l. l ++ map (numberOf z) (bandLL z)) (held-waiting t xs empty ∙ waiting-none n 0 xs) in
@@ -426,7 +445,7 @@ module _ (z : Size) (r : Fill) where
           counts-top (r .left) few,
           none-at (levels z - 1),
         )
-        (ap (λ (m : ℕ). listsIn n ys (r .lip) (r .left) m) (sym p) ∙ held-begins (topStretch n) ys r v ∙ band-held ∙ sym (start-lis z))
+        (ap (λ (m : ℕ). listsIn n ys (r .lip) (r .left) m) (sym p) ∙ held-begins (topStretch role n) ys r v ∙ band-held ∙ sym (start-lis z))
 
     other-lists : (k : ℕ) → k ≢ levels z → stateOf z work′ counts k ≡ treeStart z k
     unfolding stateOf listsAt
@@ -479,15 +498,28 @@ module _ (z : Size) (r : Fill) where
         (seg-same (4 * levelStart z k) (4 * levelSize z k) work work′ (same-len-mid 0 (4 * n - 0) work ys l)
         (λ p u v. behind p (omega (arith, level-before z Z (levels z) k a (omega arith) (omega arith)))))
 
-    pub started : Started z work counts work′
+    -- LIP's entries are marked; the other levels have none
+    top-marks : (i : ℕ) → i < r .lip
+        → Marked (stretchBy role z (levels z)) (stretchOf z (levels z) work′) (lipAt (levelSize z (levels z)) i (stretchOf z (levels z) work′))
+    top-marks j l = rw (top-stretch, ← i, levelStart-top z) (marked-lent (λ x g. refl) (B .fits .marked j l))
+
+    pub started : Started role z work counts work′
     started =
         record {
           lists = record { lists = λ k. by k (ℕ-discrete k (levels z)) };
           same = same-len-mid 0 (4 * n - 0) work ys l;
           words = words-same;
           maxima = maxima-same;
+          marks = record { lips = λ k j a b l. marked k j (ℕ-discrete k (levels z)) l };
         }
       where
+        marked : (k j : ℕ) → Dec (k ≡ levels z) → j < countAt (counts .lip) k
+            → Marked (stretchBy role z k) (stretchOf z k work′) (lipAt (levelSize z k) j (stretchOf z k work′))
+        marked k j (yes d) l =
+            subst (λ (x : ℕ). Marked (stretchBy role z x) (stretchOf z x work′) (lipAt (levelSize z x) j (stretchOf z x work′))) (sym d)
+            (top-marks j (omega (arith, ap (countAt (counts .lip)) d, counts-top (r .lip) (omega (arith, Z .few)))))
+        marked k j (no d) l = absurd (omega (arith, counts-else (r .lip) k (Z .some) d))
+
         by : (k : ℕ) → Dec (k ≡ levels z) → stateOf z work′ counts k ≡ treeStart z k
         by k (yes j) = subst (λ (x : ℕ). stateOf z work′ counts x ≡ treeStart z x) (sym j) top-lists
         by k (no d) = other-lists k d

@@ -31,7 +31,7 @@ use Rattle.trees.specs.Within.{QuestionOf, EventOf, Agreeing, Related, passed-r
 use Rattle.coefficients.specs.Words.{worded, magnitudeWord, negativeWord, magnitude-word, negative-word}
 use Rattle.stretches.specs.Cut.{valuesIn, largestD, largestL, stretchOf}
 use Rattle.stretches.specs.Workspace.{wordIn, maximumIn, Maxima, Holds}
-use Rattle.testing.specs.declared.Role.the-variants.{Codes}
+use Rattle.lists.specs.declared.Role.the-variants.{Codes}
 use Rattle.testing.specs.declared.Run.{Run}
 use Rattle.testing.specs.Exchange.{Chan, chan, wordAt, largestAt, wordsTell, answer, noted, side}
 use Rattle.parts.specs.declared.Counts.{Counts}
@@ -86,11 +86,10 @@ module _ (z : Size) (Z : Legal z) (plane : Plane) (level : Level) (counts : Coun
     neg x = negative v (coefficientOf z x)
 
     word-worded : (x : ℕ) → treeLevel z x ≡ k → wordAt R s x ≡ worded (getD v (coefficientOf z x) (pos 0))
-    unfolding stretchFor
     word-worded x e = word-here z Z work k x e a ∙ H .words x (tree-level-area z Z x (omega arith))
 
     largest-kept : (e : Entry) → Met (trees z) k e → largestAt R s e ≡ greatest (λ x. keptOf (mag x)) (members (trees z) e)
-    unfolding largestAt stretchFor keptOf maximumIn largestD largestL
+    unfolding largestAt keptOf maximumIn largestD largestL
     largest-kept (typeA x) m =
         let p = typeA-place z Z k x m in
         rw (le-leb (span z (k + 1)) x (p .1)) (H .maxima .ofD k x a (p .0) (p .1) (p .2))
@@ -158,7 +157,7 @@ module _ (z : Size) (Z : Legal z) (plane : Plane) (level : Level) (counts : Coun
     -- So a part that was run is a part coded.
     pub coded-part : Ready z plane level work counts → PartCoded z plane level work counts out at r work′ out′
     unfolding coded
-    coded-part D = record { same = P .same; coded = λ v H. made H }
+    coded-part D = record { same = P .same; marks = P .marks; coded = λ v H. made H }
       where
         made : {v : List ℤ} → Holds z v work → CodedFrom v z plane level work counts out at r work′ out′
         made {v} H =

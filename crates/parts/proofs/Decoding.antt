@@ -31,7 +31,7 @@ use Rattle.trees.specs.Within.{QuestionOf, EventOf, Agreeing, Related, passed-r
 use Rattle.coefficients.specs.Words.{wordOf, valueOf, value-word, value-refined}
 use Rattle.stretches.specs.Cut.{valuesIn, stretchOf, values-length}
 use Rattle.stretches.specs.Workspace.{wordIn, drawnIn, Words}
-use Rattle.testing.specs.declared.Role.the-variants.{Reads}
+use Rattle.lists.specs.declared.Role.the-variants.{Reads}
 use Rattle.testing.specs.declared.Run.{Run}
 use Rattle.testing.specs.Exchange.{Chan, chan, localWord, drawn, noted, side}
 use Rattle.testing.specs.Growing.{word-local}

@@ -65,7 +65,7 @@ module _ (run : Run) (F : Family) (k bound : ℕ) where
 
   -- In the midst of a part: the coefficients ks are still to be refined, and none of them, nor any that is still to be tested, comes twice.
   pub record Growing (vs ps : List ℕ) (es : List Entry) (ks : List ℕ) : Type 0 where
-    pub small : (q : ℕ) → localWord (run .first) vs q + bit * sum (is q) ks < bound
+    pub small : (q : ℕ) → localWord (run .stretch .first) vs q + bit * sum (is q) ks < bound
     pub once : (q : ℕ) → sum (is q) ps + sum (setWeight F (is q)) es + sum (is q) ks ≤ 1
 
 module _ (run : Run) {F : Family} (L : Lawful F) (k bound : ℕ) (large : 2 * 2 ^ run .plane .0 + 1 < bound) where
@@ -110,8 +110,8 @@ module _ (run : Run) {F : Family} (L : Lawful F) (k bound : ℕ) (large : 2 * 2 
 -- Where every word is under b, each is under b + 2^18 after a part.
 pub part-grows : (run : Run) {F : Family} → Lawful F → run .plane .0 < mostPlanes → (k : ℕ) (s body : List ℕ) (l : Lists)
     → ((q : ℕ) → sum (is q) (l .lip) + sum (setWeight F (is q)) (l .lis) + sum (is q) (l .lsp) ≤ 1)
-    → (out vs : List ℕ) (at b : ℕ) → ((q : ℕ) → localWord (run .first) vs q < b) → (q : ℕ)
-    → localWord (run .first) (passed F k (side run s body) l (chan out vs at) .side .values) q < b + 2 * 2 ^ mostPlanes
+    → (out vs : List ℕ) (at b : ℕ) → ((q : ℕ) → localWord (run .stretch .first) vs q < b) → (q : ℕ)
+    → localWord (run .stretch .first) (passed F k (side run s body) l (chan out vs at) .side .values) q < b + 2 * 2 ^ mostPlanes
 unfolding passed sum
 part-grows run {F} L low k s body l once out vs at b small q =
     let a : 2 ^ run .plane .0 ≤ 2 ^ 16 = pow-mono {i = run .plane .0} {j = 16} (omega arith) in

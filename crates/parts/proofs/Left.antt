@@ -19,21 +19,22 @@ use Rattle.rules.specs.Laws.Family.Sizes.{legal, area-bound, levelStart, levelS
 use Rattle.rules.specs.Laws.State.Weight.{after-own, after-next, after-other}
 use Rattle.rules.specs.Promises.Vocabulary.{Legal}
 use Rattle.stretches.specs.Seg.{seg, seg-same, seg-seg}
-use Rattle.stretches.specs.Cut.{setRoom, lisFrom, maximaFrom, valuesIn, maximaIn, stretchOf, maxima-at}
-use Rattle.lists.specs.Lists.{entry, sets, sets-few, moved-length, held-ends, held-moved}
-use Rattle.testing.specs.declared.Role.{Role}
+use Rattle.stretches.specs.Cut.{setRoom, lipFrom, lisFrom, maximaFrom, valuesIn, maximaIn, stretchOf, maxima-at}
+use Rattle.lists.specs.Lists.{Marked, lipAt, entry, sets, sets-few, moved-length, held-ends, held-moved}
+use Rattle.lists.specs.Besides.{marked-lent, marks-kept}
+use Rattle.lists.specs.declared.Role.{Role}
 use Rattle.testing.specs.declared.Run.{Run}
 use Rattle.testing.specs.declared.Stand.{Stand}
 use Rattle.testing.specs.Exchange.{Chan, chan, reads, side}
 use Rattle.testing.specs.Finding.{course}
 use Rattle.parts.specs.declared.Counts.{Counts}
 use Rattle.parts.specs.declared.Passed.{Passed}
-use Rattle.parts.specs.Standing.{countAt, Places, fillOf, withLists, listsAt, stateOf, Ready}
+use Rattle.parts.specs.Standing.{countAt, Places, fillOf, withLists, listsAt, stateOf, Ready, stretchBy, Marks}
 use Rattle.parts.specs.Workspace.{lentTo, lentOf, stretchFor, withMoved, Lent, runOf, courseIn, PartRun}
 use Rattle.parts.proofs.Levels.{size-place, next-start, level-before, stretch-at, stretch-length}
 use Rattle.parts.proofs.Workspace.{lent-next, Untouched, untouched}
 use Rattle.parts.proofs.States.{state-in, state-out, state-same, lists-agree, lists-more, counts-own, counts-other, counts-next}
-use Rattle.parts.proofs.Parts.{level-fits, away-next, values-lent, lists-lent, pass-is, moved-none, moved-some}
+use Rattle.parts.proofs.Parts.{level-fits, away-next, lent-own, lent-lip, values-lent, lists-lent, pass-is, moved-none, moved-some}
 
 module _ (role : Role) {z : Size} {plane : Plane} {level : Level} {work : List ℕ} {counts : Counts} (D : Ready z plane level work counts)
     (from until : BitPosition) (six : Places counts) {body out work₁ out₁ : List ℕ} {r : Stand}
@@ -88,7 +89,6 @@ module _ (role : Role) {z : Size} {plane : Plane} {level : Level} {work : List �
   gone-some h = omega (arith, moved-some role D from until C x₀ h, gone-count)
 
   U : Untouched run (r .fill .moved) work work₁
-  unfolding stretchFor
   U = untouched run (D .legal) a b refl (D .room) T
 
   -- what is as it was, level by level: all of those that are neither the level nor the next
@@ -109,7 +109,7 @@ module _ (role : Role) {z : Size} {plane : Plane} {level : Level} {work : List �
 
   -- the next level's, before the sets that came and behind them
   next-before : 2 ≤ k → (i : ℕ) → i < lisFrom (levelSize z (k - 1)) + countAt (counts .lis) (k - 1) → i < 4 * levelSize z (k - 1) → Same (k - 1) i
-  unfolding maximaFrom stretchFor
+  unfolding maximaFrom
   next-before h i l g =
       same-at (k - 1) i g (U .others _ (omega (arith, next-start z L k h b)) (omega (arith, next-start z L k h b, away-next role D from until h)))
 
@@ -119,11 +119,9 @@ module _ (role : Role) {z : Size} {plane : Plane} {level : Level} {work : List �
 
   -- the level's own
   own-values : reads run ≡ false → (i : ℕ) → i < levelSize z k → Same k i
-  unfolding stretchFor
   own-values e i h = same-at k i (omega arith) (U .values e _ (omega arith) (omega arith))
 
   own-maxima : (i : ℕ) → maximaFrom (levelSize z k) ≤ i → i < 4 * levelSize z k → Same k i
-  unfolding stretchFor
   own-maxima i l h = same-at k i h (U .others _ (omega arith) (omega (arith, T .ran .fits .behind)))
 
   -- So are the words of other levels, by the coder those of its own too, and all maxima.
@@ -174,7 +172,7 @@ module _ (role : Role) {z : Size} {plane : Plane} {level : Level} {work : List �
 
   -- of the level
   own-lists : stateOf z work₁ left k ≡ own c
-  unfolding listsAt stretchFor
+  unfolding listsAt
   own-lists =
       let n = counts-own counts six k a few (r .fill) in
       let f = T .ran .fits in
@@ -240,10 +238,42 @@ module _ (role : Role) {z : Size} {plane : Plane} {level : Level} {work : List �
           ∙ sym (subst (λ (y : ℕ). after y c s j ≡ handed c (s j)) m (after-next c s j))
       by (no i) (no m) o = other-lists j i m ∙ sym (after-other c s k j i m)
 
+  -- LIP's entries are marked as they were, those of the level as the pass left them
+  own-marks : (i : ℕ) → i < r .fill .lip → Marked (stretchBy role z k) (stretchOf z k work₁) (lipAt (levelSize z k) i (stretchOf z k work₁))
+  own-marks i h =
+      let f = T .ran .fits in
+      subst (Marked (stretchBy role z k) (stretchOf z k work₁)) (lent-lip role D from until work₁ i (omega (arith, f .lip)))
+      (marked-lent (λ j l. sym (lent-own role D from until work₁ j (omega arith))) (f .marked i h))
+
+  other-marks : Marks role z work counts → (j i : ℕ) → 1 ≤ j → j ≤ levels z → j ≢ k → i < countAt (counts .lip) j
+      → Marked (stretchBy role z j) (stretchOf z j work₁) (lipAt (levelSize z j) i (stretchOf z j work₁))
+  unfolding lipAt lipFrom lisFrom
+  other-marks M j i u v d h =
+      marks-kept {t = stretchBy role z j} (λ c x l. words-same j x u v (λ e. absurd (d e)) l) (λ x l. there (ℕ-discrete (suc j) k) x (omega (arith, few-lips)))
+      (λ x l. M .lips j x u v l) i h
+    where
+      few-lips : countAt (counts .lip) j ≤ levelSize z j
+      few-lips = level-fits D j u v .lip
+
+      there : Dec (suc j ≡ k) → (x : ℕ) → x < levelSize z j → Same j (levelSize z j + x)
+      there (yes g) x l =
+          let n : k - 1 ≡ j = omega arith in
+          subst (λ (y : ℕ). x < levelSize z y → Same y (levelSize z y + x)) n (λ o. next-before (omega arith) _ (omega arith) (omega arith)) l
+      there (no g) x l = other-same j u v d g _ (omega arith)
+
+  marks-left : Marks role z work counts → Marks role z work₁ left
+  marks-left M = record { lips = λ j i u v h. by j i u v (ℕ-discrete j k) h }
+    where
+      by : (j i : ℕ) → 1 ≤ j → j ≤ levels z → Dec (j ≡ k) → i < countAt (left .lip) j
+          → Marked (stretchBy role z j) (stretchOf z j work₁) (lipAt (levelSize z j) i (stretchOf z j work₁))
+      by j i u v (yes d) h =
+          subst (λ (y : ℕ). Marked (stretchBy role z y) (stretchOf z y work₁) (lipAt (levelSize z y) i (stretchOf z y work₁))) (sym d)
+          (own-marks i (omega (arith, counts-own counts six k a few (r .fill) .0, ap (countAt (left .lip)) d)))
+      by j i u v (no d) h = other-marks M j i u v d (omega (arith, counts-other counts six k a few (r .fill) j u d .0))
+
   -- the whole part
-  pub part-run : {p : Passed} → p .counts ≡ left → p .at ≡ r .at → PartRun run body work counts out p work₁ out₁
-  unfolding stretchFor
-  part-run {p} e i =
+  pub part-run : {p : Passed} → Marks role z work counts → p .counts ≡ left → p .at ≡ r .at → PartRun run body work counts out p work₁ out₁
+  part-run {p} M e i =
       record {
         lists = record { lists = λ j. ap (λ x. stateOf z work₁ x j) e ∙ lists-left j };
         same = T .same;
@@ -251,6 +281,7 @@ module _ (role : Role) {z : Size} {plane : Plane} {level : Level} {work : List �
             ap₂ (λ vs (x : BitPosition). chan out₁ vs (x .at)) (sym (values-lent role D from until work₁)) i ∙ ap (λ x. x .side) ran-course;
         words = words-same;
         maxima = maxima-same;
+        marks = subst (Marks role z work₁) (sym e) (marks-left M);
       }
 
   pub more-fits : countAt (withLists counts k (r .fill) .lis) (k - 1) + r .fill .moved < 2 ^ 32
@@ -274,6 +305,6 @@ module _ (role : Role) {z : Size} {plane : Plane} {level : Level} {work : List �
             ap (λ (i : ℕ). getD (set (counts .lis) (k - 1) (r .fill .kept)) i 0) same,
             getD-set-same (counts .lis) (k - 1) (r .fill .kept) 0 (omega (arith, six .lis, a, few)),
             gone-none (omega arith),
-            sets-few (levelSize z k) (r .fill .kept) (unfold stretchFor in omega (arith, T .ran .fits .kept, T .ran .fits .visits)),
+            sets-few (levelSize z k) (r .fill .kept) (omega (arith, T .ran .fits .kept, T .ran .fits .visits)),
             small k a b,
           )

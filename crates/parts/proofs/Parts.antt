@@ -7,7 +7,7 @@ use native.Mathlib.Nat.{mul-le-mul-left}
 use native.Mathlib.Omega.{arith}
 use native.Mathlib.Decide.{decLe}
 use lib.Dec.{leb}
-use lib.ListN.{length}
+use lib.ListN.{length, getD}
 use lib.Pow.{pow-mono}
 use borrow.Author.Tests.{le-leb, lt-leb, lt-ltb}
 use Rattle.rules.specs.declared.Size.{Size}
@@ -24,21 +24,24 @@ use Rattle.rules.specs.Promises.Vocabulary.{Legal}
 use Rattle.trees.specs.Family.{trees}
 use Rattle.trees.specs.Lawful.{trees-lawful}
 use Rattle.trees.specs.Sound.{tree-part-room, tree-moved-room}
-use Rattle.stretches.specs.Cut.{setRoom, lisFrom, maximaFrom, valuesIn, maximaIn, stretchOf}
+use Rattle.stretches.specs.Seg.{seg-at}
+use Rattle.stretches.specs.Cut.{setRoom, lipFrom, lisFrom, maximaFrom, valuesIn, maximaIn, stretchOf}
 use Rattle.stretches.specs.Workspace.{Words}
 use Rattle.lists.specs.declared.Stretch.{Stretch}
 use Rattle.lists.specs.declared.Fill.{Fill}
-use Rattle.lists.specs.Lists.{sets, listsIn, Held, held, Fits, lists-fit, sets-fit, sets-few, known-length, todo-length}
+use Rattle.lists.specs.Lists.{Marked, lipAt, sets, listsIn, Held, held, Fits, lists-fit, sets-fit, sets-few, known-length, todo-length}
 use Rattle.lists.specs.Lists.{held-begins, held-known}
-use Rattle.testing.specs.declared.Role.{Role}
+use Rattle.lists.specs.Besides.{marked-none, marked-lent}
+use Rattle.lists.specs.declared.Role.{Role}
+use Rattle.lists.specs.declared.Role.the-variants.{Reads}
 use Rattle.testing.specs.declared.Run.{Run}
 use Rattle.testing.specs.declared.Stand.{Stand}
 use Rattle.testing.specs.Exchange.{Chan, chan, familyOf, reads, side, side-kept, Silent}
 use Rattle.testing.specs.Growing.{Growth}
 use Rattle.passes.specs.Steps.{hasMember, Queued, Fresh, listsOf, passOf}
 use Rattle.parts.specs.declared.Counts.{Counts}
-use Rattle.parts.specs.Standing.{countAt, fillOf, listsAt, stateOf, Ready}
-use Rattle.parts.specs.Workspace.{lentTo, lentOf, stretchFor, Lending, runOf, courseIn}
+use Rattle.parts.specs.Standing.{countAt, fillOf, listsAt, stateOf, Ready, stretchBy, Marks}
+use Rattle.parts.specs.Workspace.{lentTo, lentOf, awayFor, stretchFor, Lending, runOf, courseIn}
 use Rattle.parts.proofs.Levels.{size-some, size-place, next-start, stretch-length}
 use Rattle.parts.proofs.Nodes.{top-none}
 use Rattle.parts.proofs.Workspace.{lent-next, lent-fits, lent-inside, lent-length}
@@ -74,7 +77,7 @@ module _ {z : Size} {p : Plane} {l : Level} {work : List ℕ} {counts : Counts} 
     t = stretchOf z k work
 
     abbrev alone : Stretch
-    alone = record { n = levelSize z k; away = 4 * levelSize z k }
+    alone = stretchBy Reads z k
 
     pub lists-are : listsIn n t (countAt (counts .lip) k) (countAt (counts .lis) k) (countAt (counts .lsp) k) ≡ s k
     unfolding listsAt
@@ -93,7 +96,7 @@ module _ {z : Size} {p : Plane} {l : Level} {work : List ℕ} {counts : Counts} 
         (omega (arith, long)) (omega arith) (omega (arith, long))
         (omega (arith, r .coefficients, ap (λ x. length (x .lip)) g))
         (omega (arith, m, ap (λ x. length (x .lis)) g))
-        (omega (arith, r .coefficients, ap (λ x. length (x .lsp)) g))
+        (omega (arith, r .coefficients, ap (λ x. length (x .lsp)) g)) (λ i h. marked-none refl)
 
     abbrev whole : Held
     whole = held alone t (fillOf counts k)
@@ -145,11 +148,11 @@ module _ (role : Role) {z : Size} {plane : Plane} {level : Level} {work : List �
 
   -- where the sets go that move out
   pub away-first : k < 2 → run .stretch .away ≡ 4 * levelSize z k
-  unfolding stretchFor
+  unfolding awayFor
   away-first h = rw (lt-leb 2 k h)
 
   pub away-next : 2 ≤ k → run .stretch .away ≡ 4 * levelSize z k + lisFrom (levelSize z (k - 1)) + countAt (counts .lis) (k - 1)
-  unfolding stretchFor
+  unfolding awayFor
   away-next h = rw (le-leb 2 k h)
 
   next-few : 2 ≤ k → countAt (counts .lis) (k - 1) ≤ setRoom (levelSize z (k - 1))
@@ -159,19 +162,8 @@ module _ (role : Role) {z : Size} {plane : Plane} {level : Level} {work : List �
   pub lent-next-length : 2 ≤ k → lentTo z k ≡ 4 * levelStart z k + 4 * levelSize z k + 4 * levelSize z (k - 1)
   lent-next-length h = omega (arith, lent-next z k h, next-start z L k h b)
 
-  pass-fits : Fits (run .stretch) (lent work) (fillOf counts k)
-  unfolding stretchFor
-  pass-fits =
-      let f = level-fits D k a b in
-      record {
-        room = omega (arith, lent-length z L k a b work (D .room), lent-fits z L k a b .0);
-        lip = f .lip;
-        lsp = f .lsp;
-        kept = f .kept;
-        visits = f .visits;
-        behind = by (decLe 2 k) .0;
-        moved = by (decLe 2 k) .1;
-      }
+  pass-behind : (4 * levelSize z k ≤ run .stretch .away) × (run .stretch .away + 0 ≤ length (lent work))
+  pass-behind = by (decLe 2 k)
     where
       by : Dec (2 ≤ k) → (4 * levelSize z k ≤ run .stretch .away) × (run .stretch .away + 0 ≤ length (lent work))
       by (yes h) =
@@ -180,6 +172,33 @@ module _ (role : Role) {z : Size} {plane : Plane} {level : Level} {work : List �
           (omega (arith, away-next h), omega (arith, away-next h, lent-length z L k a b work (D .room), lent-next-length h))
       by (no h) =
           (omega (arith, away-first (omega arith)), omega (arith, away-first (omega arith), lent-length z L k a b work (D .room), lent-fits z L k a b .0))
+
+  -- the level's own stretch, number by number
+  pub lent-own : (w : List ℕ) (i : ℕ) → i < 4 * levelSize z k → getD (lent w) i 0 ≡ getD (stretchOf z k w) i 0
+  unfolding stretchOf
+  lent-own w i h =
+      seg-at (4 * levelStart z k) (lentTo z k - 4 * levelStart z k) w i (omega (arith, lent-fits z L k a b .0))
+      ∙ sym (seg-at (4 * levelStart z k) (4 * levelSize z k) w i h)
+
+  pub lent-lip : (w : List ℕ) (i : ℕ) → i < levelSize z k → lipAt (levelSize z k) i (lent w) ≡ lipAt (levelSize z k) i (stretchOf z k w)
+  unfolding lipAt lipFrom
+  lent-lip w i h = lent-own w (levelSize z k + i) (omega arith)
+
+  pass-fits : Marks role z work counts → Fits (run .stretch) (lent work) (fillOf counts k)
+  pass-fits M =
+      let f = level-fits D k a b in
+      record {
+        room = omega (arith, lent-length z L k a b work (D .room), lent-fits z L k a b .0);
+        marked = λ i h.
+            subst (Marked (run .stretch) (lent work)) (sym (lent-lip work i (omega (arith, f .lip))))
+            (marked-lent (λ j l. lent-own work j (omega arith)) (M .lips k i a b h));
+        lip = f .lip;
+        lsp = f .lsp;
+        kept = f .kept;
+        visits = f .visits;
+        behind = pass-behind .0;
+        moved = pass-behind .1;
+      }
 
   -- what lies in the level's own stretch
   module _ (w : List ℕ) where
@@ -199,7 +218,6 @@ module _ (role : Role) {z : Size} {plane : Plane} {level : Level} {work : List �
 
   -- what the pass finds
   found : listsOf run (lent work) begun ≡ stateOf z work counts k
-  unfolding stretchFor
   found =
       let f = level-fits D k a b in
       sym (held-begins (run .stretch) (lent work) (fillOf counts k) refl)
@@ -207,7 +225,6 @@ module _ (role : Role) {z : Size} {plane : Plane} {level : Level} {work : List �
       ∙ lists-are D k a b
 
   pub pass-is : (body out : List ℕ) → passOf run body (lent work) out begun ≡ courseIn run body work counts out
-  unfolding stretchFor
   pass-is body out =
       let t = stretchOf z k work in
       ap (λ C. passed (trees z) k C (listsOf run (lent work) begun) (chan out (valuesIn (levelSize z k) (lent work)) (from .at)))
@@ -242,7 +259,7 @@ module _ (role : Role) {z : Size} {plane : Plane} {level : Level} {work : List �
 
       by : Dec (2 ≤ k) → run .stretch .away + length (courseIn run body work counts out .moved) ≤ length (lent work)
       by (yes h) = omega (arith, away-next h, lent-length z L k a b work (D .room), lent-next-length h, moved-some C x h)
-      by (no h) = omega (arith, ap length (moved-none C x (omega arith)), pass-fits .moved)
+      by (no h) = omega (arith, ap length (moved-none C x (omega arith)), pass-behind .1)
 
   growth : Words z (2 ^ 29) work
       → Growth (levelStart z k) (plane .0) (2 ^ 30) (valuesIn (levelSize z k) (lent work)) (stateOf z work counts k .lsp)
@@ -261,10 +278,9 @@ module _ (role : Role) {z : Size} {plane : Plane} {level : Level} {work : List �
         once = o;
       }
 
-  module _ (place : from .at + 4 * levelSize z k < 2 ^ 62) (words : reads run ≡ true → Words z (2 ^ 29) work) (body out : List ℕ)
-      (silent : Silent run body) where
+  module _ (place : from .at + 4 * levelSize z k < 2 ^ 62) (words : reads run ≡ true → Words z (2 ^ 29) work) (marks : Marks role z work counts)
+      (body out : List ℕ) (silent : Silent run body) where
     part-fresh : Fresh run body (lent work) out begun
-    unfolding stretchFor
     part-fresh =
         let n = level-counts D k a b in
         record {
@@ -281,7 +297,7 @@ module _ (role : Role) {z : Size} {plane : Plane} {level : Level} {work : List �
                 elders = refl;
                 from = place;
               };
-          fits = pass-fits;
+          fits = pass-fits marks;
           room =
               subst (λ x. Room (trees z) k (levelSize z k) (countAt (counts .lsp) k) 0 (x .lip) (x .lis)) (sym found)
               (rw (← (n .1)) (level-room D k a b));
@@ -302,7 +318,6 @@ module _ (role : Role) {z : Size} {plane : Plane} {level : Level} {work : List �
         }
 
     pub part-lending : {f : Fill} → f ≡ fillOf counts k → Lending run body work out (record { fill = f; at = from })
-    unfolding stretchFor
     part-lending e =
         record {
           room = D .room;

@@ -19,15 +19,16 @@ use Rattle.stretches.specs.Cut.{lisFrom}
 use Rattle.lists.specs.declared.Stretch.{Stretch}
 use Rattle.lists.specs.declared.Fill.{Fill}
 use Rattle.lists.specs.Lists.{sets-few}
-use Rattle.testing.specs.declared.Role.{Role}
-use Rattle.testing.specs.declared.Role.the-variants.{Codes, Reads}
+use Rattle.lists.specs.Besides.{marked-none}
+use Rattle.lists.specs.declared.Role.{Role}
+use Rattle.lists.specs.declared.Role.the-variants.{Codes, Reads}
 use Rattle.testing.specs.declared.Run.{Run}
 use Rattle.testing.specs.declared.Stand.{Stand}
 use Rattle.parts.specs.declared.Counts.{Counts}
 use Rattle.parts.specs.declared.Passed.{Passed}
 use Rattle.testing.specs.Exchange.{Silent}
 use Rattle.parts.specs.Standing.{countAt, Places, fillOf, withLists, Ready, ReadyToCode, PartCoded, ReadyToDecode, Quiet, PartDecoded}
-use Rattle.parts.specs.Workspace.{stretchFor, withMoved, Counting, Cutting, Lending, Lent, runOf, Running, PartRun}
+use Rattle.parts.specs.Workspace.{awayFor, stretchFor, withMoved, Counting, Cutting, Lending, Lent, runOf, Running, PartRun}
 use Rattle.parts.proofs.Levels.{size-place, stretch-length}
 use Rattle.parts.proofs.Parts.{level-fits, part-lending}
 use Rattle.parts.proofs.Left.{part-run, more-fits}
@@ -46,37 +47,36 @@ module _ {z : Size} {k : Level} {counts : Counts} (C : Cutting z k counts) where
   next-under h = size-under z (k .0 - 1) (C .legal) (omega arith) (omega (arith, C .level))
 
 -- the stretch of a level, as the code makes it
-module _ (z : Size) (k : ℕ) (counts : Counts) {n : ℕ} (e : n ≡ levelSize z k) where
-  pub stretch-first : k < 2 → _≡_ {A = Stretch} (record { n = n; away = 4 * n }) (stretchFor z k counts)
-  unfolding stretchFor
-  stretch-first h = rw (lt-leb 2 k h) (ap (λ (x : ℕ). record { n = x; away = 4 * x }) e)
+module _ (role : Role) (z : Size) (k : ℕ) (counts : Counts) {n first : ℕ} (e : n ≡ levelSize z k) (d : first ≡ levelStart z k) where
+  pub stretch-first : k < 2 → _≡_ {A = Stretch} (record { role = role; n = n; first = first; away = 4 * n }) (stretchFor role z k counts)
+  unfolding awayFor
+  stretch-first h = rw (lt-leb 2 k h) (ap₂ (λ (x y : ℕ). record { role = role; n = x; first = y; away = 4 * x }) e d)
 
   pub stretch-next : {m away : ℕ} {f : Fill} → 2 ≤ k → m ≡ levelSize z (k - 1) → f ≡ fillOf counts (k - 1) → away ≡ 4 * n + lisFrom m + f .left
-      → _≡_ {A = Stretch} (record { n = n; away = away }) (stretchFor z k counts)
-  unfolding stretchFor
+      → _≡_ {A = Stretch} (record { role = role; n = n; first = first; away = away }) (stretchFor role z k counts)
+  unfolding awayFor
   stretch-next {m} {away} {f} h i j g =
       rw (le-leb 2 k h)
-      (ap₂ (λ (x y : ℕ). record { n = x; away = y }) e
+      (ap (λ (x : ℕ). record { role = role; n = n; first = x; away = away }) d
+      ∙ ap₂ (λ (x y : ℕ). record { role = role; n = x; first = levelStart z k; away = y }) e
       (g ∙ ap₂ (λ (x y : ℕ). 4 * x + lisFrom y + f .left) e i
       ∙ ap (λ (x : Fill). 4 * levelSize z k + lisFrom (levelSize z (k - 1)) + x .left) j))
 
 pub run-is : {role : Role} {z : Size} {plane : Plane} {level : Level} (counts : Counts) {from until : BitPosition} {t : Stretch} {f : Fill}
-    {first parents elders : ℕ} → f ≡ fillOf counts (level .0) → t ≡ stretchFor z (level .0) counts → first ≡ levelStart z (level .0)
+    {parents elders : ℕ} → f ≡ fillOf counts (level .0) → t ≡ stretchFor role z (level .0) counts
     → parents ≡ span z (level .0 + 1) → elders ≡ span z (level .0 + 2)
     → _≡_ {A = Run} (record {
-      role = role;
       z = z;
       plane = plane;
       level = level;
       stretch = t;
-      first = first;
       parents = parents;
       elders = elders;
       olds = f .left;
       from = from;
       until = until;
     }) (runOf role z plane level counts from until)
-run-is counts e i a b c = cc
+run-is counts e i b c = cc
 
 -- the part of a run
 module _ {run : Run} {body work out : List ℕ} {counts : Counts} (H : Running run body work counts out) where
@@ -89,11 +89,11 @@ module _ {run : Run} {body work out : List ℕ} {counts : Counts} (H : Running r
   pub running-lends : {f : Fill} → f ≡ fillOf counts k → Lending run body work out (record { fill = f; at = run .from })
   running-lends {f} e =
       subst (λ x. Lending x body work out (record { fill = f; at = run .from })) (sym (H .runs))
-      (part-lending (run .role) (H .ready) (run .from) (run .until) (H .place) (H .words) body out (subst (λ x. Silent x body) (H .runs) (H .silent)) e)
+      (part-lending (run .stretch .role) (H .ready) (run .from) (run .until) (H .place) (H .words) (H .marks) body out (subst (λ x. Silent x body) (H .runs) (H .silent)) e)
 
   module _ (six : Places counts) {f : Fill} (e : f ≡ fillOf counts k) {work₁ out₁ : List ℕ} {r : Stand}
       (T : Lent run body work out (record { fill = f; at = run .from }) work₁ out₁ r) {own : Counts} (i : own ≡ withLists counts k (r .fill)) where
-    lent-run : Lent (runOf (run .role) (run .z) (run .plane) (run .level) counts (run .from) (run .until)) body work out
+    lent-run : Lent (runOf (run .stretch .role) (run .z) (run .plane) (run .level) counts (run .from) (run .until)) body work out
         (record { fill = fillOf counts k; at = run .from }) work₁ out₁ r
     lent-run =
         subst (λ x. Lent x body work out (record { fill = fillOf counts k; at = run .from }) work₁ out₁ r) (H .runs)
@@ -101,12 +101,12 @@ module _ {run : Run} {body work out : List ℕ} {counts : Counts} (H : Running r
 
     pub running-more : Counting own (run .level) (r .fill .moved)
     running-more =
-        record { coarser = running-few .0; level = running-few .1; few = rw i (more-fits (run .role) (H .ready) (run .from) (run .until) six lent-run) }
+        record { coarser = running-few .0; level = running-few .1; few = rw i (more-fits (run .stretch .role) (H .ready) (run .from) (run .until) six lent-run) }
 
     pub running-done : {p : Passed} → p .counts ≡ withMoved own k (r .fill .moved) → p .at ≡ r .at → PartRun run body work counts out p work₁ out₁
     running-done {p} g h =
         subst (λ x. PartRun x body work counts out p work₁ out₁) (sym (H .runs))
-        (part-run (run .role) (H .ready) (run .from) (run .until) six lent-run (g ∙ ap (λ x. withMoved x k (r .fill .moved)) i) h)
+        (part-run (run .stretch .role) (H .ready) (run .from) (run .until) six lent-run (H .marks) (g ∙ ap (λ x. withMoved x k (r .fill .moved)) i) h)
 
 -- A part that is coded or decoded can be cut and run.
 module _ {z : Size} {plane : Plane} {level : Level} {work : List ℕ} {counts : Counts} (D : Ready z plane level work counts) where
@@ -136,6 +136,7 @@ module _ {z : Size} {plane : Plane} {level : Level} {work : List ℕ} {counts : 
         runs = refl;
         place = part-place (C .ready) (at .at) (C .place);
         words = λ h. absurd (true≢false (sym h));
+        marks = C .marks;
         silent = record { bits = λ h. absurd (true≢false (sym h)) };
       })
 
@@ -148,6 +149,7 @@ module _ {z : Size} {plane : Plane} {level : Level} {work : List ℕ} {counts : 
         runs = refl;
         place = part-place (D .ready) 0 (omega (arith, area-bound z (D .ready .legal)));
         words = λ h. D .words;
+        marks = record { lips = λ k i a b h. marked-none refl };
         silent = record { bits = λ h. Q .bits };
       })
 

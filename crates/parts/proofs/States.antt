@@ -18,7 +18,7 @@ use Rattle.trees.specs.Renamed.{map-append}
 use Rattle.stretches.specs.Seg.{seg, seg-add}
 use Rattle.stretches.specs.Cut.{lipFrom, lspFrom, lisFrom}
 use Rattle.lists.specs.declared.Fill.{Fill}
-use Rattle.lists.specs.Lists.{entry, sets, waiting, known, listsIn}
+use Rattle.lists.specs.Lists.{coefficient, entry, sets, waiting, known, listsIn}
 use Rattle.parts.specs.declared.Counts.{Counts}
 use Rattle.parts.specs.Standing.{countAt, Places, withLists, withSets, nothing, listsAt, stateOf}
 use Rattle.parts.specs.Workspace.{withMoved}
@@ -56,11 +56,11 @@ module _ (n : ℕ) (s s′ : List ℕ) (lip lis lsp : ℕ) (a : lip ≤ n) (b : 
     (same : (c m : ℕ) → n ≤ c → c + m ≤ lisFrom n + lis → seg c m s′ ≡ seg c m s) where
   waiting-same : waiting n 0 lip s′ ≡ waiting n 0 lip s
   unfolding waiting lipFrom lisFrom
-  waiting-same = same (n + 0) lip (omega arith) (omega arith)
+  waiting-same = ap (map coefficient) (same (n + 0) lip (omega arith) (omega arith))
 
   known-same : known n lsp s′ ≡ known n lsp s
   unfolding known lspFrom lisFrom
-  known-same = same (n + n) lsp (omega arith) (omega arith)
+  known-same = ap (map coefficient) (same (n + n) lsp (omega arith) (omega arith))
 
   sets-same : sets (lisFrom n) lis s′ ≡ sets (lisFrom n) lis s
   unfolding sets lisFrom

@@ -9,6 +9,7 @@ use Rattle.rules.specs.Document.Notation.{flat}
 use Rattle.rules.specs.Document.Pyramid.{legalSize, levels, levelOf, index}
 use Rattle.rules.specs.Document.Passes.{from}
 use Rattle.rules.specs.Laws.Counting.Sums.{All}
+use Rattle.rules.specs.Laws.Family.Sizes.{levelStart, levelSize}
 use Rattle.trees.specs.Run.{numberOf, treeRoot}
 use Rattle.lists.specs.declared.Stretch.{Stretch}
 use Rattle.lists.specs.declared.Fill.{Fill}
@@ -39,6 +40,8 @@ pub record Listing (z : Size) (ps : List ℕ) (t : Stretch) (s : List ℕ) (f : 
   pub band : All (λ p. levelOf z p ≡ levels z) ps
   pub fits : Fits t s f
   pub size : t .n < 2 ^ 32
+  pub first : t .first ≡ levelStart z (levels z)
+  pub count : t .n ≡ levelSize z (levels z)
   pub coefficients : f .lip + length ps ≤ t .n
   pub sets : f .visited + f .left + length (flat (treeRoot z) (map (numberOf z) ps)) ≤ setRoom (t .n)
 

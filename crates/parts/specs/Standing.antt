@@ -17,14 +17,17 @@ use Rattle.rules.specs.Document.Passes.{Lists, State, Course, Reader, PartName,
 use Rattle.rules.specs.Document.Layout.{bitAt}
 use Rattle.rules.specs.Document.Numbers.{mostBits}
 use Rattle.rules.specs.Document.Calls.{levelPlaces, workFor}
-use Rattle.rules.specs.Laws.Family.Sizes.{levelSize}
+use Rattle.rules.specs.Laws.Family.Sizes.{levelStart, levelSize}
 use Rattle.trees.specs.Family.{coefficientOf, trees}
 use Rattle.trees.specs.Run.{treeStart}
 use Rattle.trees.specs.Sound.{TreeSound}
 use Rattle.stretches.specs.Cut.{stretchOf}
 use Rattle.stretches.specs.Workspace.{wordIn, drawnIn, maximumIn, Words, Holds}
+use Rattle.lists.specs.declared.Role.{Role}
+use Rattle.lists.specs.declared.Role.the-variants.{Codes}
+use Rattle.lists.specs.declared.Stretch.{Stretch}
 use Rattle.lists.specs.declared.Fill.{Fill}
-use Rattle.lists.specs.Lists.{listsIn}
+use Rattle.lists.specs.Lists.{Marked, lipAt, listsIn}
 use Rattle.bits.specs.Bits.{writeBits}
 
 -- how many entries each list of level k has
@@ -68,11 +71,20 @@ agree-same a = fun-ext (a .lists)
 abbrev pub named : Plane → Level → PartName
 named n k = record { plane = n .0; level = k .0 }
 
-pub record Started (z : Size) (work : List ℕ) (r : Counts) (work′ : List ℕ) : Type 0 where
+-- LIP's entries are marked in each level, if its lists are the coder's.
+abbrev pub stretchBy : Role → Size → ℕ → Stretch
+stretchBy role z k = record { role = role; n = levelSize z k; first = levelStart z k; away = 4 * levelSize z k }
+
+pub record Marks (role : Role) (z : Size) (work : List ℕ) (counts : Counts) : Type 0 where
+  pub lips : (k i : ℕ) → 1 ≤ k → k ≤ levels z → i < countAt (counts .lip) k
+      → Marked (stretchBy role z k) (stretchOf z k work) (lipAt (levelSize z k) i (stretchOf z k work))
+
+pub record Started (role : Role) (z : Size) (work : List ℕ) (r : Counts) (work′ : List ℕ) : Type 0 where
   pub lists : Agree (stateOf z work′ r) (treeStart z)
   pub same : length work′ ≡ length work
   pub words : (x : ℕ) → x < area z → wordIn z work′ x ≡ wordIn z work x
   pub maxima : (k i : ℕ) → 1 ≤ k → k ≤ z .n → maximumIn z work′ k i ≡ maximumIn z work k i
+  pub marks : Marks role z work′ r
 
 -- what every part asks for
 pub record Ready (z : Size) (n : Plane) (k : Level) (work : List ℕ) (counts : Counts) : Type 0 where
@@ -86,6 +98,7 @@ pub record Ready (z : Size) (n : Plane) (k : Level) (work : List ℕ) (counts : 
 pub record ReadyToCode (z : Size) (n : Plane) (k : Level) (work : List ℕ) (counts : Counts) (at : BitPosition) : Type 0 where
   pub ready : Ready z n k work counts
   pub place : at .at + mostBits z < 2 ^ 61
+  pub marks : Marks Codes z work counts
 
 -- the coder's course over this part, for a pyramid v that the workspace holds
 abbrev pub courseC : List ℤ → Size → Plane → Level → List ℕ → Counts → Course (List Bool)
@@ -102,6 +115,7 @@ pub record CodedFrom (v : List ℤ) (z : Size) (n : Plane) (k : Level) (work : L
 pub record PartCoded (z : Size) (n : Plane) (k : Level) (work : List ℕ) (counts : Counts) (out : List ℕ) (at : BitPosition)
     (r : Passed) (work′ out′ : List ℕ) : Type 0 where
   pub same : length work′ ≡ length work
+  pub marks : Marks Codes z work′ (r .counts)
   pub coded : (v : List ℤ) → Holds z v work → CodedFrom v z n k work counts out at r work′ out′
 
 pub record ReadyToDecode (z : Size) (n : Plane) (k : Level) (work : List ℕ) (counts : Counts) : Type 0 where

@@ -17,14 +17,14 @@ use Rattle.stretches.specs.Seg.{seg}
 use Rattle.stretches.specs.Cut.{lisFrom, valuesIn, maximaIn, stretchOf}
 use Rattle.stretches.specs.Workspace.{Words}
 use Rattle.lists.specs.declared.Stretch.{Stretch}
-use Rattle.testing.specs.declared.Role.{Role}
+use Rattle.lists.specs.declared.Role.{Role}
 use Rattle.testing.specs.declared.Run.{Run}
 use Rattle.testing.specs.declared.Stand.{Stand}
 use Rattle.parts.specs.declared.Counts.{Counts}
 use Rattle.parts.specs.declared.Passed.{Passed}
 use Rattle.testing.specs.Exchange.{Chan, chan, familyOf, side, reads, Silent}
 use Rattle.passes.specs.Steps.{Fresh, Ran}
-use Rattle.parts.specs.Standing.{countAt, withSets, stateOf, Agree, Ready}
+use Rattle.parts.specs.Standing.{countAt, withSets, stateOf, Agree, Ready, Marks}
 
 -- where the stretches end that are lent to the pass of level k: its own, and the next level's if there is one
 unfoldable pub lentTo : Size → ℕ → ℕ
@@ -34,12 +34,11 @@ abbrev pub lentOf : Size → ℕ → List ℕ → List ℕ
 lentOf z k work = seg (4 * levelStart z k) (lentTo z k - 4 * levelStart z k) work
 
 -- the stretch of level k, by how full the lists are: what moves out goes behind the sets of the next level's LIS
-unfoldable pub stretchFor : Size → ℕ → Counts → Stretch
-stretchFor z k counts =
-    record {
-      n = levelSize z k;
-      away = cond (leb 2 k) (4 * levelSize z k + lisFrom (levelSize z (k - 1)) + countAt (counts .lis) (k - 1)) (4 * levelSize z k);
-    }
+unfoldable pub awayFor : Size → ℕ → Counts → ℕ
+awayFor z k counts = cond (leb 2 k) (4 * levelSize z k + lisFrom (levelSize z (k - 1)) + countAt (counts .lis) (k - 1)) (4 * levelSize z k)
+
+abbrev pub stretchFor : Role → Size → ℕ → Counts → Stretch
+stretchFor role z k counts = record { role = role; n = levelSize z k; first = levelStart z k; away = awayFor z k counts }
 
 -- the counts with sets that came to the LIS of the level after k
 unfoldable pub withMoved : Counts → ℕ → ℕ → Counts
@@ -73,12 +72,10 @@ pub record Lent (run : Run) (body work out : List ℕ) (w : Stand) (work′ out�
 abbrev pub runOf : Role → Size → Plane → Level → Counts → BitPosition → BitPosition → Run
 runOf role z plane level counts from until =
     record {
-      role = role;
       z = z;
       plane = plane;
       level = level;
-      stretch = stretchFor z (level .0) counts;
-      first = levelStart z (level .0);
+      stretch = stretchFor role z (level .0) counts;
       parents = span z (level .0 + 1);
       elders = span z (level .0 + 2);
       olds = countAt (counts .lis) (level .0);
@@ -88,9 +85,10 @@ runOf role z plane level counts from until =
 
 pub record Running (run : Run) (body work : List ℕ) (counts : Counts) (out : List ℕ) : Type 0 where
   pub ready : Ready (run .z) (run .plane) (run .level) work counts
-  pub runs : run ≡ runOf (run .role) (run .z) (run .plane) (run .level) counts (run .from) (run .until)
+  pub runs : run ≡ runOf (run .stretch .role) (run .z) (run .plane) (run .level) counts (run .from) (run .until)
   pub place : run .from .at + 4 * levelSize (run .z) (run .level .0) < 2 ^ 62
   pub words : reads run ≡ true → Words (run .z) (2 ^ 29) work
+  pub marks : Marks (run .stretch .role) (run .z) work counts
   pub silent : Silent run body
 
 -- what the pass makes of the level's lists, its values and the output
@@ -111,3 +109,4 @@ pub record PartRun (run : Run) (body work : List ℕ) (counts : Counts) (out : L
   pub maxima : (j i : ℕ) → 1 ≤ j → j ≤ run .z .n → i < levelSize (run .z) j / 4
       → getD (maximaIn (levelSize (run .z) j) (stretchOf (run .z) j work′)) i 0
       ≡ getD (maximaIn (levelSize (run .z) j) (stretchOf (run .z) j work)) i 0
+  pub marks : Marks (run .stretch .role) (run .z) work′ (r .counts)

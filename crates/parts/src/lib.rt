@@ -13,6 +13,7 @@ ghost use Rattle.parts.specs.Workspace.{lentTo, stretchFor, withMoved, C
 ghost use Rattle.parts.specs.Begin.{empty, rowOf, bandAt, InBand, Listing, Listed};
 use bits::BitPosition;
 use lists::Fill;
+use lists::Role;
 use lists::Set;
 use lists::Stretch;
 use rules::LEVEL_PLACES;
@@ -20,7 +21,6 @@ use rules::Level;
 use rules::Plane;
 use rules::Size;
 use shape::Depth;
-use testing::Role;
 use testing::Run;
 use testing::Stand;
 
@@ -91,13 +91,19 @@ fn list_band(z: Size, s: &mut [u32], stretch: Stretch) -> Fill
 
 // Start: LIP of level N+1 holds the LL band row by row, its LIS those with offspring as type A; all else is empty. The stretch of level N+1
 // is the first in the workspace; what the others' lists hold doesn't matter while their counts are 0.
-pub fn start(z: Size, work: &mut [u32]) -> Counts
+pub fn start(role: Role, z: Size, work: &mut [u32]) -> Counts
     requires { ⌜ (legalSize z ≡ true) × (workFor z ≤ length (now work)) ⌝ }
-    ensures { λ r. ⌜ Started z (now (work .entry)) r (now (work .exit)) ⌝ }
+    ensures { λ r. ⌜ Started role z (now (work .entry)) r (now (work .exit)) ⌝ }
 {
     let top = z.n;
     let n = shape::level_size(z, Level(top + 1));
-    let f = list_band(z, &mut work[0..4 * n], Stretch { n, away: 4 * n });
+    let stretch = Stretch {
+        role,
+        n,
+        first: 0,
+        away: 4 * n,
+    };
+    let f = list_band(z, &mut work[0..4 * n], stretch);
     let mut lip = [0; LEVEL_PLACES];
     lip[top] = f.lip;
     let mut lis = [0; LEVEL_PLACES];
@@ -156,18 +162,29 @@ fn with_moved(counts: Counts, k: Level, moved: usize) -> Counts
 }
 
 // The stretch of a level: the sets that move out go to the end of the next level's LIS; level 1 has no next.
-fn stretch_of(z: Size, k: Level, counts: Counts) -> Stretch
+fn stretch_of(role: Role, z: Size, k: Level, counts: Counts) -> Stretch
     requires { ⌜ Cutting z k counts ⌝ }
-    ensures { λ r. ⌜ r ≡ stretchFor z (k .0) counts ⌝ }
+    ensures { λ r. ⌜ r ≡ stretchFor role z (k .0) counts ⌝ }
 {
     let n = shape::level_size(z, k);
+    let first = shape::level_start(z, k);
     if k.0 < 2 {
-        return Stretch { n, away: 4 * n };
+        return Stretch {
+            role,
+            n,
+            first,
+            away: 4 * n,
+        };
     }
     let next = Level(k.0 - 1);
     let there = fill_of(counts, next);
     let away = lists::lis_end(4 * n, shape::level_size(z, next), there.left);
-    Stretch { n, away }
+    Stretch {
+        role,
+        n,
+        first,
+        away,
+    }
 }
 
 // Where the stretches end that are lent to a level's pass: its own and the next level's.
@@ -222,12 +239,10 @@ fn run_of(
     let fill = fill_of(counts, level);
     let olds = fill.left;
     Run {
-        role,
         z,
         plane,
         level,
-        stretch: stretch_of(z, level, counts),
-        first: shape::level_start(z, level),
+        stretch: stretch_of(role, z, level, counts),
         parents: shape::span_of(z, Depth(level.0 + 1)),
         elders: shape::span_of(z, Depth(level.0 + 2)),
         olds,

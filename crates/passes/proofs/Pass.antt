@@ -2,7 +2,8 @@
 use mathlib.Core.Bool.{true}
 use mathlib.Core.Path.{_≡_, sym, ap, ap₂, _∙_, subst}
 use mathlib.Core.List.{List, map}
-use Prim.Native.Nat.{ℕ, _+_, _≤_, _^_}
+use Prim.Native.Nat.{ℕ, _+_, _≤_, _<_, _^_}
+use native.Mathlib.Nat.{zero-add}
 use native.Mathlib.Omega.{arith}
 use lib.ListN.{length, getD}
 use lib.Pow.{pow-mono}
@@ -21,11 +22,11 @@ use Rattle.stretches.specs.Cut.{valuesIn, lipFrom, lspFrom, lisFrom}
 use Rattle.lists.specs.declared.Stretch.{Stretch}
 use Rattle.lists.specs.declared.Fill.{Fill}
 use Rattle.lists.specs.Lists.{entry, sets, waiting, known, held, emptied, Fits, todo-none, held-fresh, held-waiting, held-known, waiting-length}
-use Rattle.lists.specs.Lists.{all-waiting, all-known}
-use Rattle.lists.specs.Besides.{held-same}
+use Rattle.lists.specs.Lists.{codes, Inside, coefficient, lipAt, raised, all-waiting, all-known}
+use Rattle.lists.specs.Besides.{held-same, marks-kept}
 use Rattle.testing.specs.declared.Run.{Run}
 use Rattle.testing.specs.declared.Stand.{Stand}
-use Rattle.testing.specs.Exchange.{Chan, chan, familyOf, Inside, side, Around, around-then, side-same, reads}
+use Rattle.testing.specs.Exchange.{Chan, chan, familyOf, side, Around, around-then, side-same, reads, codes-reads}
 use Rattle.testing.specs.Finding.{courseOf, course, Testing, Tested, Refining, Refined, around-refined}
 use Rattle.testing.specs.Growing.{Growth, growth-kept}
 use Rattle.passes.specs.Steps.{visitsOf, listsOf, passOf, Underway, Visited, Fresh, Ran}
@@ -37,7 +38,7 @@ module _ (t : Stretch) (s s′ : List ℕ) {f : Fill} (long : length s′ ≡ le
   held-others : held t s′ f ≡ held t s f
   unfolding held waiting known sets lipFrom lspFrom lisFrom
   held-others =
-      held-same (same (t .n + 0) (f .lip) (omega arith)) (same (t .n + t .n) (f .lsp) (omega arith))
+      held-same (ap (map coefficient) (same (t .n + 0) (f .lip) (omega arith))) (ap (map coefficient) (same (t .n + t .n) (f .lsp) (omega arith)))
       (ap (map entry) (same (t .n + t .n + t .n) (f .kept) (omega arith)))
       (ap (map entry) (same (t .n + t .n + t .n + f .visited) (f .left) (omega arith)))
       (ap (map entry) (same (t .away) (f .moved) (omega (arith, h .behind))))
@@ -45,10 +46,12 @@ module _ (t : Stretch) (s s′ : List ℕ) {f : Fill} (long : length s′ ≡ le
       same : (b m : ℕ) → t .n ≤ b → seg b m s′ ≡ seg b m s
       same b m l = seg-same b m s s′ long (λ i j k. others i (omega arith))
 
-  fits-others : Fits t s′ f
-  fits-others =
+  fits-others : (codes (t .role) ≡ true → (i : ℕ) → i < t .n → getD s′ i 0 ≡ getD s i 0) → Fits t s′ f
+  unfolding lipAt lipFrom
+  fits-others words =
       record {
         room = rw long (h .room);
+        marked = marks-kept words (λ i l. others (t .n + i) (omega arith)) (h .marked);
         lip = h .lip;
         lsp = h .lsp;
         kept = h .kept;
@@ -89,17 +92,19 @@ module _ (run : Run) {body s out : List ℕ} {w : Stand} (H : Fresh run body s o
   lip-count : length (held t s (w .fill) .lip) ≡ w .fill .lip
   lip-count = ap length (held-waiting t s (w .fill)) ∙ waiting-length (t .n) 0 (w .fill .lip) s (H .fits .room) (omega (arith, H .fits .lip))
 
-  first-fits : Fits t s (first .fill)
-  first-fits =
-      record {
-        room = H .fits .room;
-        lip = omega arith;
-        lsp = H .fits .lsp;
-        kept = H .fits .kept;
-        visits = H .fits .visits;
-        behind = H .fits .behind;
-        moved = H .fits .moved;
-      }
+  first-fits : Fits t s (raised (first .fill) (w .fill .lip))
+  first-fits = subst (Fits t s) (ap with-lip (sym (zero-add (w .fill .lip)))) (H .fits)
+    where
+      with-lip : ℕ → Fill
+      with-lip x =
+          record {
+            lip = x;
+            lsp = w .fill .lsp;
+            kept = w .fill .kept;
+            visited = w .fill .visited;
+            left = w .fill .left;
+            moved = w .fill .moved;
+          }
 
   both-fit : w .fill .lip + w .fill .lsp ≤ t .n
   both-fit = omega (arith, room-held (H .room), lip-count)
@@ -122,8 +127,8 @@ module _ (run : Run) {body s out : List ℕ} {w : Stand} (H : Fresh run body s o
           room = omega (arith, both-fit);
           place = omega (arith, both-fit, H .place, H .proper .from, H .fits .lip);
           inside =
-              all-waiting (Inside run) (t .n) 0 (w .fill .lip) s (H .fits .room) (omega (arith, H .fits .lip))
-              (subst (All (Inside run)) (held-waiting t s (w .fill)) (all-then _ _ (l .lip) (inside-level (H .proper)) (H .placed .lips)));
+              all-waiting (Inside (run .stretch)) (t .n) 0 (w .fill .lip) s (H .fits .room) (omega (arith, H .fits .lip))
+              (subst (All (Inside (run .stretch))) (held-waiting t s (w .fill)) (all-then _ _ (l .lip) (inside-level (H .proper)) (H .placed .lips)));
         })
 
   module _ {f : Fill} (e : f ≡ emptied (w .fill)) {s₁ out₁ : List ℕ} {w₁ : Stand}
@@ -178,13 +183,13 @@ module _ (run : Run) {body s out : List ℕ} {w : Stand} (H : Fresh run body s o
           U .known (w .fill .lsp) (T .lsp) ∙ T .known (w .fill .lsp) (omega arith) ∙ sym (held-known t s (w .fill))
 
       -- no word is too large to be refined
-      known-growth : reads run ≡ true → Growth (run .first) (run .plane .0) (2 ^ 30) (valuesIn (t .n) s₂) (known (t .n) (w .fill .lsp) s₂)
+      known-growth : reads run ≡ true → Growth (run .stretch .first) (run .plane .0) (2 ^ 30) (valuesIn (t .n) s₂) (known (t .n) (w .fill .lsp) s₂)
       known-growth r =
           let K = growth-kept run (2 ^ 30) (omega (arith, pow-mono {i = run .plane .0} {j = 17} (omega (arith, H .proper .plane)))) s body F k in
-          let G : Growth (run .first) (run .plane .0) (2 ^ 30) (second .side .values) (l .lsp) =
+          let G : Growth (run .stretch .first) (run .plane .0) (2 ^ 30) (second .side .values) (l .lsp) =
           kept-visitedAll K L _ (l .lis) (l .lsp) (kept-triedAll K (begun l x₀) (l .lip) (l .lis) (l .lsp) (H .growth r)) in
-          subst (Growth (run .first) (run .plane .0) (2 ^ 30) (valuesIn (t .n) s₂)) (sym known-same)
-          (subst (λ y. Growth (run .first) (run .plane .0) (2 ^ 30) (y .side .values) (l .lsp)) (sym visited-course) G)
+          subst (Growth (run .stretch .first) (run .plane .0) (2 ^ 30) (valuesIn (t .n) s₂)) (sym known-same)
+          (subst (λ y. Growth (run .stretch .first) (run .plane .0) (2 ^ 30) (y .side .values) (l .lsp)) (sym visited-course) G)
 
       pub visited-refining : Refining run (w .fill .lsp) s₂ (w₂ .at)
       visited-refining =
@@ -197,8 +202,8 @@ module _ (run : Run) {body s out : List ℕ} {w : Stand} (H : Fresh run body s o
             place = omega (arith, R .place, H .proper .from, room-held (R .room), room-slots L (R .room), H .fits .lsp);
             growth = known-growth;
             inside =
-                all-known (Inside run) (t .n) (w .fill .lsp) s₂ (R .fits .room) (H .fits .lsp)
-                (subst (All (Inside run)) (sym known-same) (all-then _ _ (l .lsp) (inside-level (H .proper)) (H .placed .lsps)));
+                all-known (Inside (run .stretch)) (t .n) (w .fill .lsp) s₂ (R .fits .room) (H .fits .lsp)
+                (subst (All (Inside (run .stretch))) (sym known-same) (all-then _ _ (l .lsp) (inside-level (H .proper)) (H .placed .lsps)));
           }
 
       -- the whole
@@ -213,6 +218,6 @@ module _ (run : Run) {body s out : List ℕ} {w : Stand} (H : Fresh run body s o
                 ∙ sym (sharpened-lists C (l .lsp) (course t s₂ out₂ w₂))
                 ∙ ap (sharpenedAll (listing C) (l .lsp)) visited-course
                 ∙ sym (passed-steps F k C l x₀);
-            fits = fits-others t s₂ s₃ (R .long) (R .others) (U .ready .fits);
+            fits = fits-others t s₂ s₃ (R .long) (R .others) (U .ready .fits) (λ c. R .values (codes-reads (t .role) c));
             around = around-then visited-around (around-refined (w₂ .fill .moved) R (H .fits .behind)) (omega arith);
           }

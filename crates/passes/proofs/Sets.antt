@@ -29,11 +29,11 @@ use Rattle.lists.specs.declared.Stretch.{Stretch}
 use Rattle.lists.specs.declared.Fill.{Fill}
 use Rattle.lists.specs.declared.Set.{Set}
 use Rattle.lists.specs.declared.Set.the-variants.{TypeA, TypeB}
-use Rattle.lists.specs.Lists.{entryOf, fourFrom, waiting, held, Fits, LinedUp, SetAdded, SetKept, sets-fit, todo-length, all-waiting}
+use Rattle.lists.specs.Lists.{Inside, entryOf, fourFrom, waiting, held, Fits, LinedUp, SetAdded, SetKept, sets-fit, todo-length, all-waiting}
 use Rattle.lists.specs.Besides.{beside-none, beside-then, beside-values}
 use Rattle.testing.specs.declared.Run.{Run}
 use Rattle.testing.specs.declared.Stand.{Stand}
-use Rattle.testing.specs.Exchange.{Chan, chan, familyOf, Inside, side, Replied, Around, notes, quiet-stays, around-then, around-beside, side-same}
+use Rattle.testing.specs.Exchange.{Chan, chan, familyOf, side, Replied, Around, notes, quiet-stays, around-then, around-beside, side-same}
 use Rattle.testing.specs.Finding.{courseOf, course, Testing, Tested, tested-none}
 use Rattle.passes.specs.Steps.{visitsOf, Proper, Added, Opened, Opening, hasMember, Queued, InHand, Weighed}
 use Rattle.passes.proofs.Trees.{met-four-A, met-four-B, met-added-more, met-added-less, met-B-finer, met-level-B, met-bound}
@@ -144,7 +144,7 @@ tested-lined {run} {body} ps {s} {out} {s₁} {s₂} {out₂} {w} {w₂} L far T
       todo = T .todo ∙ ap (λ h. h .todo) (L .holds);
       fits = T .fits;
       around = around-then (around-beside (L .beside)) (T .around) (omega arith);
-      ahead = λ i m g h. T .ahead i m g h ∙ L .ahead i m g h;
+      ahead = λ i g h. T .ahead i g h ∙ L .ahead i g h;
       known = λ m g. T .known m g ∙ L .known m g;
       visited = T .visited;
       left = T .left;
@@ -157,7 +157,7 @@ tested-lined {run} {body} ps {s} {out} {s₁} {s₂} {out₂} {w} {w₂} L far T
     }
 
 -- the coefficients of the level, by their tree numbers
-pub inside-level : {run : Run} → Proper run → (x : ℕ) → treeLevel (run .z) x ≡ run .level .0 → Inside run x
+pub inside-level : {run : Run} → Proper run → (x : ℕ) → treeLevel (run .z) x ≡ run .level .0 → Inside (run .stretch) x
 inside-level {run} P x e =
     let Z = legal (run .z) (P .legal) in
     let N = numbered (run .z) Z x (tree-level-area (run .z) Z x (omega (arith, P .coarser))) in
@@ -188,7 +188,7 @@ module _ {run : Run} {x : ℕ} {s : List ℕ} {w : Stand} (O : Opening run (type
   unfolding opened
   four-A = met-four-A (run .z) (legal-size O) (run .level .0) (O .proper .coarser) x (O .met)
 
-  small-A : 4 * x + 4 < 2 ^ 31
+  small-A : 4 * x + 4 < 2 ^ 26
   unfolding nodeOf
   small-A = met-bound (run .z) (O .proper .legal) (typeA x) (O .met)
 
@@ -198,7 +198,7 @@ module _ {run : Run} {x : ℕ} {s : List ℕ} {w : Stand} (O : Opening run (type
   pub index-A : x < 2 ^ 31
   index-A = omega (arith, small-A)
 
-  inside-A : All (Inside run) (fourFrom (4 * x))
+  inside-A : All (Inside (run .stretch)) (fourFrom (4 * x))
   inside-A =
       all-then _ _ (fourFrom (4 * x)) (inside-level (O .proper))
       (subst (All (λ p. treeLevel (run .z) p ≡ run .level .0)) four-A
@@ -207,8 +207,10 @@ module _ {run : Run} {x : ℕ} {s : List ℕ} {w : Stand} (O : Opening run (type
   pub room-A : w .fill .lip + 4 ≤ run .stretch .n
   room-A = let n = ap length four-A in omega (arith, tests-fit O)
 
-  pub lining-A : Fits (run .stretch) s (w .fill) × (run .stretch .n < 2 ^ 32) × (w .fill .lip + 4 ≤ run .stretch .n) × (4 * x + 4 < 2 ^ 32)
-  lining-A = (O .fits, O .proper .size, room-A, omega (arith, small-A))
+  pub lining-A : Fits (run .stretch) s (w .fill) × (run .stretch .n < 2 ^ 32) × (w .fill .lip + 4 ≤ run .stretch .n)
+      × (run .stretch .first ≤ 4 * x) × (4 * x + 4 ≤ run .stretch .first + run .stretch .n) × (4 * x + 4 < 2 ^ 26)
+  unfolding All
+  lining-A = (O .fits, O .proper .size, room-A, inside-A .0 .0, omega (arith, inside-A .1 .1 .1 .0 .1), small-A)
 
   module _ {s₁ : List ℕ} (U : LinedUp (fourFrom (4 * x)) (run .stretch) s (w .fill) s₁) where
     pub testing-A : Testing run 4 s₁ w
@@ -221,7 +223,8 @@ module _ {run : Run} {x : ℕ} {s : List ℕ} {w : Stand} (O : Opening run (type
           room = omega (arith, tests-fit O);
           place = omega (arith, O .place);
           inside =
-              all-waiting (Inside run) (run .stretch .n) (w .fill .lip) 4 s₁ (U .fits .room) room-A (subst (All (Inside run)) (sym (U .waits)) inside-A);
+              all-waiting (Inside (run .stretch)) (run .stretch .n) (w .fill .lip) 4 s₁ (U .fits .room) room-A
+              (subst (All (Inside (run .stretch))) (sym (U .waits)) inside-A);
         }
 
     pub tested-A : {body out s₂ out₂ : List ℕ} {w₂ : Stand} → Tested run body (waiting (run .stretch .n) (w .fill .lip) 4 s₁) s₁ out w s₂ out₂ w₂
@@ -253,7 +256,7 @@ module _ {run : Run} {x : ℕ} {s : List ℕ} {w : Stand} (O : Opening run (type
   unfolding added
   adds-B = ap (λ qs. length (map typeA qs)) (sym four-B)
 
-  small-B : 4 * x + 4 < 2 ^ 31
+  small-B : 4 * x + 4 < 2 ^ 26
   unfolding nodeOf
   small-B = met-bound (run .z) (O .proper .legal) (typeB x) (O .met)
 
@@ -262,7 +265,7 @@ module _ {run : Run} {x : ℕ} {s : List ℕ} {w : Stand} (O : Opening run (type
 
   pub adding-B : Fits (run .stretch) s (w .fill) × (run .stretch .n < 2 ^ 32) × (w .fill .visited + w .fill .left + 4 ≤ setRoom (run .stretch .n))
       × (4 * x + 4 < 2 ^ 31)
-  adding-B = let n = adds-B in (O .fits, O .proper .size, omega (arith, sets-room O), small-B)
+  adding-B = let n = adds-B in (O .fits, O .proper .size, omega (arith, sets-room O), omega (arith, small-B))
 
   pub added-B : {s′ : List ℕ} {r : Fill} → Added (map typeA (fourFrom (4 * x))) (run .stretch) s (w .fill) s′ r
       → Added (map typeA (familyOf run .offspring x)) (run .stretch) s (w .fill) s′ r

@@ -125,7 +125,7 @@ module _ (z : Size) (Z : Legal z) where
     met-B-finer m = tree-inLevel-B p (met-some-A m) k from1 ∙ le-ltb (suc k) (treeLevel z p) (omega (arith, met-level-A m))
 
 -- the numbers of its offspring are small
-pub met-bound : (z : Size) → legalSize z ≡ true → {k : ℕ} (e : Entry) → Met (trees z) k e → 4 * nodeOf e + 4 < 2 ^ 31
+pub met-bound : (z : Size) → legalSize z ≡ true → {k : ℕ} (e : Entry) → Met (trees z) k e → 4 * nodeOf e + 4 < 2 ^ 26
 met-bound z h e m =
     let Z : Legal z = legal z h in
     omega (arith, tree-node z Z e (met-settled m) .1, span-quarter z Z 0 (omega arith), span-whole z, area-bound z h)

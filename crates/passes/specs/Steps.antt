@@ -29,7 +29,7 @@ pub record Proper (run : Run) : Type 0 where
   pub level : run .level .0 ≤ levels (run .z)
   pub size : run .stretch .n < 2 ^ 32
   pub count : run .stretch .n ≡ levelSize (run .z) (run .level .0)
-  pub first : run .first ≡ levelStart (run .z) (run .level .0)
+  pub first : run .stretch .first ≡ levelStart (run .z) (run .level .0)
   pub parents : run .parents ≡ span (run .z) (run .level .0 + 1)
   pub elders : run .elders ≡ span (run .z) (run .level .0 + 2)
   pub from : run .from .at + 4 * run .stretch .n < 2 ^ 62
@@ -154,7 +154,7 @@ pub record Fresh (run : Run) (body s out : List ℕ) (w : Stand) : Type 0 where
   pub visited : w .fill .visited ≡ 0
   pub moved : w .fill .moved ≡ 0
   pub place : w .at .at ≡ run .from .at
-  pub growth : reads run ≡ true → Growth (run .first) (run .plane .0) (2 ^ 30) (valuesIn (run .stretch .n) s) (held (run .stretch) s (w .fill) .lsp)
+  pub growth : reads run ≡ true → Growth (run .stretch .first) (run .plane .0) (2 ^ 30) (valuesIn (run .stretch .n) s) (held (run .stretch) s (w .fill) .lsp)
   pub placed : Placed (familyOf run) (run .level .0) (listsOf run s w)
   pub silent : Silent run body
 

@@ -4,7 +4,7 @@ use mathlib.Core.Bool.{Bool, true, false}
 use mathlib.Core.List.{List, [], _∷_, _++_, map}
 use Prim.Native.Nat.{ℕ, _+_, _*_, _≤_, _<_}
 use native.Mathlib.Omega.{arith}
-use lib.ListN.{length, getD, length-append}
+use lib.ListN.{length, length-append}
 use Rattle.bits.specs.declared.BitPosition.{BitPosition}
 use Rattle.bits.specs.declared.BitRead.{BitRead}
 use Rattle.rules.specs.Document.Passes.{Event, significant?, negative?, toLip, toLsp, Side, listing}
@@ -13,14 +13,14 @@ use Rattle.stretches.specs.Seg.{seg, seg-same}
 use Rattle.stretches.specs.Cut.{lipFrom, lspFrom, lisFrom, valuesIn}
 use Rattle.lists.specs.declared.Stretch.{Stretch}
 use Rattle.lists.specs.declared.Fill.{Fill}
-use Rattle.lists.specs.Lists.{entry, sets, waiting, known, Held, held, Fits, LipPushed, LspPushed, PushedBy}
+use Rattle.lists.specs.Lists.{Inside, Marked, coefficient, entry, sets, waiting, known, Held, held, Fits, LipPushed, LspPushed, PushedBy}
 use Rattle.lists.specs.Lists.{lipAt, waiting-add, waiting-one, waiting-none, waiting-length}
-use Rattle.lists.specs.Besides.{beside-values, held-same, spared-pushed}
+use Rattle.lists.specs.Besides.{beside-values, held-same, marked-same, marks-kept, fits-fewer, spared-pushed}
 use Rattle.testing.specs.declared.Run.{Run}
 use Rattle.testing.specs.declared.Stand.{Stand}
 use Rattle.testing.specs.declared.Told.{Told}
 use Rattle.testing.specs.declared.Ends.{Ends}
-use Rattle.testing.specs.Exchange.{Chan, chan, Inside, side, notes, Replied, Noted, Around, quiet-toLip}
+use Rattle.testing.specs.Exchange.{Chan, chan, codes-reads, noted-values, side, notes, Replied, Noted, Around, quiet-toLip}
 use Rattle.testing.specs.Exchange.{around-then, around-beside, around-noted, side-same}
 use Rattle.testing.specs.Telling.{Answered, NotedBy}
 use Rattle.testing.specs.Finding.{courseOf, course, endsOf, movedTo, Testing, Tested, stood, tested-none}
@@ -41,13 +41,17 @@ module _ {run : Run} {at : ℕ} {e : Event} {s s′ : List ℕ} (N : Noted run a
   unfolding sets
   noted-sets b m l = ap (map entry) (noted-seg b m l)
 
-  pub noted-waiting : (i m : ℕ) → waiting n i m s′ ≡ waiting n i m s
+  noted-waiting : (i m : ℕ) → waiting n i m s′ ≡ waiting n i m s
   unfolding waiting lipFrom
-  noted-waiting i m = noted-seg (n + i) m (omega arith)
+  noted-waiting i m = ap (map coefficient) (noted-seg (n + i) m (omega arith))
+
+  noted-lip : (i : ℕ) → lipAt n i s′ ≡ lipAt n i s
+  unfolding lipAt lipFrom
+  noted-lip i = N .others (n + i) (omega arith)
 
   pub noted-known : (m : ℕ) → known n m s′ ≡ known n m s
   unfolding known lspFrom
-  noted-known m = noted-seg (n + n) m (omega arith)
+  noted-known m = ap (map coefficient) (noted-seg (n + n) m (omega arith))
 
   module _ {f : Fill} (g : Fits (run .stretch) s f) where
     noted-held : held (run .stretch) s′ f ≡ held (run .stretch) s f
@@ -60,6 +64,7 @@ module _ {run : Run} {at : ℕ} {e : Event} {s s′ : List ℕ} (N : Noted run a
     noted-fits =
         record {
           room = rw (N .long) (g .room);
+          marked = marks-kept (λ c. noted-values N (codes-reads (run .stretch .role) c)) (λ i k. noted-lip i) (g .marked);
           lip = g .lip;
           lsp = g .lsp;
           kept = g .kept;
@@ -97,7 +102,7 @@ module _ (run : Run) (body : List ℕ) (x : ℕ) (s out : List ℕ) (w : Stand) 
         todo = ap (λ h. h .todo) (L .holds);
         fits = L .fits;
         around = subst (λ (m : ℕ). Around run m s s′) (ap (λ h. h .moved) (L .fill)) (around-beside (L .beside));
-        ahead = λ i m a b. L .ahead i m (omega arith) b;
+        ahead = λ i a b. L .ahead i (omega arith) b;
         known = L .known;
         visited = ap (λ h. h .visited) (L .fill);
         left = ap (λ h. h .left) (L .fill);
@@ -135,7 +140,7 @@ module _ (run : Run) (body : List ℕ) (x : ℕ) (s out : List ℕ) (w : Stand) 
           around =
               subst (λ (m : ℕ). Around run m s s′) (ap (λ h. h .moved) (L .fill))
               (around-then (around-noted 0 N (F .behind)) (around-beside (L .beside)) (omega arith));
-          ahead = λ i m a b. L .ahead i m (omega arith) b ∙ noted-waiting N i m;
+          ahead = λ i a b. L .ahead i (omega arith) b ∙ noted-lip N i;
           known = λ m a. L .known m a ∙ noted-known N m;
           visited = ap (λ h. h .visited) (L .fill);
           left = ap (λ h. h .left) (L .fill);
@@ -155,6 +160,20 @@ noted-by-fits {bit} {run} {f = f} {s′ = s′} N g = by bit refl
     by : (b : Bool) → bit ≡ b → Fits (run .stretch) s′ f
     by true e = noted-fits (N .found e) g
     by false e = N .missed e .fits
+
+-- the same of a coefficient by another name
+pub noted-as : {bit : Bool} {run : Run} {at x y : ℕ} {negative : Bool} {f : Fill} {s s′ : List ℕ} → x ≡ y → NotedBy bit run at x negative f s s′
+    → NotedBy bit run at y negative f s s′
+noted-as {bit} {run} {at} {negative = negative} {f} {s} {s′} e N = subst (λ (z : ℕ). NotedBy bit run at z negative f s s′) e N
+
+-- An entry that is marked stays so where nothing but what is noted has changed.
+pub noted-by-marked : {bit : Bool} {run : Run} {at x : ℕ} {negative : Bool} {f : Fill} {s s′ : List ℕ} {e : ℕ}
+    → NotedBy bit run at x negative f s s′ → Marked (run .stretch) s e → Marked (run .stretch) s′ e
+noted-by-marked {bit} {run} {s′ = s′} {e} N m = by bit refl
+  where
+    by : (b : Bool) → bit ≡ b → Marked (run .stretch) s′ e
+    by true d = marked-same (λ c. noted-values (N .found d) (codes-reads (run .stretch .role) c)) m
+    by false d = marked-same (λ c. N .missed d .beside .values) m
 
 pub tested-by : {run : Run} {body : List ℕ} {x : ℕ} {s out : List ℕ} {w : Stand} {r : Told} {s₁ out′ s′ : List ℕ} {f : Fill}
     → Answered (side run s body) x out (w .at) r out′ → NotedBy (r .found) run (r .next .at) x (r .negative) (w .fill) s s₁
@@ -200,7 +219,7 @@ tested-on {run} {body} {ps} {qs} {s} {out} {s₁} {out₁} {s₂} {w = w} {w₁}
       todo = b .todo ∙ a .todo;
       fits = b .fits;
       around = subst (λ (m : ℕ). Around run m s s₂) (a .moved) (around-then (a .around) (b .around) (omega (arith, a .moved)));
-      ahead = λ i m g h. b .ahead i m (omega (arith, a .both, a .lsp)) h ∙ a .ahead i m (omega arith) h;
+      ahead = λ i g h. b .ahead i (omega (arith, a .both, a .lsp)) h ∙ a .ahead i (omega arith) h;
       known = λ m g. b .known m (omega (arith, a .lsp)) ∙ a .known m g;
       visited = b .visited ∙ a .visited;
       left = b .left ∙ a .left;
@@ -212,10 +231,7 @@ tested-on {run} {body} {ps} {qs} {s} {out} {s₁} {out₁} {s₂} {w = w} {w₁}
       place = omega (arith, a .place, b .place);
     }
 
-one-same : {x y : ℕ} → x ∷ [] ≡ y ∷ [] → x ≡ y
-one-same {x} e = ap (λ xs. getD xs 0 0) e
-
--- the loop: the next coefficient is the one that waited there at the beginning
+-- the loop: the next entry is the one that waited there at the beginning
 module _ (run : Run) {body : List ℕ} {m i : ℕ} {s out : List ℕ} {w : Stand} {s₁ out₁ : List ℕ} {w₁ : Stand} (H : Testing run m s w)
     (T : Tested run body (waiting (run .stretch .n) (w .fill .lip) i s) s out w s₁ out₁ w₁) (more : i < m) where
   abbrev size : ℕ
@@ -230,28 +246,31 @@ module _ (run : Run) {body : List ℕ} {m i : ℕ} {s out : List ℕ} {w : Stand
   pub each-there : (4 * size ≤ length s₁) × (first + i < size)
   each-there = (T .fits .room, omega (arith, H .room))
 
-  each-still : waiting size (first + i) 1 s₁ ≡ waiting size (first + i) 1 s
-  each-still = T .ahead (first + i) 1 (omega (arith, each-length)) (omega (arith, H .room))
+  module _ {e : ℕ} (at : e ≡ lipAt size (first + i) s₁) where
+    each-is : e ≡ lipAt size (first + i) s
+    each-is = at ∙ T .ahead (first + i) (omega (arith, each-length)) (each-there .1)
 
-  module _ {x : ℕ} (e : x ≡ lipAt size (first + i) s₁) where
-    each-waited : waiting size (first + i) 1 s ≡ x ∷ []
-    each-waited = sym each-still ∙ waiting-one size (first + i) s₁ (each-there .0) (each-there .1) ∙ ap (λ (y : ℕ). y ∷ []) (sym e)
+    pub each-inside : Inside (run .stretch) (coefficient e)
+    each-inside = subst (λ (y : ℕ). Inside (run .stretch) (coefficient y)) (sym each-is) (H .inside i more)
 
-    pub each-inside : Inside run x
-    each-inside =
-        subst (Inside run) (one-same (sym (waiting-one size (first + i) s (H .fits .room) (each-there .1)) ∙ each-waited)) (H .inside i more)
+    pub each-marked : Marked (run .stretch) s₁ e
+    each-marked =
+        marked-same (λ c. T .around .values (codes-reads (run .stretch .role) c))
+        (subst (Marked (run .stretch) s) (sym each-is) (H .fits .marked (first + i) (omega arith)))
 
-    pub each-next : {s₂ out₂ : List ℕ} {w₂ : Stand} → Tested run body (x ∷ []) s₁ out₁ w₁ s₂ out₂ w₂
+    pub each-next : {s₂ out₂ : List ℕ} {w₂ : Stand} → Tested run body (coefficient e ∷ []) s₁ out₁ w₁ s₂ out₂ w₂
         → Tested run body (waiting size first (i + 1) s) s out w s₂ out₂ w₂
     each-next {s₂} {out₂} {w₂} U =
-        let a : waiting size first i s ++ (x ∷ []) ≡ waiting size first (i + 1) s =
-        sym (waiting-add size first i 1 s ∙ ap (λ z. waiting size first i s ++ z) each-waited) in
+        let one = waiting-one size (first + i) s (H .fits .room) (each-there .1) ∙ ap (λ (y : ℕ). coefficient y ∷ []) (sym each-is) in
+        let a : waiting size first i s ++ (coefficient e ∷ []) ≡ waiting size first (i + 1) s =
+        sym (waiting-add size first i 1 s ∙ ap (λ z. waiting size first i s ++ z) one) in
         subst (λ ps. Tested run body ps s out w s₂ out₂ w₂) a (tested-on T U)
 
-pub each-none : (run : Run) (body s out : List ℕ) (w : Stand) → Fits (run .stretch) s (w .fill)
+pub each-none : (run : Run) (body s out : List ℕ) (w : Stand) {m : ℕ} → Testing run m s w
     → Tested run body (waiting (run .stretch .n) (w .fill .lip) 0 s) s out w s out w
-each-none run body s out w h =
-    subst (λ ps. Tested run body ps s out w s out w) (sym (waiting-none (run .stretch .n) (w .fill .lip) s)) (tested-none run body s out w h)
+each-none run body s out w {m} H =
+    subst (λ ps. Tested run body ps s out w s out w) (sym (waiting-none (run .stretch .n) (w .fill .lip) s))
+    (tested-none run body s out w (fits-fewer m (H .fits)))
 
 pub each-done : {run : Run} {body : List ℕ} (i m : ℕ) {s out : List ℕ} {w : Stand} {s₁ out₁ : List ℕ} {w₁ : Stand} → i ≡ m
     → Tested run body (waiting (run .stretch .n) (w .fill .lip) i s) s out w s₁ out₁ w₁

@@ -1,7 +1,7 @@
 -- Step 3: what the refinement of a coefficient makes of a side, the loop over LSP, and how large a word is in its midst.
 use mathlib.Core.Bool.{true, false}
 use mathlib.Core.Path.{_≡_, refl, sym, ap, ap₂, _∙_, subst}
-use mathlib.Core.List.{List, [], _∷_, _++_}
+use mathlib.Core.List.{List, [], _∷_, _++_, map}
 use Prim.Native.Nat.{ℕ, _+_, _-_, _*_, _≤_, _<_, _^_}
 use native.Mathlib.Nat.{mul-le-mul-left}
 use native.Mathlib.Omega.{arith}
@@ -13,9 +13,9 @@ use Rattle.rules.specs.Laws.Pass.Steps.{bitNoted, sharpened, sharpenedAll, shar
 use Rattle.rules.specs.Laws.Counting.Sums.{sum, is, sum-append}
 use Rattle.stretches.specs.Seg.{seg}
 use Rattle.stretches.specs.Cut.{lspFrom, maximaFrom, valuesIn, values-same, maxima-same}
-use Rattle.lists.specs.Lists.{known, lspAt, known-add, known-more, known-none, known-length}
+use Rattle.lists.specs.Lists.{Inside, coefficient, known, lspAt, known-add, known-more, known-none, known-length}
 use Rattle.testing.specs.declared.Run.{Run}
-use Rattle.testing.specs.Exchange.{Chan, chan, Inside, localWord, wordAt, side, notes, Replied, Noted, noted-values, side-kept, reads, Silent}
+use Rattle.testing.specs.Exchange.{Chan, chan, localWord, wordAt, side, notes, Replied, Noted, noted-values, side-kept, reads, Silent}
 use Rattle.testing.specs.Growing.{refined-most}
 use Rattle.testing.specs.Finding.{Refining, Refined}
 
@@ -76,13 +76,13 @@ module _ {run : Run} {body : List ℕ} {i m : ℕ} {s out : List ℕ} {at : BitP
   abbrev size : ℕ
   size = run .stretch .n
 
-  module _ {x : ℕ} (e : x ≡ lspAt size i s₁) where
-    refining-is : x ≡ lspAt size i s
+  module _ {x : ℕ} (e : x ≡ coefficient (lspAt size i s₁)) where
+    refining-is : x ≡ coefficient (lspAt size i s)
     unfolding lspAt lspFrom
-    refining-is = e ∙ T .others (size + size + i) (omega arith)
+    refining-is = e ∙ ap coefficient (T .others (size + size + i) (omega arith))
 
-    pub refining-inside : Inside run x
-    refining-inside = subst (Inside run) (sym refining-is) (H .inside i more)
+    pub refining-inside : Inside (run .stretch) x
+    refining-inside = subst (Inside (run .stretch)) (sym refining-is) (H .inside i more)
 
     pub refining-next : {s₂ out₂ : List ℕ} {at₂ : BitPosition} → Refined run body (x ∷ []) s₁ out₁ at₁ s₂ out₂ at₂
         → Refined run body (known size (i + 1) s) s out at s₂ out₂ at₂
@@ -102,12 +102,12 @@ module _ (run : Run) (s body : List ℕ) where
   abbrev a : ℕ
   a = 2 * 2 ^ run .plane .0
 
-  sharpened-most : (x : ℕ) (y : Chan) (q : ℕ) → localWord (run .first) (sharpened C x y .values) q ≤ localWord (run .first) (y .values) q + a * is q x
+  sharpened-most : (x : ℕ) (y : Chan) (q : ℕ) → localWord (run .stretch .first) (sharpened C x y .values) q ≤ localWord (run .stretch .first) (y .values) q + a * is q x
   unfolding sharpened bitNoted side
   sharpened-most x y q = refined-most run _ x _ (y .values) q
 
   sharpenedAll-most : (ps : List ℕ) (y : Chan) (q : ℕ)
-      → localWord (run .first) (sharpenedAll C ps y .values) q ≤ localWord (run .first) (y .values) q + a * sum (is q) ps
+      → localWord (run .stretch .first) (sharpenedAll C ps y .values) q ≤ localWord (run .stretch .first) (y .values) q + a * sum (is q) ps
   unfolding sharpenedAll sum
   sharpenedAll-most [] y q = omega arith
   sharpenedAll-most (x ∷ ps) y q = omega (arith, sharpenedAll-most ps (sharpened C x y) q, sharpened-most x y q)
@@ -120,12 +120,12 @@ refining-small {run} {body} {i} {m} {s} {out} {at} H T l q r =
     let n = run .stretch .n in
     let a : ℕ = 2 * 2 ^ run .plane .0 in
     let j : i + (m - i) ≡ m = omega arith in
-    let k : sum (is q) (known n m s) ≡ sum (is q) (known n i s) + sum (is q) (seg (lspFrom n + i) (m - i) s) =
+    let k : sum (is q) (known n m s) ≡ sum (is q) (known n i s) + sum (is q) (map coefficient (seg (lspFrom n + i) (m - i) s)) =
     ap (λ (x : ℕ). sum (is q) (known n x s)) (sym j) ∙ ap (sum (is q)) (known-add n i (m - i) s) ∙ sum-append (is q) (known n i s) _ in
     let g : a * sum (is q) (known n i s) ≤ a * sum (is q) (known n m s) = mul-le-mul-left a (omega arith) in
     omega (
       arith,
-      ap (λ x. localWord (run .first) (x .values) q) (T .makes),
+      ap (λ x. localWord (run .stretch .first) (x .values) q) (T .makes),
       sharpenedAll-most run s body (known n i s) (chan out (valuesIn n s) (at .at)) q,
       H .growth r .small q,
     )

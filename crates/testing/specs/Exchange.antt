@@ -1,14 +1,13 @@
 -- The side of the conversation that the code is: the decoder reads a body and draws coefficients; the coder answers from the words and the maxima in
 -- the level's stretch, and sets bits.
 --
---   Inside run x        x is a tree number of the level
 --   localWord a vs x    the word of tree number x in values that begin with number a; 0 of a number before it
 --   wordAt run s x      the word of x in the stretch s
 --   largestAt run s e   what the stretch s keeps as the maximum of a set
 --   answer run s q      the coder's answer
 --   noted run at e vs   the values after an event that bits up to the place at tell
 use mathlib.Core.Path.{_≡_, refl, sym, ap, _∙_, fun-ext}
-use mathlib.Core.Bool.{Bool, true, false, cond}
+use mathlib.Core.Bool.{Bool, true, false, true≢false, cond}
 use mathlib.Core.List.{List}
 use Prim.Native.Nat.{ℕ, _+_, _-_, _*_, _/_, _%_, _^_, _≤_, _<_}
 use native.Mathlib.Omega.{arith}
@@ -24,9 +23,9 @@ use Rattle.rules.specs.Document.Layout.{bitAt}
 use Rattle.trees.specs.Family.{trees}
 use Rattle.coefficients.specs.Words.{wordOf}
 use Rattle.stretches.specs.Cut.{maximaFrom, valuesIn, maximaIn, values-at, values-same, maxima-same}
-use Rattle.lists.specs.Lists.{Beside}
-use Rattle.testing.specs.declared.Role.{Role}
-use Rattle.testing.specs.declared.Role.the-variants.{Codes, Reads}
+use Rattle.lists.specs.Lists.{codes, coefficient, markOf, Beside}
+use Rattle.lists.specs.declared.Role.{Role}
+use Rattle.lists.specs.declared.Role.the-variants.{Codes, Reads}
 use Rattle.testing.specs.declared.Run.{Run}
 
 -- the bytes of the output, the values of the level, and the place of the next bit
@@ -45,17 +44,26 @@ abbrev pub reading : Role → Bool
 reading Codes = false
 reading Reads = true
 
-abbrev pub reads : Run → Bool
-reads run = reading (run .role)
+pub codes-reads : (r : Role) → codes r ≡ true → reading r ≡ false
+codes-reads Codes e = refl
+codes-reads Reads e = absurd (true≢false (sym e))
 
-abbrev pub Inside : Run → ℕ → Type 0
-Inside run x = (run .first ≤ x) × (x < run .first + run .stretch .n)
+pub reads-codes : (r : Role) → reading r ≡ false → codes r ≡ true
+reads-codes Codes e = refl
+reads-codes Reads e = absurd (true≢false e)
+
+abbrev pub reads : Run → Bool
+reads run = reading (run .stretch .role)
 
 unfoldable pub localWord : ℕ → List ℕ → ℕ → ℕ
 localWord first vs x = cond (leb first x) (getD vs (x - first) 0) 0
 
 abbrev pub wordAt : Run → List ℕ → ℕ → ℕ
-wordAt run s x = localWord (run .first) (valuesIn (run .stretch .n) s) x
+wordAt run s x = localWord (run .stretch .first) (valuesIn (run .stretch .n) s) x
+
+-- The coder's entry tells how many planes its coefficient has, and its sign.
+abbrev pub Tells : Run → List ℕ → ℕ → Type 0
+Tells run s e = reads run ≡ false → e % 64 ≡ markOf (wordAt run s (coefficient e))
 
 unfoldable pub largestAt : Run → List ℕ → Entry → ℕ
 largestAt run s (typeA x) = cond (leb (run .parents) x) (getD (maximaIn (run .stretch .n) s) (x - run .parents) 0 % 32) 0
@@ -74,11 +82,11 @@ answer run s q = wordsTell (run .plane .0) (wordAt run s) (largestAt run s) q
 -- what becomes of the values: the decoder draws what is found and what is refined, the coder draws nothing
 unfoldable pub drawn : Run → Event → List ℕ → List ℕ
 drawn run (toLip x) vs = vs
-drawn run (toLsp x b) vs = cond (leb (run .first) x) (set vs (x - run .first) (wordOf b (2 ^ run .plane .0))) vs
+drawn run (toLsp x b) vs = cond (leb (run .stretch .first) x) (set vs (x - run .stretch .first) (wordOf b (2 ^ run .plane .0))) vs
 drawn run (stays e) vs = vs
 drawn run (moves e) vs = vs
 drawn run (refined x b) vs =
-    cond (leb (run .first) x) (set vs (x - run .first) (getD vs (x - run .first) 0 + cond b (2 * 2 ^ run .plane .0) 0)) vs
+    cond (leb (run .stretch .first) x) (set vs (x - run .stretch .first) (getD vs (x - run .stretch .first) 0 + cond b (2 * 2 ^ run .plane .0) 0)) vs
 
 -- only of bits that are there; W1: "A significance bit whose sign didn't arrive leaves its coefficient 0."
 unfoldable pub noted : Run → ℕ → Event → List ℕ → List ℕ
@@ -131,12 +139,12 @@ pub record Replied (C : Side Chan) (q : Question) (out : List ℕ) (at : BitPosi
 
 -- a reply read, and one written
 module _ (run : Run) (s body out : List ℕ) (at : BitPosition) where
-  pub replied-read : (q : Question) (r : BitRead) → run .role ≡ Reads → r .bit ≡ bitAt body (at .at) → r .next .at ≡ at .at + 1
+  pub replied-read : (q : Question) (r : BitRead) → run .stretch .role ≡ Reads → r .bit ≡ bitAt body (at .at) → r .next .at ≡ at .at + 1
       → Replied (side run s body) q out at r out
   unfolding side
   replied-read q r h b n = record { bit = λ vs. rw (h, b); next = λ vs. rw (h, n); place = n }
 
-  pub replied-said : (q : Question) (r : BitRead) {out′ : List ℕ} {b : Bool} → run .role ≡ Codes → b ≡ answer run s q
+  pub replied-said : (q : Question) (r : BitRead) {out′ : List ℕ} {b : Bool} → run .stretch .role ≡ Codes → b ≡ answer run s q
       → r .bit ≡ b → r .next .at ≡ at .at + 1 → out′ ≡ setBit out (at .at) b → Replied (side run s body) q out at r out′
   unfolding side
   replied-said q r h e b n o = record { bit = λ vs. rw (b, e, h); next = λ vs. rw (n, o, e, h); place = n }
@@ -202,9 +210,9 @@ module _ (run : Run) (s s′ : List ℕ) (words : reads run ≡ false → values
 
   pub side-kept : (body : List ℕ) → side run s′ body ≡ side run s body
   unfolding side
-  side-kept body = by (run .role) refl
+  side-kept body = by (run .stretch .role) refl
     where
-      by : (r : Role) → run .role ≡ r → side run s′ body ≡ side run s body
+      by : (r : Role) → run .stretch .role ≡ r → side run s′ body ≡ side run s body
       by Reads e = rw e
       by Codes e = ap told (fun-ext (answer-same (ap reading e)))
         where

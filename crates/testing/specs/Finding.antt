@@ -11,11 +11,11 @@ use Rattle.rules.specs.Document.Passes.{Course, listing}
 use Rattle.rules.specs.Laws.Pass.Steps.{triedAll, sharpenedAll}
 use Rattle.stretches.specs.Cut.{valuesIn, maximaFrom}
 use Rattle.lists.specs.declared.Stretch.{Stretch}
-use Rattle.lists.specs.Lists.{waiting, known, lipAt, lspAt, Held, held, Fits}
+use Rattle.lists.specs.Lists.{Inside, coefficient, waiting, known, lipAt, lspAt, Held, held, raised, Fits}
 use Rattle.testing.specs.declared.Run.{Run}
 use Rattle.testing.specs.declared.Stand.{Stand}
 use Rattle.testing.specs.declared.Ends.{Ends}
-use Rattle.testing.specs.Exchange.{Chan, chan, Inside, side, reads, Around, around-none}
+use Rattle.testing.specs.Exchange.{Chan, chan, side, reads, Around, around-none}
 use Rattle.testing.specs.Growing.{Growth}
 
 -- where a pass stands: the lists that it has made so far, and its side
@@ -47,10 +47,10 @@ movedTo w e =
 pub record Testing (run : Run) (m : ℕ) (s : List ℕ) (w : Stand) : Type 0 where
   pub plane : run .plane .0 < mostPlanes
   pub size : run .stretch .n < 2 ^ 32
-  pub fits : Fits (run .stretch) s (w .fill)
+  pub fits : Fits (run .stretch) s (raised (w .fill) m)
   pub room : w .fill .lip + w .fill .lsp + m ≤ run .stretch .n
   pub place : w .at .at + 2 * m < 2 ^ 62
-  pub inside : (i : ℕ) → i < m → Inside run (lipAt (run .stretch .n) (w .fill .lip + i) s)
+  pub inside : (i : ℕ) → i < m → Inside (run .stretch) (coefficient (lipAt (run .stretch .n) (w .fill .lip + i) s))
 
 -- The coefficients ps were tested. What lies ahead in LIP, what was in LSP, and the sets are as they were.
 pub record Tested (run : Run) (body : List ℕ) (ps s out : List ℕ) (w : Stand) (s′ out′ : List ℕ) (r : Stand) : Type 0 where
@@ -58,7 +58,7 @@ pub record Tested (run : Run) (body : List ℕ) (ps s out : List ℕ) (w : Stand
   pub todo : held (run .stretch) s′ (r .fill) .todo ≡ held (run .stretch) s (w .fill) .todo
   pub fits : Fits (run .stretch) s′ (r .fill)
   pub around : Around run (w .fill .moved) s s′
-  pub ahead : (i m : ℕ) → w .fill .lip + length ps ≤ i → i + m ≤ run .stretch .n → waiting (run .stretch .n) i m s′ ≡ waiting (run .stretch .n) i m s
+  pub ahead : (i : ℕ) → w .fill .lip + length ps ≤ i → i < run .stretch .n → lipAt (run .stretch .n) i s′ ≡ lipAt (run .stretch .n) i s
   pub known : (m : ℕ) → m ≤ w .fill .lsp → known (run .stretch .n) m s′ ≡ known (run .stretch .n) m s
   pub visited : r .fill .visited ≡ w .fill .visited
   pub left : r .fill .left ≡ w .fill .left
@@ -82,7 +82,7 @@ tested-none run body s out w h =
       todo = refl;
       fits = h;
       around = around-none run (w .fill .moved) s;
-      ahead = λ i m a b. refl;
+      ahead = λ i a b. refl;
       known = λ m a. refl;
       visited = refl;
       left = refl;
@@ -101,8 +101,8 @@ pub record Refining (run : Run) (m : ℕ) (s : List ℕ) (at : BitPosition) : Ty
   pub room : 4 * run .stretch .n ≤ length s
   pub few : m ≤ run .stretch .n
   pub place : at .at + m < 2 ^ 62
-  pub growth : reads run ≡ true → Growth (run .first) (run .plane .0) (2 ^ 30) (valuesIn (run .stretch .n) s) (known (run .stretch .n) m s)
-  pub inside : (i : ℕ) → i < m → Inside run (lspAt (run .stretch .n) i s)
+  pub growth : reads run ≡ true → Growth (run .stretch .first) (run .plane .0) (2 ^ 30) (valuesIn (run .stretch .n) s) (known (run .stretch .n) m s)
+  pub inside : (i : ℕ) → i < m → Inside (run .stretch) (coefficient (lspAt (run .stretch .n) i s))
 
 -- The coefficients ps were refined: nothing but values has changed.
 pub record Refined (run : Run) (body : List ℕ) (ps s out : List ℕ) (at : BitPosition) (s′ out′ : List ℕ) (r : BitPosition) : Type 0 where

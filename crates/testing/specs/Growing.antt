@@ -76,28 +76,28 @@ module _ (run : Run) where
   a = 2 * 2 ^ run .plane .0
 
   pub refined-most : (at x : ℕ) (b : Bool) (vs : List ℕ) (q : ℕ)
-      → localWord (run .first) (noted run at (refined x b) vs) q ≤ localWord (run .first) vs q + a * is q x
+      → localWord (run .stretch .first) (noted run at (refined x b) vs) q ≤ localWord (run .stretch .first) vs q + a * is q x
   unfolding noted drawn
   refined-most at x b vs q =
-      let y = getD vs (x - run .first) 0 + cond b a 0 in
-      either-le (reads run) (leb at (run .until .at)) (run .first) (cond (leb (run .first) x) (set vs (x - run .first) y) vs) vs q _
-      (word-drawn (run .first) vs x q y _ same (omega arith)) (omega arith)
+      let y = getD vs (x - run .stretch .first) 0 + cond b a 0 in
+      either-le (reads run) (leb at (run .until .at)) (run .stretch .first) (cond (leb (run .stretch .first) x) (set vs (x - run .stretch .first) y) vs) vs q _
+      (word-drawn (run .stretch .first) vs x q y _ same (omega arith)) (omega arith)
     where
-      same : run .first ≤ x → q ≡ x → getD vs (x - run .first) 0 + cond b a 0 ≤ localWord (run .first) vs q + a * is q x
-      same l e = rw (e, is-same x, word-local (run .first) vs x l) (omega (arith, added-most b (getD vs (x - run .first) 0) a))
+      same : run .stretch .first ≤ x → q ≡ x → getD vs (x - run .stretch .first) 0 + cond b a 0 ≤ localWord (run .stretch .first) vs q + a * is q x
+      same l e = rw (e, is-same x, word-local (run .stretch .first) vs x l) (omega (arith, added-most b (getD vs (x - run .stretch .first) 0) a))
 
-  pub found-most : (at x : ℕ) (b : Bool) (vs : List ℕ) (q c : ℕ) → (q ≡ x → a + 1 ≤ c) → localWord (run .first) vs q ≤ c
-      → localWord (run .first) (noted run at (toLsp x b) vs) q ≤ c
+  pub found-most : (at x : ℕ) (b : Bool) (vs : List ℕ) (q c : ℕ) → (q ≡ x → a + 1 ≤ c) → localWord (run .stretch .first) vs q ≤ c
+      → localWord (run .stretch .first) (noted run at (toLsp x b) vs) q ≤ c
   unfolding noted drawn
   found-most at x b vs q c h i =
       let y = wordOf b (2 ^ run .plane .0) in
-      either-le (reads run) (leb at (run .until .at)) (run .first) (cond (leb (run .first) x) (set vs (x - run .first) y) vs) vs q c
-      (word-drawn (run .first) vs x q y c (λ l e. omega (arith, word-most b (2 ^ run .plane .0), h e)) i) i
+      either-le (reads run) (leb at (run .until .at)) (run .stretch .first) (cond (leb (run .stretch .first) x) (set vs (x - run .stretch .first) y) vs) vs q c
+      (word-drawn (run .stretch .first) vs x q y c (λ l e. omega (arith, word-most b (2 ^ run .plane .0), h e)) i) i
 
   module _ (bound : ℕ) (large : 4 * 2 ^ run .plane .0 + 1 < bound) where
     -- what is still small, whatever is noted
     abbrev Small : List ℕ → List ℕ → Type 0
-    Small vs ks = Growth (run .first) (run .plane .0) bound vs ks
+    Small vs ks = Growth (run .stretch .first) (run .plane .0) bound vs ks
 
     pub growth-found : (at x : ℕ) (b : Bool) (vs ks : List ℕ) → Small vs ks → Small (noted run at (toLsp x b) vs) ks
     growth-found at x b vs ks h = record {
@@ -115,7 +115,7 @@ module _ (run : Run) where
 
     -- Whatever is found and refined, no word outgrows the bound.
     pub growth-kept : (s body : List ℕ) (F : Family) (k : ℕ)
-        → Kept F k (listing (side run s body)) (λ c ps es ks. Growth (run .first) (run .plane .0) bound (c .side .values) ks)
+        → Kept F k (listing (side run s body)) (λ c ps es ks. Growth (run .stretch .first) (run .plane .0) bound (c .side .values) ks)
     unfolding listed signNoted bitNoted side
     growth-kept s body F k = record {
       insignificant = λ c x ps es ks b h. rw (quiet-toLip run (c .side .at + 1) x (c .side .values)) h;

@@ -12,11 +12,11 @@ use Rattle.bits.specs.Written.{setBit-none}
 use Rattle.rules.specs.Document.Passes.{Side, significant?, negative?, toLsp}
 use Rattle.rules.specs.Document.Layout.{bitAt}
 use Rattle.lists.specs.declared.Fill.{Fill}
-use Rattle.lists.specs.Lists.{Spared}
-use Rattle.testing.specs.declared.Role.the-variants.{Codes, Reads}
+use Rattle.lists.specs.Lists.{coefficient, Spared}
+use Rattle.lists.specs.declared.Role.the-variants.{Codes, Reads}
 use Rattle.testing.specs.declared.Run.{Run}
 use Rattle.testing.specs.declared.Told.{Told}
-use Rattle.testing.specs.Exchange.{Chan, answer, side, Replied, Noted, replied-read, replied-said}
+use Rattle.testing.specs.Exchange.{Chan, Tells, answer, side, Replied, Noted, replied-read, replied-said}
 
 -- Two bits were read; the second counts if the first is 1.
 pub record ReadFound (body : List ℕ) (at : BitPosition) (r : Told) : Type 0 where
@@ -43,6 +43,10 @@ pub record Answered (C : Side Chan) (x : ℕ) (out : List ℕ) (at : BitPosition
   pub found : r .found ≡ true → Signed C x out at r out′
   pub missed : r .found ≡ false → Replied C (significant? x) out at (record { bit = false; next = r .next }) out′
 
+-- The coefficient of an entry, in whatever stretch the entry tells of.
+pub record AnsweredBy (run : Run) (body : List ℕ) (e : ℕ) (out : List ℕ) (at : BitPosition) (r : Told) (out′ : List ℕ) : Type 0 where
+  pub answered : (s : List ℕ) → Tells run s e → Answered (side run s body) (coefficient e) out at r out′
+
 -- A coefficient that is found, as bits up to a place tell, is noted; of another, nothing that counts has changed.
 pub record NotedBy (bit : Bool) (run : Run) (at x : ℕ) (negative : Bool) (f : Fill) (s s′ : List ℕ) : Type 0 where
   pub found : bit ≡ true → Noted run at (toLsp x negative) s s′
@@ -66,7 +70,7 @@ module _ (run : Run) (s body out : List ℕ) (at : BitPosition) (x : ℕ) (r : T
   abbrev sign-read : BitRead
   sign-read = record { bit = r .negative; next = r .next }
 
-  pub told-read : run .role ≡ Reads → ReadFound body at r → Answered (side run s body) x out at r out
+  pub told-read : run .stretch .role ≡ Reads → ReadFound body at r → Answered (side run s body) x out at r out
   told-read h R =
       record {
         found =
@@ -84,7 +88,7 @@ module _ (run : Run) (s body out : List ℕ) (at : BitPosition) (x : ℕ) (r : T
             (omega (arith, R .place, ap boolByte e));
       }
 
-  module _ {found negative : Bool} {out′ : List ℕ} (h : run .role ≡ Codes) (a : found ≡ answer run s (significant? x))
+  module _ {found negative : Bool} {out′ : List ℕ} (h : run .stretch .role ≡ Codes) (a : found ≡ answer run s (significant? x))
       (b : negative ≡ answer run s (negative? x)) (S : SaidFound found negative out at r out′) where
     written : (c : Bool) → r .found ≡ c → out′ ≡ setBit (setBit out (at .at) c) (at .at + 1) (cond c negative false)
     written c e = S .bytes ∙ ap (λ d. setBit (setBit out (at .at) d) (at .at + 1) (cond d negative false)) (sym (S .told) ∙ e)

@@ -8,35 +8,28 @@ ghost use lib.ListN.{length};
 ghost use Rattle.rules.specs.Document.Pyramid.{mostPlanes};
 ghost use Rattle.rules.specs.Document.Passes.{bit?, set?, refined};
 ghost use Rattle.bits.specs.Bits.{setBit};
-ghost use Rattle.lists.specs.Lists.{entryOf, indexOf, waiting, known, Fits};
-ghost use Rattle.testing.specs.Exchange.{Inside, wordAt, largestAt, side, Replied, Noted, reads, Silent};
-ghost use Rattle.testing.specs.Telling.{SaidFound, ReadFound, Answered, NotedBy};
+ghost use Rattle.lists.specs.Lists.{Inside, Marked, coefficient, entryOf, indexOf, waiting, known, Fits};
+ghost use Rattle.testing.specs.Exchange.{wordAt, largestAt, side, Replied, Noted, reads, Silent};
+ghost use Rattle.testing.specs.Telling.{SaidFound, ReadFound, AnsweredBy, NotedBy};
 ghost use Rattle.testing.specs.Finding.{endsOf, movedTo, Testing, Tested, Refining, Refined};
 use bits::BitPosition;
 use bits::BitRead;
 use lists::Fill;
+use lists::Role;
 use lists::Set;
 use lists::Stretch;
 use rules::Level;
 use rules::Plane;
 use rules::Size;
 
-// Which side of the conversation a pass is run for: the coder answers from the stretch and writes bits, the decoder reads them and draws coefficients.
-pub enum Role {
-    Codes,
-    Reads,
-}
-
-// Which part is run, and for which side. The level's tree numbers begin at `first`, those of the nodes whose offspring are here at `parents`, those of
-// the nodes whose offspring's offspring are here at `elders`. At the beginning its LIS had so many sets, and the bits go on from a place. Those that
+// Which part is run. The tree numbers of the nodes whose offspring are in the level begin at `parents`, those of the nodes whose offspring's offspring
+// are at `elders`. At the beginning its LIS had so many sets, and the bits go on from a place. Those that
 // are there end at the place `until`: of a part that is cut, W1 has the tail decoded "as far as its bits go".
 pub struct Run {
-    pub role: Role,
     pub z: Size,
     pub plane: Plane,
     pub level: Level,
     pub stretch: Stretch,
-    pub first: usize,
     pub parents: usize,
     pub elders: usize,
     pub olds: usize,
@@ -76,10 +69,10 @@ fn say(out: &mut [u8], at: BitPosition, bit: bool) -> BitRead
 
 // The word of a coefficient of the level.
 fn word_at(run: Run, s: &[u32], x: usize) -> u32
-    requires { ⌜ (4 * run .stretch .n ≤ length (now s)) × Inside run x ⌝ }
+    requires { ⌜ (4 * run .stretch .n ≤ length (now s)) × Inside (run .stretch) x ⌝ }
     ensures { λ r. ⌜ r ≡ wordAt run (now (s .entry)) x ⌝ }
 {
-    stretches::value_at(s, run.stretch.n, x - run.first)
+    stretches::value_at(s, run.stretch.n, x - run.stretch.first)
 }
 
 // The sign's bit, 0 where none is asked for.
@@ -123,27 +116,28 @@ fn read_found(body: &[u8], at: BitPosition) -> Told
     }
 }
 
-// Whether a coefficient is significant and, if so, negative.
-fn ask_found(run: Run, body: &[u8], s: &[u32], out: &mut [u8], at: BitPosition, x: usize) -> Told
-    requires { ⌜ (at .at + 2 < 2 ^ 62) × (run .plane .0 < mostPlanes) × (4 * run .stretch .n ≤ length (now s)) × Inside run x ⌝ }
-    ensures { λ r. ⌜ Answered (side run (now (s .entry)) (now (body .entry))) x (now (out .entry)) at r (now (out .exit)) ⌝ }
+// Whether a coefficient is significant and, if so, negative: the coder has both in its entry.
+fn ask_found(run: Run, body: &[u8], out: &mut [u8], at: BitPosition, e: usize) -> Told
+    requires { ⌜ (at .at + 2 < 2 ^ 62) × (run .plane .0 < mostPlanes) ⌝ }
+    ensures { λ r. ⌜ AnsweredBy run (now (body .entry)) e (now (out .entry)) at r (now (out .exit)) ⌝ }
 {
-    let role = run.role;
+    let stretch = run.stretch;
+    let role = stretch.role;
     match role {
         Role::Reads => read_found(body, at),
         Role::Codes => {
-            let word = word_at(run, s, x);
-            let found = coefficients::threshold_of(run.plane) <= word / 2;
-            say_found(out, at, found, word % 2 == 1)
+            let planes = e / 2 % 32;
+            say_found(out, at, run.plane.0 < planes, e % 2 == 1)
         }
     }
 }
 
 fn ask_bit(run: Run, body: &[u8], s: &[u32], out: &mut [u8], at: BitPosition, x: usize) -> BitRead
-    requires { ⌜ (at .at < 2 ^ 62) × (run .plane .0 < mostPlanes) × (4 * run .stretch .n ≤ length (now s)) × Inside run x ⌝ }
+    requires { ⌜ (at .at < 2 ^ 62) × (run .plane .0 < mostPlanes) × (4 * run .stretch .n ≤ length (now s)) × Inside (run .stretch) x ⌝ }
     ensures { λ r. ⌜ Replied (side run (now (s .entry)) (now (body .entry))) (bit? x) (now (out .entry)) at r (now (out .exit)) ⌝ }
 {
-    let role = run.role;
+    let stretch = run.stretch;
+    let role = stretch.role;
     match role {
         Role::Reads => at.read(body),
         Role::Codes => {
@@ -181,7 +175,8 @@ pub fn ask_set(run: Run, body: &[u8], s: &[u32], out: &mut [u8], at: BitPosition
         × (indexOf e < 2 ^ 32) ⌝ }
     ensures { λ r. ⌜ Replied (side run (now (s .entry)) (now (body .entry))) (set? (entryOf e)) (now (out .entry)) at r (now (out .exit)) ⌝ }
 {
-    let role = run.role;
+    let stretch = run.stretch;
+    let role = stretch.role;
     match role {
         Role::Reads => at.read(body),
         Role::Codes => {
@@ -203,17 +198,25 @@ fn note_tested(
     negative: bool,
 )
     requires { ⌜ (run .plane .0 < mostPlanes) × Fits (run .stretch) (now s) f × (run .stretch .n < 2 ^ 32) × (f .lip < run .stretch .n)
-        × Inside run x ⌝ }
+        × Inside (run .stretch) x ⌝ }
     ensures { λ _. ⌜ NotedBy found run (at .at) x negative f (now (s .entry)) (now (s .exit)) ⌝ }
 {
-    let role = run.role;
+    let stretch = run.stretch;
+    let role = stretch.role;
     match role {
         Role::Codes => {}
         Role::Reads => {
             if at.at <= run.until.at {
                 let word = coefficients::found_word(negative, run.plane);
                 let spare = lists::lip_end(run.stretch, f);
-                stretches::set_value_or(s, run.stretch.n, x - run.first, word, found, spare);
+                stretches::set_value_or(
+                    s,
+                    run.stretch.n,
+                    x - run.stretch.first,
+                    word,
+                    found,
+                    spare,
+                );
             }
         }
     }
@@ -223,14 +226,15 @@ fn note_tested(
 // each is needed.
 fn note_refined(run: Run, s: &mut [u32], at: BitPosition, x: usize, bit: bool)
     requires { ⌜ (run .plane .0 < mostPlanes) × (4 * run .stretch .n ≤ length (now s)) × (reads run ≡ true → wordAt run (now s) x < 2 ^ 30)
-        × (reads run ≡ true → run .until .at < at .at → bit ≡ false) × Inside run x ⌝ }
+        × (reads run ≡ true → run .until .at < at .at → bit ≡ false) × Inside (run .stretch) x ⌝ }
     ensures { λ _. ⌜ Noted run (at .at) (refined x bit) (now (s .entry)) (now (s .exit)) ⌝ }
 {
-    let role = run.role;
+    let stretch = run.stretch;
+    let role = stretch.role;
     match role {
         Role::Codes => {}
         Role::Reads => {
-            let i = x - run.first;
+            let i = x - run.stretch.first;
             let old = stretches::value_at(s, run.stretch.n, i);
             let word = coefficients::refined_word(old, bit, run.plane);
             stretches::set_value(s, run.stretch.n, i, word);
@@ -261,15 +265,17 @@ pub fn moved_to(w: Stand, e: Ends) -> Stand
     Stand { fill, at }
 }
 
-// A coefficient is tested: its bits, and its place at the end of LSP or of LIP.
-fn test(run: Run, body: &[u8], s: &mut [u32], w: Stand, out: &mut [u8], x: usize) -> Ends
+// The coefficient of an entry is tested: its bits, and its place at the end of LSP or of LIP.
+fn test(run: Run, body: &[u8], s: &mut [u32], w: Stand, out: &mut [u8], e: usize) -> Ends
     requires { ⌜ (run .plane .0 < mostPlanes) × Fits (run .stretch) (now s) (w .fill) × (run .stretch .n < 2 ^ 32)
-        × (w .fill .lip + w .fill .lsp < run .stretch .n) × (w .at .at + 2 < 2 ^ 62) × (x < 2 ^ 32) × Inside run x ⌝ }
-    ensures { λ r. ⌜ Tested run (now (body .entry)) (x ∷ []) (now (s .entry)) (now (out .entry)) w (now (s .exit)) (now (out .exit)) (movedTo w r) ⌝ }
+        × (w .fill .lip + w .fill .lsp < run .stretch .n) × (w .at .at + 2 < 2 ^ 62) × (e < 2 ^ 32)
+        × Inside (run .stretch) (coefficient e) × Marked (run .stretch) (now s) e ⌝ }
+    ensures { λ r. ⌜ Tested run (now (body .entry)) (coefficient e ∷ []) (now (s .entry)) (now (out .entry)) w (now (s .exit)) (now (out .exit)) (movedTo w r) ⌝ }
 {
-    let told = ask_found(run, body, s, out, w.at, x);
+    let told = ask_found(run, body, out, w.at, e);
+    let x = lists::coefficient_of(e);
     note_tested(run, s, w.fill, told.next, x, told.found, told.negative);
-    let fill = lists::push_tested(s, run.stretch, w.fill, x, told.found);
+    let fill = lists::push_tested(s, run.stretch, w.fill, e, told.found);
     let at = told.next;
     ends_of(Stand { fill, at })
 }
@@ -285,9 +291,9 @@ pub fn test_each(run: Run, body: &[u8], s: &mut [u32], w: Stand, out: &mut [u8],
     let first = w.fill.lip;
     let mut i = 0;
     while i < m {
-        let x = lists::lip_at(s, run.stretch.n, first + i);
+        let e = lists::lip_at(s, run.stretch.n, first + i);
         i += 1;
-        r = test(run, body, s, moved_to(w, r), out, x);
+        r = test(run, body, s, moved_to(w, r), out, e);
     }
     r
 }
@@ -302,7 +308,7 @@ fn refine(
     x: usize,
 ) -> BitPosition
     requires { ⌜ (at .at < 2 ^ 62) × (run .plane .0 < mostPlanes) × (4 * run .stretch .n ≤ length (now s))
-        × (reads run ≡ true → wordAt run (now s) x < 2 ^ 30) × Silent run (now body) × Inside run x ⌝ }
+        × (reads run ≡ true → wordAt run (now s) x < 2 ^ 30) × Silent run (now body) × Inside (run .stretch) x ⌝ }
     ensures { λ r. ⌜ Refined run (now (body .entry)) (x ∷ []) (now (s .entry)) (now (out .entry)) at (now (s .exit)) (now (out .exit)) r ⌝ }
 {
     let bit = ask_bit(run, body, s, out, at, x);

@@ -26,7 +26,13 @@ same-length-2 : tie.Need-same-length-2
 same-length-2 c = search needs
 
 returns : tie.Need-returns
-returns c = search (needs, parts-stored)
+returns c =
+    let written = c .before .before .before .before in
+    let started = written .before .before .before .before .before in
+    let filled = started .before .before .before .before in
+    let copied = filled .before .before .before .before in
+    let start = copied .before .before .before .before in
+    parts-stored (start .pre .0) (copied .copy-in .ensures) (filled .fill .ensures) (started .start .ensures) _ _ _ _ _ _ (written .write-planes .ensures)
 
 pub write-parts-spec : {M : Type 1} → statement M
 write-parts-spec =

@@ -10,7 +10,7 @@ use Rattle.coder.proofs.write_plane.Tie as tie
 
 abbrev Inv-loop : tie.InvT-loop
 Inv-loop z plane out₀ work₀ reached₀ left₀ out work reached left =
-    LevelsLeft z plane work₀ (stageOf z work₀ reached₀ out₀) left work (stageOf z work reached out)
+    LevelsLeft z plane work₀ (stageOf z work₀ reached₀ out₀) left work (reached .counts) (stageOf z work reached out)
 
 abbrev μ-loop : tie.MeasureT-loop
 μ-loop z plane out₀ work₀ reached₀ left₀ out work reached left = left

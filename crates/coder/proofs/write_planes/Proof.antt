@@ -8,7 +8,7 @@ use Rattle.coder.proofs.write_planes.Tie as tie
 
 abbrev Inv-loop : tie.InvT-loop
 Inv-loop z planes out₀ work₀ reached₀ done₀ out work reached done =
-    PlanesDone z planes work₀ (stageOf z work₀ reached₀ out₀) done work (stageOf z work reached out)
+    PlanesDone z planes work₀ (stageOf z work₀ reached₀ out₀) done work (reached .counts) (stageOf z work reached out)
 
 abbrev μ-loop : tie.MeasureT-loop
 μ-loop z planes out₀ work₀ reached₀ done₀ out work reached done = planes - done

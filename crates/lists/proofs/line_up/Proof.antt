@@ -12,19 +12,19 @@ add-push-lip : tie.Need-add-push-lip
 add-push-lip c = search needs
 
 push-lip-requires-2 : tie.Need-push-lip-requires-2
-push-lip-requires-2 c κs = (search needs, omega arith, search (needs, room-second), omega arith)
+push-lip-requires-2 c κs = (search needs, omega arith, search (needs, room-second), (omega arith, omega arith), omega arith)
 
 add-push-lip-2 : tie.Need-add-push-lip-2
 add-push-lip-2 c = search needs
 
 push-lip-requires-3 : tie.Need-push-lip-requires-3
-push-lip-requires-3 c κs = (search needs, omega arith, search (needs, room-third), omega arith)
+push-lip-requires-3 c κs = (search needs, omega arith, search (needs, room-third), (omega arith, omega arith), omega arith)
 
 add-push-lip-3 : tie.Need-add-push-lip-3
 add-push-lip-3 c = search needs
 
 push-lip-requires-4 : tie.Need-push-lip-requires-4
-push-lip-requires-4 c κs = (search needs, omega arith, room-fourth (c .before .before .before .push-lip3 .ensures) (search (needs, two-left)), omega arith)
+push-lip-requires-4 c κs = (search needs, omega arith, room-fourth (c .before .before .before .push-lip3 .ensures) (search (needs, two-left)), (omega arith, omega arith), omega arith)
 
 same-length : tie.Need-same-length
 same-length c = search needs

@@ -6,6 +6,9 @@ use borrow.Author.Needs.{needs}
 use Rattle.lists.proofs.push_lip.Statement.{statement}
 use Rattle.lists.proofs.push_lip.Tie as tie
 
+marked-requires : tie.Need-marked-requires
+marked-requires c κs = search needs
+
 lip-from-requires : tie.Need-lip-from-requires
 lip-from-requires c κs = search needs
 
@@ -32,9 +35,12 @@ same-length : tie.Need-same-length
 same-length c = search needs
 
 returns : tie.Need-returns
-returns c = let p = c .before .before .before .before .pre in push-lip-law _ _ _ (p .0) _ _ (omega arith) (p .2)
+returns c =
+    let entry = c .before .before .before in
+    let asked = entry .before .before .before .pre in
+    push-lip-law _ _ _ (asked .0) _ _ (entry .marked .ensures .0) (entry .marked .ensures .2) (omega arith) (asked .2)
 
 pub push-lip-spec : {M : Type 1} → statement M
 push-lip-spec =
     tie.close
-    (tie.spec lip-from-requires add-at cast-s mul-s slice-write-s add-r same-length returns)
+    (tie.spec marked-requires lip-from-requires add-at cast-s mul-s slice-write-s add-r same-length returns)

@@ -1,4 +1,5 @@
 -- `lists::push_tested` meets its contract.
+use mathlib.Core.Path.{refl}
 use Rattle.stretches.specs.Cut.{lspFrom}
 use Rattle.lists.proofs.Laws.{end-inside, push-by-law}
 use Rattle.lists.specs.Lists.{bit-small}
@@ -63,7 +64,7 @@ returns c =
     let chosen = c .before .before in
     let lsp-end = chosen .before .before .before .lsp-from .ensures in
     push-by-law _ _ _ (start .pre .0) (start .args .found) _ (chosen .either .ensures) (omega (arith, lsp-end)) (chosen .before .lip-end .ensures)
-    (start .pre .2) _
+    (start .pre .2) _ refl (start .pre .4)
 
 pub push-tested-spec : {M : Type 1} → statement M
 push-tested-spec =

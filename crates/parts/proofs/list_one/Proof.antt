@@ -1,5 +1,6 @@
 -- `parts::list_one` meets its contract.
-use Rattle.parts.proofs.Begin.{listed-even, odd-slot, listed-odd}
+use Rattle.parts.proofs.Begin.{one-inside, listed-even, odd-slot, listed-odd}
+use native.Mathlib.Omega.{arith}
 use borrow.Author.Needs.{needs}
 use Rattle.parts.proofs.list_one.Statement.{statement}
 use Rattle.parts.proofs.list_one.Tie as tie
@@ -8,7 +9,10 @@ band-number-requires : tie.Need-band-number-requires
 band-number-requires c κs = search needs
 
 push-lip-requires : tie.Need-push-lip-requires
-push-lip-requires c κs = search needs
+push-lip-requires c κs =
+    let asked = c .before .before .before .pre in
+    let inside = one-inside _ (asked .0) (c .before .band-number .ensures .0) in
+    (asked .0 .fits, asked .0 .size, omega (arith, asked .0 .coefficients), inside .0, inside .1)
 
 add-if1 : tie.Need-add-if1
 add-if1 c = search needs

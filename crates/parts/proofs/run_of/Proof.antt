@@ -12,25 +12,23 @@ fill-of-requires c κs = let C = c .pre in (C .coarser, omega (arith, C .level, 
 stretch-of-requires : tie.Need-stretch-of-requires
 stretch-of-requires c κs = search needs
 
-level-start-requires : tie.Need-level-start-requires
-level-start-requires c κs = search needs
-
-add-t13 : tie.Need-add-t13
-add-t13 c = let C = c .before .before .before .before .pre in omega (arith, C .level, legal _ (C .legal) .few)
+add-t12 : tie.Need-add-t12
+add-t12 c = let C = c .before .before .before .pre in omega (arith, C .level, legal _ (C .legal) .few)
 
 span-of-requires : tie.Need-span-of-requires
 span-of-requires c κs = search needs
 
-add-t16 : tie.Need-add-t16
-add-t16 c = let C = c .before .before .before .before .before .before .pre in omega (arith, C .level, legal _ (C .legal) .few)
+add-t15 : tie.Need-add-t15
+add-t15 c = let C = c .before .before .before .before .before .pre in omega (arith, C .level, legal _ (C .legal) .few)
 
 span-of-requires-2 : tie.Need-span-of-requires-2
 span-of-requires-2 c κs = search needs
 
 returns : tie.Need-returns
-returns c = let fill = c .before .before .before .before .before .before .fill-of .ensures .0 in
-    let stretch = c .before .before .before .before .before .stretch-of .ensures in
-    run-is _ fill stretch (c .before .before .before .before .level-start .ensures) (c .before .before .span-of .ensures) (c .span-of2 .ensures)
+returns c =
+    let fill = c .before .before .before .before .before .fill-of .ensures .0 in
+    let stretch = c .before .before .before .before .stretch-of .ensures in
+    run-is _ fill stretch (c .before .before .span-of .ensures) (c .span-of2 .ensures)
 
 pub run-of-spec : {M : Type 1} → statement M
 run-of-spec =
@@ -38,9 +36,8 @@ run-of-spec =
     (tie.spec
     fill-of-requires
     stretch-of-requires
-    level-start-requires
-    add-t13
+    add-t12
     span-of-requires
-    add-t16
+    add-t15
     span-of-requires-2
     returns)

@@ -15,6 +15,9 @@ level-size-requires c κs = search needs
 mul-list-band : tie.Need-mul-list-band
 mul-list-band c = omega (arith, top-under _ (c .before .before .pre .0) (c .level-size .ensures) .1)
 
+mul-list-band-2 : tie.Need-mul-list-band-2
+mul-list-band-2 c = omega (arith, top-under _ (c .before .before .pre .0) (c .level-size .ensures) .1)
+
 sub-list-band : tie.Need-sub-list-band
 sub-list-band c = search needs
 
@@ -24,13 +27,10 @@ part-list-band-start c = search needs
 part-list-band-end : tie.Need-part-list-band-end
 part-list-band-end c = let P = c .before .before .pre in top-room _ (P .0) (c .level-size .ensures) (P .1)
 
-mul-t14 : tie.Need-mul-t14
-mul-t14 c = omega (arith, top-under _ (c .before .before .before .pre .0) (c .before .level-size .ensures) .1)
-
 list-band-requires : tie.Need-list-band-requires
 list-band-requires c κs = let P = c .before .before .before .pre in
     let size = c .before .level-size .ensures in
-    band-listing _ _ (c .before .before .before .args .work .now) (P .0) (top-size _ size) (top-room _ (P .0) size (P .1))
+    band-listing _ _ _ (c .before .before .before .args .work .now) (P .0) (top-size _ size) (top-room _ (P .0) size (P .1))
 
 mul-lip : tie.Need-mul-lip
 mul-lip c = omega (arith, legal _ (c .before .before .before .before .before .before .pre .0) .few)
@@ -52,7 +52,7 @@ returns c = let P = c .before .before .before .before .before .before .pre in
     let size = c .before .before .before .before .level-size .ensures in
     let listed = c .before .before .list-band .ensures in
     let work = c .before .before .before .before .before .before .args .work .now in
-    started _ _ (P .0) _ (top-size _ size) work _ (top-room _ (P .0) size (P .1)) (listed .beside .long) listed
+    started _ _ _ (P .0) _ (top-size _ size) work _ (top-room _ (P .0) size (P .1)) (listed .beside .long) listed
 
 pub start-spec : {M : Type 1} → statement M
 start-spec =
@@ -61,10 +61,10 @@ start-spec =
     add-list-band
     level-size-requires
     mul-list-band
+    mul-list-band-2
     sub-list-band
     part-list-band-start
     part-list-band-end
-    mul-t14
     list-band-requires
     mul-lip
     array-write-lip

@@ -1,6 +1,5 @@
 -- `testing::ask_found` meets its contract.
-use Rattle.testing.specs.Telling.{told-read, told-said}
-use Rattle.testing.proofs.Leaves.{says-significant, says-negative}
+use Rattle.testing.proofs.Leaves.{answered-read, answered-said}
 use borrow.Author.Needs.{needs}
 use Rattle.testing.proofs.ask_found.Statement.{statement}
 use Rattle.testing.proofs.ask_found.Tie as tie
@@ -14,23 +13,17 @@ read-found-requires c κs = search needs
 enum-told-2 : tie.Need-enum-told-2
 enum-told-2 c = search needs
 
-word-at-requires : tie.Need-word-at-requires
-word-at-requires c κs = search needs
-
-threshold-of-requires : tie.Need-threshold-of-requires
-threshold-of-requires c κs = search needs
-
 say-found-requires : tie.Need-say-found-requires
 say-found-requires c κs = search needs
 
 returns : tie.Need-returns
-returns c = search (needs, told-read)
+returns c = search (needs, answered-read)
 
 same-length : tie.Need-same-length
 same-length c = search needs
 
 returns-2 : tie.Need-returns-2
-returns-2 c = search (needs, told-said, says-significant, says-negative)
+returns-2 c = search (needs, answered-said)
 
 pub ask-found-spec : {M : Type 1} → statement M
 ask-found-spec =
@@ -39,8 +32,6 @@ ask-found-spec =
     enum-told
     read-found-requires
     enum-told-2
-    word-at-requires
-    threshold-of-requires
     say-found-requires
     returns
     same-length

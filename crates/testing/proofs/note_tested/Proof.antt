@@ -23,7 +23,8 @@ sub-set-value-or c = search needs
 set-value-or-requires : tie.Need-set-value-or-requires
 set-value-or-requires c κs =
     let ended = c .before .before in
-    let start = ended .before .before .before .before .before .before .before .before .pre in
+    let level = ended .before .before .before .before .before in
+    let start = level .before .before .before .before .pre in
     (start .1 .room, omega (arith, start .4), spare-inside (start .1) (start .3) (ended .lip-end .ensures))
 
 returns : tie.Need-returns

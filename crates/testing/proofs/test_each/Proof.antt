@@ -5,7 +5,7 @@ use Prim.Native.Nat.{_≤_, _-_}
 use lib.ListN.{length}
 use Rattle.lists.specs.Lists.{waiting}
 use Rattle.testing.specs.Finding.{movedTo, Tested, stood}
-use Rattle.testing.proofs.Finding.{ends-moved, moved-from, each-length, each-there, each-inside, each-next, each-none, each-done}
+use Rattle.testing.proofs.Finding.{ends-moved, moved-from, each-length, each-there, each-inside, each-marked, each-next, each-none, each-done}
 use borrow.Author.Needs.{needs}
 use Rattle.testing.proofs.test_each.Statement.{statement}
 use Rattle.testing.proofs.test_each.Tie as tie
@@ -51,6 +51,7 @@ test-requires c κs =
       omega (arith, tested .place, asked .place),
       c .before .before .before .lip-at .ensures .1,
       each-inside _ asked (turn .loop .inv .0) (omega arith) (c .before .before .before .lip-at .ensures .0),
+      each-marked _ asked (turn .loop .inv .0) (omega arith) (c .before .before .before .lip-at .ensures .0),
     )
 
 loop-less : tie.Need-loop-less Inv-loop μ-loop
