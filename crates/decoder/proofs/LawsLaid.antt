@@ -4,7 +4,7 @@ use mathlib.Core.List.{List, [], _∷_, _++_, map}
 use Prim.Native.Nat.{ℕ, _<_}
 use native.Mathlib.Omega.{arith}
 use native.Mathlib.Decide.{decLt}
-use lib.ListN.{length, getD, replicate, length-map}
+use lib.ListN.{length, getD, replicate}
 use lib.IntN.{ℤ, pos}
 use lib.Seq.{ext-getD}
 use Rattle.rules.specs.declared.Size.{Size}
@@ -21,7 +21,7 @@ use Rattle.trees.specs.Family.{trees, coefficientOf, coefficient-out}
 use Rattle.trees.specs.Run.{numberOf, coefficient-number, number-area}
 use Rattle.trees.specs.Decoding.{Laid, Same, onwardOf, decodePartsOf, tailOnwardOf, laid-out, decoded-trees}
 use Rattle.coefficients.specs.Words.{valueOf, value-zero}
-use Rattle.stretches.specs.Workspace.{wordIn, drawnIn}
+use Rattle.stretches.specs.Workspace.{wordIn, drawnIn, drawn-length}
 use Rattle.decoder.specs.Walking.{names, begin, walked, tailWalked}
 
 -- The values drawn stand row by row.
@@ -35,10 +35,6 @@ blanks f [] a = refl
 blanks f (x ∷ xs) a = ap₂ _∷_ (a .0) (blanks f xs (a .1))
 
 module _ (z : Size) (work : List ℕ) where
-  drawn-length : length (drawnIn z work) ≡ area z
-  unfolding drawnIn
-  drawn-length = length-map (from 0 (area z)) (λ x. valueOf (wordIn z work x)) ∙ from-length 0 (area z)
-
   pub drawn-blank : ((x : ℕ) → x < area z → wordIn z work x ≡ 0) → drawnIn z work ≡ replicate (area z) (pos 0)
   unfolding drawnIn
   drawn-blank e =

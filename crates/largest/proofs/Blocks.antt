@@ -6,6 +6,7 @@ use native.Mathlib.Omega.{arith}
 use native.Mathlib.Decide.{ℕ-discrete}
 use lib.ListN.{length, getD}
 use lib.Seq.{getD-set-same, getD-set-other}
+use Rattle.trees.specs.Measure.{four-same}
 use Rattle.stretches.specs.Cut.{maximaFrom, maximaIn, maxima-length, largestD, largestL, MaximumSet}
 use Rattle.largest.specs.Blocks.{wordMeasure, near, far, four, Apart, SomeD, SomeL}
 
@@ -35,11 +36,7 @@ none-d = record { apart = apart-none; made = λ b h. absurd (omega arith) }
 near-same : (n : ℕ) (s₀ s : List ℕ) (b : ℕ) → Apart n s₀ s → b < n / 4 → near s b ≡ near s₀ b
 unfolding near maximaFrom
 near-same n s₀ s b a h =
-    ap₂ max (ap₂ max (at (4 * b) (omega arith)) (at (4 * b + 1) (omega arith)))
-    (ap₂ max (at (4 * b + 2) (omega arith)) (at (4 * b + 3) (omega arith)))
-  where
-    at : (i : ℕ) → i < n → wordMeasure (getD s i 0) ≡ wordMeasure (getD s₀ i 0)
-    at i l = ap (λ (w : ℕ). wordMeasure w) (a .before i (omega arith))
+    four-same (λ i. wordMeasure (getD s i 0)) (λ i. wordMeasure (getD s₀ i 0)) b b (λ f l. ap (λ (w : ℕ). wordMeasure w) (a .before (4 * b + f) (omega arith)))
 
 far-same : (n : ℕ) (s₀ s : List ℕ) (b : ℕ) → Apart n s₀ s → far n s b ≡ far n s₀ b
 unfolding far
@@ -76,11 +73,7 @@ four-found n s i ha hb hc hd e =
 four-left : (n : ℕ) (s₀ s : List ℕ) (c : ℕ) → SomeL n s₀ c s → four n s c ≡ four n s₀ c
 unfolding four
 four-left n s₀ s c d =
-    ap₂ max (ap₂ max (at (4 * c) (omega arith)) (at (4 * c + 1) (omega arith)))
-    (ap₂ max (at (4 * c + 2) (omega arith)) (at (4 * c + 3) (omega arith)))
-  where
-    at : (i : ℕ) → 4 * c ≤ i → largestD (getD (maximaIn n s) i 0) ≡ largestD (getD (maximaIn n s₀) i 0)
-    at i l = ap largestD (d .left i l)
+    four-same (λ i. largestD (getD (maximaIn n s) i 0)) (λ i. largestD (getD (maximaIn n s₀) i 0)) c c (λ f l. ap largestD (d .left (4 * c + f) (omega arith)))
 
 pub next-l : {n : ℕ} {s₀ : List ℕ} {c : ℕ} {s s′ : List ℕ} {l w : ℕ} → SomeL n s₀ c s → l ≡ four n s c → l < 32
     → w ≡ getD (maximaIn n s) (4 * c) 0 → MaximumSet n s (4 * c) (w % 32 + 32 * l) s′ → 4 * n ≤ length s₀ → c < n / 16 → SomeL n s₀ (c + 1) s′

@@ -1,19 +1,12 @@
--- Measures of words: how large one can be, that the largest word's is the largest, and the largest in sets.
+-- Measures of words: how large one can be, and that the largest word's is the largest.
 use mathlib.Core.Path.{_≡_, ap₂, _∙_}
 use Prim.Native.Nat.{ℕ, suc, _/_, _^_, _≤_, _<_, max}
 use native.Mathlib.Omega.{arith}
 use native.Mathlib.Nat.{pow-suc}
 use native.Mathlib.Decide.{decLe}
 use lib.Pow.{pow-mono}
-use Rattle.rules.specs.Document.Pyramid.{planesOf, levels}
-use Rattle.rules.specs.declared.Size.{Size}
-use Rattle.rules.specs.Document.Notation.{greatest}
-use Rattle.rules.specs.Document.Passes.{typeA, typeB, members}
-use Rattle.rules.specs.Laws.Family.Sizes.{span}
-use Rattle.rules.specs.Promises.Vocabulary.{Legal}
+use Rattle.rules.specs.Document.Pyramid.{planesOf}
 use Rattle.rules.specs.Laws.Rounding.Planes.{planesOf-counts}
-use Rattle.trees.specs.Family.{trees}
-use Rattle.trees.specs.Measure.{fourMost, largestD, largestL, largestD-four, largestL-four, largestL-none}
 use Rattle.coefficients.specs.Words.{magnitudeWord}
 use Rattle.largest.specs.Blocks.{wordMeasure}
 
@@ -45,19 +38,3 @@ pub measure-largest : (a b c d : ℕ) → a < 2 ^ 32 → b < 2 ^ 32 → c < 2 ^ 
     → wordMeasure (max (max a b) (max c d)) ≡ max (max (wordMeasure a) (wordMeasure b)) (max (wordMeasure c) (wordMeasure d))
 measure-largest a b c d ha hb hc hd =
     measure-larger (max a b) (max c d) (omega arith) (omega arith) ∙ ap₂ max (measure-larger a b ha hb) (measure-larger c d hc hd)
-
--- D of a node from its offspring and its L, L from the D of its offspring
-module _ (z : Size) (Z : Legal z) (m : ℕ → ℕ) (x : ℕ) where
-  pub most-d : span z (levels z) ≤ x → x < span z 1
-      → greatest m (members (trees z) (typeA x)) ≡ max (fourMost m x) (greatest m (members (trees z) (typeB x)))
-  unfolding largestD largestL
-  most-d h l = largestD-four z Z m x h l
-
-  pub most-l : span z (levels z) ≤ x → x < span z 1
-      → greatest m (members (trees z) (typeB x)) ≡ fourMost (λ y. greatest m (members (trees z) (typeA y))) x
-  unfolding largestD largestL
-  most-l h l = largestL-four z Z m x h l
-
-  pub most-l-none : span z 2 ≤ x → greatest m (members (trees z) (typeB x)) ≡ 0
-  unfolding largestL
-  most-l-none h = largestL-none z Z m x h

@@ -1,5 +1,5 @@
 -- Level after level: what is there when D, or L, of one level more is filled.
-use mathlib.Core.Path.{_≡_, refl, sym, ap, ap₂, _∙_}
+use mathlib.Core.Path.{_≡_, refl, sym, ap, _∙_}
 use mathlib.Core.Logic.{_≢_}
 use mathlib.Core.List.{List}
 use Prim.Native.Nat.{ℕ, _+_, _-_, _*_, _/_, _%_, _^_, _≤_, _<_, max}
@@ -11,16 +11,16 @@ use Rattle.rules.specs.Document.Pyramid.{levels, area}
 use Rattle.rules.specs.Document.Notation.{greatest}
 use Rattle.rules.specs.Document.Passes.{typeA, typeB, members}
 use Rattle.rules.specs.Promises.Vocabulary.{Legal}
-use Rattle.rules.specs.Laws.Family.Sizes.{legal, span, levelStart, levelSize, levelSize-fine, span-whole}
+use Rattle.rules.specs.Laws.Family.Sizes.{legal, span, levelStart, levelSize, span-whole}
 use Rattle.trees.specs.Family.{trees, treeLevel, span-falls}
-use Rattle.trees.specs.Measure.{fourMost}
+use Rattle.trees.specs.Measure.{fourMost, four-same, largestD-four, largestL-four, largestL-none}
 use Rattle.stretches.specs.Cut.{maximaFrom, largestD, largestL}
 use Rattle.stretches.specs.Workspace.{wordIn, maximumIn}
 use Rattle.stretches.specs.Levels.{wordsFrom, blocksFrom, level-before, numbered, word-numbered, maximum-place}
 use Rattle.largest.specs.Filling.{measureIn, Fillable, Filled}
 use Rattle.largest.specs.Steps.{OnlyMaxima, LevelD, LevelL, FilledTo}
-use Rattle.largest.proofs.Measures.{measure-most, most-d, most-l, most-l-none}
-use Rattle.largest.proofs.Lent.{quarter, pair-finest, maximum-nowhere}
+use Rattle.largest.proofs.Measures.{measure-most}
+use Rattle.largest.proofs.Lent.{quarter, node-block, fours-block, pair-finest, maximum-nowhere}
 
 -- What lies outside of level k's maxima: every word, and the maxima of the other levels.
 module _ (z : Size) (Z : Legal z) (k : ℕ) (some : 1 ≤ k) (most : k ≤ z .n) (work work′ : List ℕ) (A : OnlyMaxima z k work work′) where
@@ -71,9 +71,6 @@ module _ (z : Size) (work₀ : List ℕ) (F : Fillable z work₀) where
 
   -- where a node of a level's blocks lies
   module _ (k x : ℕ) (some : 1 ≤ k) (most : k ≤ z .n) (hx : span z (k + 1) ≤ x) (lx : x < span z k) where
-    node-block : x - span z (k + 1) < levelSize z k / 4
-    node-block = let q : span z k ≡ 4 * span z (k + 1) = quarter z Z k most in omega (arith, levelSize-fine z Z k some most)
-
     node-from : span z (levels z) ≤ x
     node-from = omega (arith, span-falls z (k + 1) (levels z) (omega arith))
 
@@ -91,10 +88,7 @@ module _ (z : Size) (work₀ : List ℕ) (F : Fillable z work₀) where
   module _ (work : List ℕ) (same : (x : ℕ) → x < area z → wordIn z work x ≡ wordIn z work₀ x) (x : ℕ) (h : x < span z 1) where
     four-measured : fourMost (measureIn z work) x ≡ fourMost (measureIn z work₀) x
     unfolding measureIn
-    four-measured =
-        let at : (y : ℕ) → y < area z → measureIn z work y ≡ measureIn z work₀ y = λ y l. rw (same y l) in
-        ap₂ max (ap₂ max (at (4 * x) (omega (arith, four-inside x 0 h (omega arith)))) (at (4 * x + 1) (four-inside x 1 h (omega arith))))
-        (ap₂ max (at (4 * x + 2) (four-inside x 2 h (omega arith))) (at (4 * x + 3) (four-inside x 3 h (omega arith))))
+    four-measured = four-same (measureIn z work) (measureIn z work₀) x x (λ f l. rw (same (4 * x + f) (four-inside x f h l)))
 
     four-small : fourMost (measureIn z work₀) x < 32
     four-small =
@@ -105,15 +99,6 @@ module _ (z : Size) (work₀ : List ℕ) (F : Fillable z work₀) where
           measure-small (4 * x + 2) (four-inside x 2 h (omega arith)),
           measure-small (4 * x + 3) (four-inside x 3 h (omega arith)),
         )
-
-  fours-block : (k x : ℕ) → 1 ≤ k → k + 1 ≤ z .n → span z (k + 2) ≤ x → x < span z (k + 1)
-      → (4 * (x - span z (k + 2)) < levelSize z k / 4) × (span z (k + 1) ≡ 4 * span z (k + 2))
-  fours-block k x some most hx lx =
-      let i : span z (k + 1 + 1) ≡ span z (k + 2) = ap (span z) (omega arith) in
-      let q : span z k ≡ 4 * span z (k + 1) = quarter z Z k (omega arith) in
-      let r : span z (k + 1) ≡ 4 * span z (k + 1 + 1) = quarter z Z (k + 1) most in
-      let m : levelSize z k ≡ 3 * span z k = levelSize-fine z Z k some (omega arith) in
-      (omega arith, omega arith)
 
   -- D of level k
   module _ (k : ℕ) (some : 1 ≤ k) (most : k ≤ z .n) (work work′ : List ℕ) (P : FilledTo z k k work₀ work) (D : LevelD z k work work′) where
@@ -130,7 +115,7 @@ module _ (z : Size) (work₀ : List ℕ) (F : Fillable z work₀) where
               let s : span z (k + 1) ≡ span z 2 = ap (span z) e in
               let o : levelSize z (k - 1) ≡ 0 = pair-finest z Z k some (omega arith) in
               let m : maximumIn z work (k - 1) (4 * (x - span z (k + 1))) ≡ 0 = maximum-nowhere z Z work (k - 1) (4 * (x - span z (k + 1))) o in
-              (ap (λ (y : ℕ). y / 32) m ∙ sym (most-l-none z Z (measureIn z work₀) x (omega arith)), omega arith)
+              (ap (λ (y : ℕ). y / 32) m ∙ sym (largestL-none z Z (measureIn z work₀) x (omega arith)), omega arith)
           by (yes l) =
               let e : span z (k - 1 + 2) ≡ span z (k + 1) = ap (span z) (omega arith) in
               let i : span z (k - 1 + 1) ≡ span z k = ap (span z) (omega arith) in
@@ -148,7 +133,7 @@ module _ (z : Size) (work₀ : List ℕ) (F : Fillable z work₀) where
           let v : maximumIn z work′ k (x - span z (k + 1))
           ≡ max (fourMost (measureIn z work₀) x) (largestL (maximumIn z work (k - 1) (4 * (x - span z (k + 1)))))
           = D .made x hx lx ∙ ap (λ (y : ℕ). max y (largestL (maximumIn z work (k - 1) (4 * (x - span z (k + 1)))))) (four-measured work (P .words) x t) in (
-            v ∙ ap (max (fourMost (measureIn z work₀) x)) (l-there .0) ∙ sym (most-d z Z (measureIn z work₀) x (node-from k x some most hx lx) t),
+            v ∙ ap (max (fourMost (measureIn z work₀) x)) (l-there .0) ∙ sym (largestD-four z Z (measureIn z work₀) x (node-from k x some most hx lx) t),
             omega (arith, four-small work (P .words) x t, l-there .1),
           )
 
@@ -163,7 +148,8 @@ module _ (z : Size) (work₀ : List ℕ) (F : Fillable z work₀) where
           words = λ x h. words-stay z Z k some most work work′ (D .apart) x h ∙ P .words x h;
           ofD = λ j x a b hx lx. d j x a b hx lx (ℕ-discrete j k);
           ofL = λ j x a b hx lx.
-              ap largestL (other-stays j _ a (omega arith) (λ e. omega arith) (fours-block j x a (omega arith) hx lx .0)) ∙ P .ofL j x a b hx lx;
+              ap largestL (other-stays j _ a (omega arith) (λ e. omega arith) (omega (arith, fours-block z Z j x a (omega arith) hx lx .0)))
+              ∙ P .ofL j x a b hx lx;
           small = λ j x a b hx lx. s j x a b hx lx (ℕ-discrete j k);
         }
       where
@@ -174,12 +160,12 @@ module _ (z : Size) (work₀ : List ℕ) (F : Fillable z work₀) where
             let low : maximumIn z work′ k (x - span z (k + 1)) % 32 ≡ maximumIn z work′ k (x - span z (k + 1)) = omega (arith, v .1) in
             rw e (low ∙ v .0)
         d j x a b hx lx (no i) =
-            ap (λ (y : ℕ). y % 32) (other-stays j _ a (omega arith) i (node-block j x a (omega arith) hx lx)) ∙ P .ofD j x a (omega arith) hx lx
+            ap (λ (y : ℕ). y % 32) (other-stays j _ a (omega arith) i (node-block z Z j x a (omega arith) hx lx)) ∙ P .ofD j x a (omega arith) hx lx
 
         s : (j x : ℕ) → 1 ≤ j → j < k + 1 → span z (j + 1) ≤ x → x < span z j → Dec (j ≡ k) → maximumIn z work′ j (x - span z (j + 1)) < 2 ^ 10
         s j x a b hx lx (yes e) = rw e (omega (arith, d-value x (rw e at hx) (rw e at lx) .1))
         s j x a b hx lx (no i) =
-            rw (other-stays j _ a (omega arith) i (node-block j x a (omega arith) hx lx)) (P .small j x a (omega arith) hx lx)
+            rw (other-stays j _ a (omega arith) i (node-block z Z j x a (omega arith) hx lx)) (P .small j x a (omega arith) hx lx)
 
   -- L of level k
   module _ (k : ℕ) (some : 1 ≤ k) (most : k + 1 ≤ z .n) (work work′ : List ℕ) (P : FilledTo z (k + 1) k work₀ work) (L : LevelL z k work work′) where
@@ -189,20 +175,15 @@ module _ (z : Size) (work₀ : List ℕ) (F : Fillable z work₀) where
     finer-stays : (j b : ℕ) → 1 ≤ j → j < k → b < levelSize z j / 4 → maximumIn z work′ j b ≡ maximumIn z work j b
     finer-stays j b a l h = maxima-stay z Z k some under work work′ (L .apart) j b a (omega arith) (λ e. omega arith) h
 
-    d-there : (x f y : ℕ) → span z (k + 2) ≤ x → x < span z (k + 1) → f < 4 → y ≡ 4 * x + f
-        → largestD (maximumIn z work k (y - span z (k + 1))) ≡ greatest (measureIn z work₀) (members (trees z) (typeA y))
-    d-there x f y hx lx h e =
-        let q : span z k ≡ 4 * span z (k + 1) = quarter z Z k under in
-        let r : span z (k + 1) ≡ 4 * span z (k + 2) = fours-block k x some most hx lx .1 in
-        P .ofD k y some (omega arith) (omega arith) (omega arith)
-
     l-value : (x : ℕ) → span z (k + 2) ≤ x → x < span z (k + 1)
         → largestL (maximumIn z work′ k (4 * (x - span z (k + 2)))) ≡ greatest (measureIn z work₀) (members (trees z) (typeB x))
     l-value x hx lx =
+        let q : span z k ≡ 4 * span z (k + 1) = quarter z Z k under in
+        let r : span z (k + 1) ≡ 4 * span z (k + 2) = fours-block z Z k x some most hx lx .1 in
         L .made x hx lx
-        ∙ ap₂ max (ap₂ max (d-there x 0 (4 * x) hx lx (omega arith) (omega arith)) (d-there x 1 _ hx lx (omega arith) refl))
-        (ap₂ max (d-there x 2 _ hx lx (omega arith) refl) (d-there x 3 _ hx lx (omega arith) refl))
-        ∙ sym (most-l z Z (measureIn z work₀) x (omega (arith, span-falls z (k + 2) (levels z) (omega arith)))
+        ∙ four-same (λ y. largestD (maximumIn z work k (y - span z (k + 1)))) (λ y. greatest (measureIn z work₀) (members (trees z) (typeA y))) x x
+        (λ f h. P .ofD k (4 * x + f) some (omega arith) (omega arith) (omega arith))
+        ∙ sym (largestL-four z Z (measureIn z work₀) x (omega (arith, span-falls z (k + 2) (levels z) (omega arith)))
         (omega (arith, span-falls z 1 (k + 1) (omega arith))))
 
     pub filled-l : FilledTo z (k + 1) (k + 1) work₀ work′
@@ -218,17 +199,17 @@ module _ (z : Size) (work₀ : List ℕ) (F : Fillable z work₀) where
         d : (j x : ℕ) → 1 ≤ j → j < k + 1 → span z (j + 1) ≤ x → x < span z j → Dec (j ≡ k)
             → largestD (maximumIn z work′ j (x - span z (j + 1))) ≡ largestD (maximumIn z work j (x - span z (j + 1)))
         d j x a b hx lx (yes e) = rw e (L .kept (x - span z (k + 1)))
-        d j x a b hx lx (no i) = ap largestD (finer-stays j _ a (omega arith) (node-block j x a (omega arith) hx lx))
+        d j x a b hx lx (no i) = ap largestD (finer-stays j _ a (omega arith) (node-block z Z j x a (omega arith) hx lx))
 
         l : (j x : ℕ) → 1 ≤ j → j < k + 1 → span z (j + 2) ≤ x → x < span z (j + 1) → Dec (j ≡ k)
             → largestL (maximumIn z work′ j (4 * (x - span z (j + 2)))) ≡ greatest (measureIn z work₀) (members (trees z) (typeB x))
         l j x a b hx lx (yes e) = rw e (l-value x (rw e at hx) (rw e at lx))
         l j x a b hx lx (no i) =
-            ap largestL (finer-stays j _ a (omega arith) (fours-block j x a (omega arith) hx lx .0)) ∙ P .ofL j x a (omega arith) hx lx
+            ap largestL (finer-stays j _ a (omega arith) (omega (arith, fours-block z Z j x a (omega arith) hx lx .0))) ∙ P .ofL j x a (omega arith) hx lx
 
         s : (j x : ℕ) → 1 ≤ j → j < k + 1 → span z (j + 1) ≤ x → x < span z j → Dec (j ≡ k) → maximumIn z work′ j (x - span z (j + 1)) < 2 ^ 10
         s j x a b hx lx (yes e) = rw e (L .small (x - span z (k + 1)) (P .small k x some (omega arith) (rw e at hx) (rw e at lx)))
-        s j x a b hx lx (no i) = rw (finer-stays j _ a (omega arith) (node-block j x a (omega arith) hx lx)) (P .small j x a b hx lx)
+        s j x a b hx lx (no i) = rw (finer-stays j _ a (omega arith) (node-block z Z j x a (omega arith) hx lx)) (P .small j x a b hx lx)
 
 -- every level
 pub filled-all : {z : Size} {d l : ℕ} {work work′ : List ℕ} → FilledTo z d l work work′ → z .n < d → z .n ≤ l → Filled z work work′

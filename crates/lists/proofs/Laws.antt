@@ -19,7 +19,7 @@ use Rattle.stretches.specs.Cut.{setRoom, lipFrom, lspFrom, lisFrom, maximaFrom,
 use Rattle.lists.specs.declared.Role.the-variants.{Reads}
 use Rattle.lists.specs.declared.Stretch.{Stretch}
 use Rattle.lists.specs.declared.Fill.{Fill}
-use Rattle.lists.specs.Lists.{coefficient, markOf, Marked, Inside, entry, fourFrom, sets, waiting, known, lipAt, lspAt, Held, held, Fits, Beside}
+use Rattle.lists.specs.Lists.{coefficient, markOf, Marked, Inside, entry, fourFrom, sets, waiting, known, lipAt, lspAt, held, Fits, Beside}
 use Rattle.lists.specs.Lists.{LipPushed, LspPushed, PushedBy, raised, LinedUp}
 use Rattle.lists.specs.Lists.{NextSet, SetAdded, SetKept, SetMoved, waiting-add, waiting-length}
 use Rattle.lists.specs.Besides.{held-same, beside-then, marked-same, marked-none, marks-kept}

@@ -44,8 +44,7 @@ use Rattle.lists.specs.Besides.{beside-none, beside-then, marked-lent}
 use Rattle.parts.specs.declared.Counts.{Counts}
 use Rattle.parts.specs.Standing.{countAt, nothing, listsAt, stateOf, stretchBy, Started}
 use Rattle.parts.specs.Begin.{empty, lengths, rowOf, bandAt, InBand, Listing, Listed}
-use Rattle.parts.proofs.Levels.{level-place, level-some, level-before, stretch-at, word-in}
-use Rattle.parts.proofs.Workspace.{put-behind}
+use Rattle.stretches.specs.Levels.{level-place, level-some, level-before, stretch-at, word-in, put-behind}
 
 -- lists joined
 all-first : {X : Type 0} (P : X → Type 0) (xs ys : List X) → All P (xs ++ ys) → All P xs

@@ -37,9 +37,10 @@ use Rattle.testing.specs.Exchange.{Chan, chan, wordAt, largestAt, wordsTell, an
 use Rattle.parts.specs.declared.Counts.{Counts}
 use Rattle.parts.specs.declared.Passed.{Passed}
 use Rattle.parts.specs.Standing.{stateOf, Ready, courseC, CodedFrom, PartCoded}
-use Rattle.parts.specs.Workspace.{stretchFor, runOf, courseIn, PartRun}
-use Rattle.parts.proofs.Levels.{level-place, level-some, word-in, word-here}
+use Rattle.parts.specs.Workspace.{runOf, courseIn, PartRun}
+use Rattle.stretches.specs.Levels.{level-place, level-some, word-in}
 use Rattle.parts.proofs.Nodes.{typeA-place, typeB-place}
+use Rattle.parts.proofs.Growing.{word-here}
 
 -- a word's magnitude and sign
 worded-half : (v : ℤ) → worded v / 2 ≡ natAbs v

@@ -4,10 +4,9 @@ use mathlib.Core.List.{List}
 use mathlib.Core.Bool.{Bool, true, false, true≢false, cond}
 use mathlib.Core.Logic.{_≢_}
 use Prim.Native.Nat.{ℕ, _+_, _-_, _*_, _≤_, _<_, _^_}
-use native.Mathlib.Nat.{zero-add}
 use native.Mathlib.Omega.{arith}
 use native.Mathlib.Decide.{ℕ-discrete}
-use lib.ListN.{length, getD, set, length-set, length-map}
+use lib.ListN.{length, getD, set, length-set}
 use lib.Seq.{getD-set-same, getD-set-other, ext-getD}
 use lib.Pow.{pow-pos}
 use lib.IntN.{ℤ, pos}
@@ -18,11 +17,9 @@ use Rattle.rules.specs.declared.Plane.{Plane}
 use Rattle.rules.specs.declared.Level.{Level}
 use Rattle.bits.specs.declared.BitPosition.{BitPosition}
 use Rattle.rules.specs.Document.Pyramid.{area, mostPlanes}
-use Rattle.rules.specs.Document.Passes.{Event, toLip, toLsp, stays, moves, refined, Course, State, from, signed, grown, written, Reader, decoder, decoded}
+use Rattle.rules.specs.Document.Passes.{Event, toLip, toLsp, stays, moves, refined, Course, State, signed, grown, written, Reader, decoder, decoded}
 use Rattle.rules.specs.Document.Layout.{bitAt}
-use Rattle.rules.specs.Laws.Counting.Sums.{from-length}
 use Rattle.rules.specs.Laws.Family.Sizes.{levelStart, levelSize}
-use Rattle.rules.specs.Laws.Rounding.Run.{map-from}
 use Rattle.rules.specs.Promises.Vocabulary.{Legal}
 use Rattle.trees.specs.Family.{treeLevel, trees}
 use Rattle.trees.specs.Lawful.{trees-lawful}
@@ -30,7 +27,7 @@ use Rattle.trees.specs.Sound.{tree-level-area}
 use Rattle.trees.specs.Within.{QuestionOf, EventOf, Agreeing, Related, passed-related, after-related}
 use Rattle.coefficients.specs.Words.{wordOf, valueOf, value-word, value-refined}
 use Rattle.stretches.specs.Cut.{valuesIn, stretchOf, values-length}
-use Rattle.stretches.specs.Workspace.{wordIn, drawnIn, Words}
+use Rattle.stretches.specs.Workspace.{wordIn, drawnIn, Words, drawn-length, drawn-at}
 use Rattle.lists.specs.declared.Role.the-variants.{Reads}
 use Rattle.testing.specs.declared.Run.{Run}
 use Rattle.testing.specs.Exchange.{Chan, chan, localWord, drawn, noted, side}
@@ -39,8 +36,8 @@ use Rattle.parts.specs.declared.Counts.{Counts}
 use Rattle.parts.specs.declared.Passed.{Passed}
 use Rattle.parts.specs.Standing.{stateOf, courseD, ReadyToDecode, PartDecoded}
 use Rattle.parts.specs.Workspace.{runOf, courseIn, PartRun}
-use Rattle.parts.proofs.Levels.{level-place, level-some, word-in, word-here}
-use Rattle.parts.proofs.Growing.{sound-once, words-small, part-grows}
+use Rattle.stretches.specs.Levels.{level-place, level-some, word-in}
+use Rattle.parts.proofs.Growing.{sound-once, word-here, words-small, part-grows}
 
 -- The words of level k, as the code has them, and the pyramid, as the document has it, tell the same; all other levels are as in the workspace.
 pub record Drawn (z : Size) (k : ℕ) (work : List ℕ) (c : Chan) (r : Reader) : Type 0 where
@@ -50,16 +47,6 @@ pub record Drawn (z : Size) (k : ℕ) (work : List ℕ) (c : Chan) (r : Reader) 
   pub own : (x : ℕ) → treeLevel z x ≡ k → getD (r .pyramid) x (pos 0) ≡ valueOf (localWord (levelStart z k) (c .values) x)
   pub proper : (x : ℕ) → treeLevel z x ≡ k → localWord (levelStart z k) (c .values) x ≢ 1
   pub others : (x : ℕ) → x < area z → treeLevel z x ≢ k → getD (r .pyramid) x (pos 0) ≡ valueOf (wordIn z work x)
-
--- what is drawn, coefficient by coefficient
-pub drawn-length : (z : Size) (work : List ℕ) → length (drawnIn z work) ≡ area z
-unfolding drawnIn
-drawn-length z work = length-map (from 0 (area z)) (λ x. valueOf (wordIn z work x)) ∙ from-length 0 (area z)
-
-pub drawn-at : (z : Size) (work : List ℕ) (x : ℕ) → x < area z → getD (drawnIn z work) x (pos 0) ≡ valueOf (wordIn z work x)
-unfolding drawnIn
-drawn-at z work x h =
-    map-from (λ x. valueOf (wordIn z work x)) (pos 0) 0 (area z) x h ∙ ap (λ (y : ℕ). valueOf (wordIn z work y)) (zero-add x)
 
 -- a word that is set
 word-set : (first : ℕ) (vs : List ℕ) (p w : ℕ) → first ≤ p → p - first < length vs → localWord first (set vs (p - first) w) p ≡ w

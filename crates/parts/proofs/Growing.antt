@@ -1,5 +1,5 @@
 -- How large a word can grow in a part: each coefficient is found or refined at most once in it.
-use mathlib.Core.Path.{_≡_, sym, ap}
+use mathlib.Core.Path.{_≡_, sym, ap, _∙_}
 use mathlib.Core.List.{List, [], _∷_}
 use mathlib.Core.Bool.{Bool}
 use Prim.Native.Nat.{ℕ, _+_, _-_, _*_, _≤_, _<_, _^_}
@@ -21,14 +21,14 @@ use Rattle.rules.specs.Laws.Pass.Lists.{setWeight, listsWeight}
 use Rattle.rules.specs.Laws.Pass.Steps.{signNoted, bitNoted, begun}
 use Rattle.rules.specs.Laws.State.Weight.{weight-part}
 use Rattle.rules.specs.Promises.Vocabulary.{Legal}
-use Rattle.trees.specs.Family.{trees}
+use Rattle.trees.specs.Family.{trees, treeLevel}
 use Rattle.trees.specs.Sound.{TreeSound, tree-level-area}
-use Rattle.stretches.specs.Cut.{valuesIn, stretchOf, values-length}
-use Rattle.stretches.specs.Workspace.{Words}
+use Rattle.stretches.specs.Cut.{valuesIn, stretchOf, values-length, values-at}
+use Rattle.stretches.specs.Workspace.{wordIn, Words}
+use Rattle.stretches.specs.Levels.{place-level, level-place, word-in}
 use Rattle.testing.specs.declared.Run.{Run}
 use Rattle.testing.specs.Exchange.{chan, localWord, noted, side, quiet-toLip, quiet-stays, quiet-moves}
 use Rattle.testing.specs.Growing.{word-local, refined-most, found-most}
-use Rattle.parts.proofs.Levels.{place-level, word-here}
 
 -- In sound lists each coefficient is in one place.
 pub sound-once : (z : Size) (s : State) → TreeSound z s → (k : ℕ) → k ≤ levels z → (q : ℕ)
@@ -37,7 +37,14 @@ unfolding listsWeight
 sound-once z s h k l q =
     omega (arith, weight-part (trees z) (is q) s k (levels z) l, h .conserved (is q), from-once q (area z), one-most (ltb q (area z)))
 
--- Words of a level are small where those of all levels are.
+-- A word among the values of its level; words of a level are small where those of all levels are.
+pub word-here : (z : Size) (Z : Legal z) (work : List ℕ) (k x : ℕ) → treeLevel z x ≡ k → 1 ≤ k
+    → localWord (levelStart z k) (valuesIn (levelSize z k) (stretchOf z k work)) x ≡ wordIn z work x
+word-here z Z work k x e a =
+    let p = level-place z Z k x e a in
+    word-local (levelStart z k) (valuesIn (levelSize z k) (stretchOf z k work)) x (p .1)
+    ∙ values-at (levelSize z k) (stretchOf z k work) (x - levelStart z k) (omega (arith, p .1, p .2)) ∙ sym (word-in z Z work k x e a)
+
 pub words-small : (z : Size) → Legal z → (k b : ℕ) → 1 ≤ k → k ≤ levels z → (work : List ℕ) → 4 * levelSize z k ≤ length (stretchOf z k work)
     → Words z b work → (q : ℕ) → localWord (levelStart z k) (valuesIn (levelSize z k) (stretchOf z k work)) q < b
 unfolding localWord

@@ -20,6 +20,7 @@ use Rattle.rules.specs.Laws.State.Weight.{after-own, after-next, after-other}
 use Rattle.rules.specs.Promises.Vocabulary.{Legal}
 use Rattle.stretches.specs.Seg.{seg, seg-same, seg-seg}
 use Rattle.stretches.specs.Cut.{setRoom, lipFrom, lisFrom, maximaFrom, valuesIn, maximaIn, stretchOf, maxima-at}
+use Rattle.stretches.specs.Levels.{stretch-room, next-start, level-before, stretch-at, stretch-length}
 use Rattle.lists.specs.Lists.{Marked, lipAt, entry, sets, sets-few, moved-length, held-ends, held-moved}
 use Rattle.lists.specs.Besides.{marked-lent, marks-kept}
 use Rattle.lists.specs.declared.Role.{Role}
@@ -30,8 +31,7 @@ use Rattle.testing.specs.Finding.{course}
 use Rattle.parts.specs.declared.Counts.{Counts}
 use Rattle.parts.specs.declared.Passed.{Passed}
 use Rattle.parts.specs.Standing.{countAt, Places, fillOf, withLists, listsAt, stateOf, Ready, stretchBy, Marks}
-use Rattle.parts.specs.Workspace.{lentTo, lentOf, stretchFor, withMoved, Lent, runOf, courseIn, PartRun}
-use Rattle.parts.proofs.Levels.{size-place, next-start, level-before, stretch-at, stretch-length}
+use Rattle.parts.specs.Workspace.{lentTo, lentOf, withMoved, Lent, runOf, courseIn, PartRun}
 use Rattle.parts.proofs.Workspace.{lent-next, Untouched, untouched}
 use Rattle.parts.proofs.States.{state-in, state-out, state-same, lists-agree, lists-more, counts-own, counts-other, counts-next}
 use Rattle.parts.proofs.Parts.{level-fits, away-next, lent-own, lent-lip, values-lent, lists-lent, pass-is, moved-none, moved-some}
@@ -288,7 +288,7 @@ module _ (role : Role) {z : Size} {plane : Plane} {level : Level} {work : List �
   more-fits = by (decLe 2 k)
     where
       small : (j : ℕ) → 1 ≤ j → j ≤ levels z → levelSize z j < 2 ^ 32
-      small j u v = omega (arith, size-place z L j u v, area-bound z (D .legal))
+      small j u v = omega (arith, stretch-room z L j u v, area-bound z (D .legal))
 
       by : Dec (2 ≤ k) → countAt (withLists counts k (r .fill) .lis) (k - 1) + r .fill .moved < 2 ^ 32
       by (yes h) =

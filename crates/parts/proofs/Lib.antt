@@ -1,4 +1,3 @@
-pub mod Levels
 pub mod Workspace
 pub mod States
 pub mod Nodes

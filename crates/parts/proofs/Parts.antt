@@ -26,6 +26,7 @@ use Rattle.trees.specs.Lawful.{trees-lawful}
 use Rattle.trees.specs.Sound.{tree-part-room, tree-moved-room}
 use Rattle.stretches.specs.Seg.{seg-at}
 use Rattle.stretches.specs.Cut.{setRoom, lipFrom, lisFrom, maximaFrom, valuesIn, maximaIn, stretchOf}
+use Rattle.stretches.specs.Levels.{size-some, stretch-room, next-start, stretch-length}
 use Rattle.stretches.specs.Workspace.{Words}
 use Rattle.lists.specs.declared.Stretch.{Stretch}
 use Rattle.lists.specs.declared.Fill.{Fill}
@@ -41,8 +42,7 @@ use Rattle.testing.specs.Growing.{Growth}
 use Rattle.passes.specs.Steps.{hasMember, Queued, Fresh, listsOf, passOf}
 use Rattle.parts.specs.declared.Counts.{Counts}
 use Rattle.parts.specs.Standing.{countAt, fillOf, listsAt, stateOf, Ready, stretchBy, Marks}
-use Rattle.parts.specs.Workspace.{lentTo, lentOf, awayFor, stretchFor, Lending, runOf, courseIn}
-use Rattle.parts.proofs.Levels.{size-some, size-place, next-start, stretch-length}
+use Rattle.parts.specs.Workspace.{lentTo, lentOf, awayFor, Lending, runOf, courseIn}
 use Rattle.parts.proofs.Nodes.{top-none}
 use Rattle.parts.proofs.Workspace.{lent-next, lent-fits, lent-inside, lent-length}
 use Rattle.parts.proofs.States.{state-in, lists-agree}
@@ -290,7 +290,7 @@ module _ (role : Role) {z : Size} {plane : Plane} {level : Level} {work : List �
                 plane = D .plane;
                 coarser = a;
                 level = b;
-                size = omega (arith, size-place z L k a b, area-bound z (D .legal));
+                size = omega (arith, stretch-room z L k a b, area-bound z (D .legal));
                 count = refl;
                 first = refl;
                 parents = refl;

@@ -29,14 +29,14 @@ use Rattle.parts.specs.declared.Passed.{Passed}
 use Rattle.testing.specs.Exchange.{Silent}
 use Rattle.parts.specs.Standing.{countAt, Places, fillOf, withLists, Ready, ReadyToCode, PartCoded, ReadyToDecode, Quiet, PartDecoded}
 use Rattle.parts.specs.Workspace.{awayFor, stretchFor, withMoved, Counting, Cutting, Lending, Lent, runOf, Running, PartRun}
-use Rattle.parts.proofs.Levels.{size-place, stretch-length}
+use Rattle.stretches.specs.Levels.{stretch-room, stretch-length}
 use Rattle.parts.proofs.Parts.{level-fits, part-lending}
 use Rattle.parts.proofs.Left.{part-run, more-fits}
 use Rattle.parts.proofs.Coding.{coded-part}
 use Rattle.parts.proofs.Decoding.{decoded-part}
 
 size-under : (z : Size) (k : ℕ) → legalSize z ≡ true → 1 ≤ k → k ≤ levels z → levelSize z k < 2 ^ 31
-size-under z k e a b = omega (arith, size-place z (legal z e) k a b, area-bound z e)
+size-under z k e a b = omega (arith, stretch-room z (legal z e) k a b, area-bound z e)
 
 -- how many coefficients a level has, and the next
 module _ {z : Size} {k : Level} {counts : Counts} (C : Cutting z k counts) where
@@ -124,7 +124,7 @@ module _ {z : Size} {plane : Plane} {level : Level} {work : List ℕ} {counts : 
           omega (arith, ap (λ (i : ℕ). getD (counts .lis) i 0) same, few (level .0) (D .coarser) (D .level))
 
   part-place : (at : ℕ) → at + mostBits z < 2 ^ 61 → at + 4 * levelSize z (level .0) < 2 ^ 62
-  part-place at h = omega (arith, h, size-place z (legal z (D .legal)) (level .0) (D .coarser) (D .level))
+  part-place at h = omega (arith, h, stretch-room z (legal z (D .legal)) (level .0) (D .coarser) (D .level))
 
 module _ {z : Size} {plane : Plane} {level : Level} {work : List ℕ} {counts : Counts} {run : Run} {body out : List ℕ} where
   pub coding-runs : {at : BitPosition} → ReadyToCode z plane level work counts at → run ≡ runOf Codes z plane level counts at at

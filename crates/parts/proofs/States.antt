@@ -105,26 +105,18 @@ module _ (counts : Counts) (six : Places counts) (k : ℕ) (a : 1 ≤ k) (b : k 
   other-set : (cs : List ℕ) (x j : ℕ) → 1 ≤ j → j ≢ k → countAt (set cs (k - 1) x) j ≡ countAt cs j
   other-set cs x j c e = getD-set-other cs (k - 1) (j - 1) x 0 (λ i. e (omega arith))
 
-  pub counts-lip : (j : ℕ) → countAt (left .lip) j ≡ countAt (set (counts .lip) (k - 1) (f .lip)) j
+  -- of LIP and LSP
+  lists-left : (left .lip ≡ set (counts .lip) (k - 1) (f .lip)) × (left .lsp ≡ set (counts .lsp) (k - 1) (f .lsp))
   unfolding withMoved
-  counts-lip j = by (leb 2 k)
+  lists-left = by (leb 2 k)
     where
-      by : (x : Bool) → countAt (cond {A = Counts} x (withSets (withLists counts k f) (k - 1) (f .moved)) (withLists counts k f) .lip) j
-          ≡ countAt (set (counts .lip) (k - 1) (f .lip)) j
-      by true = refl
-      by false = refl
-
-  pub counts-lsp : (j : ℕ) → countAt (left .lsp) j ≡ countAt (set (counts .lsp) (k - 1) (f .lsp)) j
-  unfolding withMoved
-  counts-lsp j = by (leb 2 k)
-    where
-      by : (x : Bool) → countAt (cond {A = Counts} x (withSets (withLists counts k f) (k - 1) (f .moved)) (withLists counts k f) .lsp) j
-          ≡ countAt (set (counts .lsp) (k - 1) (f .lsp)) j
-      by true = refl
-      by false = refl
+      by : (x : Bool) → let c : Counts = cond {A = Counts} x (withSets (withLists counts k f) (k - 1) (f .moved)) (withLists counts k f) in
+          (c .lip ≡ set (counts .lip) (k - 1) (f .lip)) × (c .lsp ≡ set (counts .lsp) (k - 1) (f .lsp))
+      by true = (refl, refl)
+      by false = (refl, refl)
 
   -- of LIS: of the level, of the next, and of another
-  pub counts-lis : (j : ℕ) → 1 ≤ j → suc j ≢ k → countAt (left .lis) j ≡ countAt (set (counts .lis) (k - 1) (f .kept)) j
+  counts-lis : (j : ℕ) → 1 ≤ j → suc j ≢ k → countAt (left .lis) j ≡ countAt (set (counts .lis) (k - 1) (f .kept)) j
   unfolding withMoved
   counts-lis j c d = by (decLe 2 k)
     where
@@ -135,18 +127,18 @@ module _ (counts : Counts) (six : Places counts) (k : ℕ) (a : 1 ≤ k) (b : k 
 
   pub counts-own : (countAt (left .lip) k ≡ f .lip) × (countAt (left .lis) k ≡ f .kept) × (countAt (left .lsp) k ≡ f .lsp)
   counts-own = (
-    counts-lip k ∙ getD-set-same (counts .lip) (k - 1) (f .lip) 0 (omega (arith, six .lip)),
+    ap (λ cs. countAt cs k) (lists-left .0) ∙ getD-set-same (counts .lip) (k - 1) (f .lip) 0 (omega (arith, six .lip)),
     counts-lis k a (λ e. omega arith) ∙ getD-set-same (counts .lis) (k - 1) (f .kept) 0 (omega (arith, six .lis)),
-    counts-lsp k ∙ getD-set-same (counts .lsp) (k - 1) (f .lsp) 0 (omega (arith, six .lsp)),
+    ap (λ cs. countAt cs k) (lists-left .1) ∙ getD-set-same (counts .lsp) (k - 1) (f .lsp) 0 (omega (arith, six .lsp)),
   )
 
   pub counts-other : (j : ℕ) → 1 ≤ j → j ≢ k
       → (countAt (left .lip) j ≡ countAt (counts .lip) j) × (suc j ≢ k → countAt (left .lis) j ≡ countAt (counts .lis) j)
       × (countAt (left .lsp) j ≡ countAt (counts .lsp) j)
   counts-other j c d = (
-    counts-lip j ∙ other-set (counts .lip) (f .lip) j c d,
+    ap (λ cs. countAt cs j) (lists-left .0) ∙ other-set (counts .lip) (f .lip) j c d,
     (λ e. counts-lis j c e ∙ other-set (counts .lis) (f .kept) j c d),
-    counts-lsp j ∙ other-set (counts .lsp) (f .lsp) j c d,
+    ap (λ cs. countAt cs j) (lists-left .1) ∙ other-set (counts .lsp) (f .lsp) j c d,
   )
 
   pub counts-next : 2 ≤ k → countAt (left .lis) (k - 1) ≡ countAt (counts .lis) (k - 1) + f .moved

@@ -1,14 +1,13 @@
 -- What is lent to the pass of a level, its own stretch and the next level's: where it lies, and what the pass leaves of the workspace.
 use mathlib.Core.Path.{_≡_, sym, ap, ap₂, _∙_, subst}
-use mathlib.Core.List.{List, _++_}
+use mathlib.Core.List.{List}
 use mathlib.Core.Bool.{true, false}
 use Prim.Native.Nat.{ℕ, _+_, _-_, _*_, _≤_, _<_}
 use native.Mathlib.Omega.{arith}
 use native.Mathlib.Decide.{decLe, decLt}
 use lib.ListN.{length, getD, take, drop}
-use lib.Seq.{take-at, drop-at, length-take-le, getD-take, getD-drop}
 use borrow.Author.Tests.{le-leb, lt-leb}
-use borrow.Rule.Slice.PartMut.{midOf, postOf, putMid, same-len-mid, mid-len, take-put, drop-put}
+use borrow.Rule.Slice.PartMut.{midOf, putMid, same-len-mid, mid-len}
 use Rattle.rules.specs.declared.Size.{Size}
 use Rattle.rules.specs.Document.Pyramid.{legalSize, levels}
 use Rattle.rules.specs.Document.Calls.{workFor}
@@ -16,12 +15,12 @@ use Rattle.rules.specs.Laws.Family.Sizes.{legal, levelStart, levelSize}
 use Rattle.rules.specs.Promises.Vocabulary.{Legal}
 use Rattle.stretches.specs.Seg.{seg, seg-at, seg-seg, seg-length}
 use Rattle.stretches.specs.Cut.{maximaFrom, stretchOf}
+use Rattle.stretches.specs.Levels.{stretch-room, next-start, put-own, put-before, put-behind}
 use Rattle.testing.specs.declared.Run.{Run}
 use Rattle.testing.specs.declared.Stand.{Stand}
 use Rattle.testing.specs.Exchange.{reads}
 use Rattle.passes.specs.Steps.{Fresh, Ran}
 use Rattle.parts.specs.Workspace.{lentTo, lentOf, Lending, Lent}
-use Rattle.parts.proofs.Levels.{size-place, next-start}
 
 -- where it ends
 module _ (z : Size) (k : ℕ) where
@@ -40,9 +39,9 @@ module _ (z : Size) (Z : Legal z) (k : ℕ) (a : 1 ≤ k) (b : k ≤ levels z) w
       by : Dec (2 ≤ k) → (4 * levelStart z k + 4 * levelSize z k ≤ lentTo z k) × (lentTo z k ≤ workFor z)
       by (yes h) = (
         omega (arith, lent-next z k h, next-start z Z k h b),
-        omega (arith, lent-next z k h, size-place z Z (k - 1) (omega arith) (omega arith)),
+        omega (arith, lent-next z k h, stretch-room z Z (k - 1) (omega arith) (omega arith)),
       )
-      by (no h) = (omega (arith, lent-first z k (omega arith)), omega (arith, lent-first z k (omega arith), size-place z Z k a b))
+      by (no h) = (omega (arith, lent-first z k (omega arith)), omega (arith, lent-first z k (omega arith), stretch-room z Z k a b))
 
   -- the level's own stretch in it, number by number and run by run
   pub lent-inside : (work : List ℕ) (c m : ℕ) → c + m ≤ 4 * levelSize z k → seg c m (lentOf z k work) ≡ seg c m (stretchOf z k work)
@@ -62,23 +61,6 @@ module _ (z : Size) (Z : Legal z) (k : ℕ) (a : 1 ≤ k) (b : k ≤ levels z) w
   pub lent-same : (work work′ : List ℕ) (p : ℕ) → 4 * levelStart z k ≤ p → p < lentTo z k
       → getD (lentOf z k work′) (p - 4 * levelStart z k) 0 ≡ getD (lentOf z k work) (p - 4 * levelStart z k) 0 → getD work′ p 0 ≡ getD work p 0
   lent-same work work′ p h l e = sym (lent-at work′ p h l) ∙ e ∙ lent-at work p h l
-
--- the middle of a slice, put back
-put-own : (a e : ℕ) (s ys : List ℕ) → a ≤ length s → length ys ≡ e - a → seg a (e - a) (putMid a (e - a) s ys) ≡ ys
-unfolding seg
-put-own a e s ys l n =
-    ap (take (e - a)) (drop-at (take a s) (ys ++ postOf a (e - a) s) a (length-take-le a s l)) ∙ take-at ys (postOf a (e - a) s) (e - a) n
-
-put-before : (a m : ℕ) (s ys : List ℕ) (i : ℕ) → a ≤ length s → i < a → getD (putMid a m s ys) i 0 ≡ getD s i 0
-put-before a m s ys i l h =
-    sym (getD-take a (putMid a m s ys) i 0 h) ∙ ap (λ x. getD x i 0) (take-put a m s ys l) ∙ getD-take a s i 0 h
-
-pub put-behind : (a e : ℕ) (s ys : List ℕ) (i : ℕ) → a ≤ e → e ≤ length s → length ys ≡ e - a → e ≤ i → getD (putMid a (e - a) s ys) i 0 ≡ getD s i 0
-put-behind a e s ys i l g n h =
-    let j : i ≡ e + (i - e) = omega arith in
-    ap (λ (x : ℕ). getD (putMid a (e - a) s ys) x 0) j
-    ∙ sym (getD-drop e (putMid a (e - a) s ys) (i - e) 0) ∙ ap (λ x. getD x (i - e) 0) (drop-put a e s ys l g n) ∙ getD-drop e s (i - e) 0
-    ∙ ap (λ (x : ℕ). getD s x 0) (sym j)
 
 -- a pass in what is lent
 module _ (run : Run) {body work out : List ℕ} {w : Stand} (H : Lending run body work out w) {from to : ℕ}

@@ -13,10 +13,10 @@ use Rattle.rules.specs.declared.Size.{Size}
 use Rattle.rules.specs.Document.Pyramid.{legalSize, area, odd, index, row, column, levels, levelOf}
 use Rattle.rules.specs.Promises.Vocabulary.{Legal}
 use Rattle.rules.specs.Laws.Family.Sizes.{span, legal}
-use Rattle.rules.specs.Laws.Offspring.Level.{level-most, within-over, level-area}
+use Rattle.rules.specs.Laws.Offspring.Level.{level-area}
 use Rattle.rules.specs.Laws.Offspring.Block.{apart, row-index, column-index, halfRows, halfColumns}
 use Rattle.rules.specs.Laws.Offspring.Kin.{rows-2, columns-2}
-use Rattle.trees.specs.Places.{treeAt, rootOfBand, rasterOf, bandWidth}
+use Rattle.trees.specs.Places.{treeAt, rootOfBand, rasterOf, bandWidth, in-band}
 use Rattle.trees.specs.Family.{coefficientOf}
 use Rattle.trees.specs.Run.{numberOf, bandNumber, number-band, number-area, coefficient-number}
 use Rattle.placing.specs.Stores.{Apart}
@@ -37,11 +37,7 @@ module _ (z : Size) (Z : Legal z) (i j : ℕ) (h : i < z .h / 2 ^ z .n) (l : j <
   at-column = column-index z i j column-fits
 
   pub index-level : levelOf z (index z i j) ≡ levels z
-  index-level = omega (
-    arith,
-    level-most z (index z i j),
-    within-over z (z .n) (index z i j) (omega arith) (omega (arith, at-row), omega (arith, at-column)),
-  )
+  index-level = in-band z (index z i j) (omega (arith, at-row)) (omega (arith, at-column))
 
   pub index-area : index z i j < area z
   index-area = level-area z Z (index z i j) (omega (arith, index-level))

@@ -24,7 +24,7 @@ use Rattle.placing.specs.Placing.{Roomy, Given, BlocksOf, LevelPlaced, L
 use Rattle.placing.proofs.Stores.{put-none, band-stored}
 use Rattle.placing.proofs.Blocks.{put-count, cornerIn}
 use Rattle.placing.proofs.Grid.{raster-root}
-use Rattle.placing.proofs.Levels.{level-placed, blocks-under, next-size, words-copied, values-laid, corners-in, places-under, level-apart, band-apart}
+use Rattle.placing.proofs.Levels.{level-placed, blocks-under, blocks-next, words-copied, values-laid, corners-in, places-under, level-apart, band-apart}
 use Rattle.placing.proofs.Levels.{band-laid, band-copied}
 use Rattle.placing.proofs.Band.{across, down, across-half, down-half, raster-row, numbers-apart, row-apart, number-under}
 use Rattle.placing.proofs.Band.{wide, least, all, rows, columns}
@@ -86,7 +86,7 @@ module _ {z : Size} {k : ℕ} {work : List ℕ} (p : Coarser z k work) {n from t
           blocks-begin z Z k (p .1) (omega (arith, p .2)),
           level-before z Z (suc k) k (p .1) (omega arith) (omega (arith, p .2)),
         ),
-        omega (arith, next-size z Z k (p .1) (p .2), blocks-room z Z k (p .1) (omega (arith, p .2)), p .0 .room, t .0),
+        omega (arith, blocks-next z Z k (p .1) (p .2), blocks-room z Z k (p .1) (omega (arith, p .2)), p .0 .room, t .0),
         subst (λ (x : ℕ). Under (2 ^ 20) (n / 4) work x) (sym g)
             (under-larger (places-under z Z (suc k) (omega arith) (p .2) blocks q) (omega arith)),
         omega (arith, wide z (p .0 .legal)),

@@ -2,25 +2,18 @@
 use mathlib.Core.Path.{_≡_, sym, ap, ap₂, _∙_}
 use Prim.Native.Nat.{ℕ, suc, _+_, _-_, _*_, _/_, _%_, _≤_, _<_}
 use native.Mathlib.Omega.{arith}
-use borrow.Author.Tests.{le-leb}
 use Rattle.rules.specs.declared.Size.{Size}
-use Rattle.rules.specs.Document.Pyramid.{index, levels}
+use Rattle.rules.specs.Document.Pyramid.{index}
 use Rattle.rules.specs.Laws.Offspring.Block.{halfRows, halfColumns}
-use Rattle.trees.specs.Places.{treeRow, treeColumn, rasterOf}
+use Rattle.trees.specs.Places.{treeRow, treeColumn, rasterOf, tree-four, raster-fine}
 use Rattle.placing.specs.Stores.{cornerOf, rankOf}
 
 module _ (z : Size) where
-  raster-fine : (k d t : ℕ) → k ≤ z .n → levels z - k ≡ d → rasterOf z k t ≡ index z (treeRow z d t) (treeColumn z d t)
-  unfolding rasterOf
-  raster-fine k d t h e = rw (le-leb k (z .n) h, e)
-
   raster-four : (k t f : ℕ) → k ≤ z .n → f < 4
       → rasterOf z k (4 * t + f) ≡ index z (2 * treeRow z (z .n - k) t + f / 2) (2 * treeColumn z (z .n - k) t + f % 2)
-  unfolding treeRow treeColumn
   raster-four k t f h l =
-      let e : (4 * t + f) / 4 ≡ t = omega arith in
-      let g : (4 * t + f) % 4 ≡ f = omega arith in
-      raster-fine k (suc (z .n - k)) (4 * t + f) h (omega arith) ∙ rw (e, g)
+      let four = tree-four z (z .n - k) t f l in
+      raster-fine z k (suc (z .n - k)) (4 * t + f) h (omega arith) ∙ ap₂ (index z) (four .0) (four .1)
 
   raster-first : (k t : ℕ) → k ≤ z .n → rasterOf z k (4 * t) ≡ index z (2 * treeRow z (z .n - k) t) (2 * treeColumn z (z .n - k) t)
   raster-first k t h =
@@ -46,7 +39,7 @@ module _ (z : Size) where
   raster-under k t h =
       raster-first k t (omega arith)
       ∙ twice (treeRow z (z .n - k) t) (treeColumn z (z .n - k) t) (z .w)
-      ∙ ap (λ (p : ℕ). 2 * p) (sym (raster-fine (suc k) (z .n - k) t h (omega arith)))
+      ∙ ap (λ (p : ℕ). 2 * p) (sym (raster-fine z (suc k) (z .n - k) t h (omega arith)))
 
   ranked : (m i j a e w : ℕ) → 2 * ((m + 1) / 2 * e + i) * w + 2 * ((m + 1) % 2 * a + j)
       ≡ 2 * i * w + 2 * j + (m + 1) % 2 * (2 * a) + (m + 1) / 2 * (2 * e * w)

@@ -4,13 +4,13 @@ use mathlib.Core.Logic.{_≢_}
 use mathlib.Core.List.{List}
 use Prim.Native.Nat.{ℕ, zero, suc, _+_, _-_, _*_, _/_, _%_, _≤_, _<_}
 use native.Mathlib.Omega.{arith}
-use native.Mathlib.Decide.{decLt}
+use native.Mathlib.Decide.{decLt, ℕ-discrete}
 use lib.ListN.{getD}
 use lib.IntN.{ℤ, pos}
 use Rattle.rules.specs.declared.Size.{Size}
 use Rattle.rules.specs.Document.Pyramid.{area, levels, levelOf}
 use Rattle.rules.specs.Promises.Vocabulary.{Legal}
-use Rattle.rules.specs.Laws.Family.Sizes.{levelStart, levelSize, levelStart-fine, levelStart-top, levelSize-fine, span-quarter}
+use Rattle.rules.specs.Laws.Family.Sizes.{levelStart, levelSize, levelStart-fine, levelStart-top}
 use Rattle.rules.specs.Laws.Offspring.Level.{level-area}
 use Rattle.trees.specs.Places.{rasterOf, treeOf, raster-level, raster-one, band-level-tree, raster-tree, tree-raster}
 use Rattle.trees.specs.Family.{treeLevel, coefficientOf, coefficient-fine, level-same}
@@ -18,7 +18,8 @@ use Rattle.trees.specs.Run.{numberOf, number-fine, number-coefficient, coeffici
 use Rattle.coefficients.specs.Words.{worded, valueOf}
 use Rattle.stretches.specs.Cut.{maximaFrom}
 use Rattle.stretches.specs.Workspace.{wordIn}
-use Rattle.stretches.specs.Levels.{wordsFrom, blocksFrom, level-before, level-blocks, Numbered, numbered, word-place, word-numbered, maximum-place}
+use Rattle.stretches.specs.Levels.{wordsFrom, blocksFrom, level-before, level-blocks, Numbered, numbered, word-level, word-place, word-numbered}
+use Rattle.stretches.specs.Levels.{next-size, maximum-place}
 use Rattle.placing.specs.Stores.{Put, Apart, Under, cornerOf}
 use Rattle.placing.specs.Placing.{BlocksOf, LevelPlaced, LevelCopied, LevelLaid}
 use Rattle.placing.proofs.Grid.{raster-corner, raster-under}
@@ -52,7 +53,7 @@ module _ (z : Size) (Z : Legal z) where
 
   word-block : (k x p : ℕ) → 1 ≤ k → k ≤ levels z → x < area z → Among (blocksFrom z k) (levelSize z k / 4) p → wordPlace x ≢ p
   unfolding blocksFrom maximaFrom
-  word-block k x p a b h i e = go (decLt (treeLevel z x) k) (decLt k (treeLevel z x))
+  word-block k x p a b h i e = go (ℕ-discrete (treeLevel z x) k)
     where
       N : Numbered z Z x
       N = numbered z Z x h
@@ -60,11 +61,9 @@ module _ (z : Size) (Z : Legal z) where
       own : In k p
       own = (omega (arith, i .0), omega (arith, i .1))
 
-      go : Dec (treeLevel z x < k) → Dec (k < treeLevel z x) → ⊥
-      go (yes l) r = stretches-apart (treeLevel z x) k (wordPlace x) p (N .some) (N .most) a b (λ g. omega arith) (word-in x h) own e
-      go (no l) (yes r) = stretches-apart (treeLevel z x) k (wordPlace x) p (N .some) (N .most) a b (λ g. omega arith) (word-in x h) own e
-      go (no l) (no r) =
-          let g : treeLevel z x ≡ k = omega arith in
+      go : Dec (treeLevel z x ≡ k) → ⊥
+      go (no d) = stretches-apart (treeLevel z x) k (wordPlace x) p (N .some) (N .most) a b d (word-in x h) own e
+      go (yes g) =
           let s : levelStart z (treeLevel z x) ≡ levelStart z k = ap (levelStart z) g in
           let n : levelSize z (treeLevel z x) ≡ levelSize z k = ap (levelSize z) g in
           omega (arith, i .0, N .under)
@@ -72,16 +71,11 @@ module _ (z : Size) (Z : Legal z) where
   block-word : (j k c p : ℕ) → 1 ≤ j → j ≤ levels z → 1 ≤ k → k ≤ levels z → c < levelSize z j / 4 → Among (wordsFrom z k) (levelSize z k) p
       → blocksFrom z j + c ≢ p
   unfolding blocksFrom maximaFrom
-  block-word j k c p l m a b h i e = go (decLt j k) (decLt k j)
+  block-word j k c p l m a b h i e = go (ℕ-discrete j k)
     where
-      own : In k p
-      own = (i .0, omega (arith, i .1))
-
-      go : Dec (j < k) → Dec (k < j) → ⊥
-      go (yes g) r = stretches-apart j k (blocksFrom z j + c) p l m a b (λ x. omega arith) (block-in j c h) own e
-      go (no g) (yes r) = stretches-apart j k (blocksFrom z j + c) p l m a b (λ x. omega arith) (block-in j c h) own e
-      go (no g) (no r) =
-          let s : j ≡ k = omega arith in
+      go : Dec (j ≡ k) → ⊥
+      go (no d) = stretches-apart j k (blocksFrom z j + c) p l m a b d (block-in j c h) (i .0, omega (arith, i .1)) e
+      go (yes s) =
           let u : levelStart z j ≡ levelStart z k = ap (levelStart z) s in
           let n : levelSize z j ≡ levelSize z k = ap (levelSize z) s in
           omega (arith, i .1)
@@ -125,21 +119,16 @@ module _ (z : Size) (Z : Legal z) where
         ∙ sym (raster-corner z k (t / 4) (t % 4) b (omega arith))
         ∙ ap (rasterOf z k) (omega arith)
 
-  pub next-size : (k : ℕ) → 1 ≤ k → k < z .n → levelSize z k / 4 ≡ 4 * (levelSize z (suc k) / 4)
-  next-size k a b =
-      omega (
-        arith,
-        level-blocks z Z (suc k) (omega arith) (omega arith),
-        levelSize-fine z Z k a (omega arith),
-        levelSize-fine z Z (suc k) (omega arith) b,
-        span-quarter z Z k (omega arith),
-      )
+  pub blocks-next : (k : ℕ) → 1 ≤ k → k < z .n → levelSize z k / 4 ≡ 4 * (levelSize z (suc k) / 4)
+  blocks-next k a b =
+      let e : levelSize z k ≡ 4 * levelSize z (suc k) = ap (levelSize z) (omega arith) ∙ next-size z Z (suc k) (omega arith) b in
+      omega (arith, level-blocks z Z (suc k) (omega arith) (omega arith))
 
   pub blocks-under : (k : ℕ) (a : 1 ≤ k) (b : k < z .n) {work work′ : List ℕ} {n : ℕ} → BlocksOf z (suc k) work → n ≡ levelSize z (suc k) / 4
       → Put 0 (λ t. blocksFrom z k + t) (4 * n) (λ t. 2 * cornerOf (z .w) (getD work (blocksFrom z (suc k) + t / 4) 0) (t % 4)) work work′
       → LevelPlaced z k work work′
   blocks-under k a b {work} {work′} {n} B e H =
-      level-placed k a (omega arith) H (omega (arith, next-size k a b))
+      level-placed k a (omega arith) H (omega (arith, blocks-next k a b))
       (λ t h.
       ap (λ (p : ℕ). 2 * p) (corner-place (suc k) (omega arith) b B t (omega (arith, level-blocks z Z (suc k) (omega arith) (omega arith))))
       ∙ sym (raster-under z k t b))
@@ -148,12 +137,12 @@ module _ (z : Size) (Z : Legal z) where
   module _ (k : ℕ) (a : 1 ≤ k) (b : k ≤ levels z) where
     pub level-copied : {P : ℕ → ℕ} {n : ℕ} {v : ℕ → ℕ} {work work′ : List ℕ} {pyramid : List ℤ} → Put 0 P n v work work′
         → ((t : ℕ) → t < n → Among (wordsFrom z k) (levelSize z k) (P t))
-        → ((x : ℕ) → x < area z → treeLevel z x ≡ k → getD work′ (wordPlace x) 0 ≡ worded (getD pyramid (coefficientOf z x) (pos 0)))
+        → ((x : ℕ) → x < area z → treeLevel z x ≡ k → wordIn z work′ x ≡ worded (getD pyramid (coefficientOf z x) (pos 0)))
         → LevelCopied pyramid z k work work′
     level-copied {P} {n} {v} {work} {work′} H i w =
         record {
           same = H .same;
-          own = λ x h e. word-numbered z Z work′ x h ∙ w x h e;
+          own = w;
           others =
               λ x h e.
               let N : Numbered z Z x = numbered z Z x h in
@@ -190,11 +179,11 @@ module _ (z : Size) (Z : Legal z) where
       whole : 4 * n ≡ levelSize z (suc k)
       whole = omega (arith, level-blocks z Z (suc k) a (omega arith))
 
-      own : (x : ℕ) → x < area z → treeLevel z x ≡ suc k → getD work′ (wordPlace x) 0 ≡ worded (getD pyramid (coefficientOf z x) (pos 0))
+      own : (x : ℕ) → x < area z → treeLevel z x ≡ suc k → wordIn z work′ x ≡ worded (getD pyramid (coefficientOf z x) (pos 0))
       own x h i =
           let t : ℕ = x - levelStart z (suc k) in
           let u : t < levelSize z (suc k) = rw i at (numbered z Z x h .under) in
-          ap (λ (j : ℕ). getD work′ (wordsFrom z j + (x - levelStart z j)) 0) i
+          word-level z Z work′ (suc k) x i a
           ∙ H .put t (omega (arith, whole))
           ∙ ap (λ (q : ℕ). worded (getD pyramid q (pos 0)))
           (corner-place (suc k) a b B t u ∙ ap (λ (y : ℕ). rasterOf z (suc k) (x - y)) (levelStart-fine z (suc k) b) ∙ sym (coefficient-fine z k x b i))
@@ -328,7 +317,7 @@ module _ (z : Size) (Z : Legal z) where
       A : Apart (rasterOf z (levels z)) (levelSize z (levels z)) (area z)
       A = level-apart (levels z) (omega arith) (omega arith)
 
-      own : (x : ℕ) → x < area z → treeLevel z x ≡ levels z → getD work′ (wordPlace x) 0 ≡ worded (getD pyramid (coefficientOf z x) (pos 0))
+      own : (x : ℕ) → x < area z → treeLevel z x ≡ levels z → wordIn z work′ x ≡ worded (getD pyramid (coefficientOf z x) (pos 0))
       own x h i =
           let q : ℕ = coefficientOf z x in
           let v : levelOf z q ≡ levels z = level-same z Z x ∙ i in
@@ -336,7 +325,7 @@ module _ (z : Size) (Z : Legal z) where
           let l : treeOf z q < n = omega (arith, rw v at (r .0)) in
           let g : rasterOf z (levels z) (treeOf z q) ≡ q = rw v at (r .1) in
           let s = levelStart-top z in
-          ap (λ (j : ℕ). getD work′ (wordsFrom z j + (x - levelStart z j)) 0) i
+          word-level z Z work′ (levels z) x i (omega arith)
           ∙ ap (λ (p : ℕ). getD work′ p 0) (omega (arith, ap (numberOf z) g ∙ number-coefficient z Z x h))
           ∙ H .put (treeOf z q) l
           ∙ ap (λ (y : ℕ). worded (getD pyramid y (pos 0))) g

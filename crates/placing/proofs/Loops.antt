@@ -14,14 +14,12 @@ use Rattle.rules.specs.Document.Calls.{workFor}
 use Rattle.rules.specs.Promises.Vocabulary.{Legal}
 use Rattle.rules.specs.Laws.Family.Sizes.{legal, levelStart, levelSize}
 use Rattle.rules.specs.Laws.Offspring.Level.{level-most, level-least}
-use Rattle.rules.specs.Laws.Rounding.Run.{map-from}
 use Rattle.rules.specs.Laws.Rounding.Planes.{magnitude-most, range-greatest}
 use Rattle.trees.specs.Family.{treeLevel, coefficientOf}
 use Rattle.trees.specs.Run.{numberOf, number-area}
 use Rattle.coefficients.specs.Words.{worded, valueOf}
-use Rattle.stretches.specs.Seg.{seg, seg-at}
-use Rattle.stretches.specs.Workspace.{wordIn, drawnIn}
-use Rattle.stretches.specs.Levels.{wordsFrom, level-before, stretch-room, Numbered, numbered, word-numbered, put-before, put-behind, put-own}
+use Rattle.stretches.specs.Workspace.{wordIn, drawn-at}
+use Rattle.stretches.specs.Levels.{wordsFrom, level-before, stretch-room, Numbered, numbered, word-level, word-numbered, put-inside, put-before, put-behind}
 use Rattle.placing.specs.Stores.{Small}
 use Rattle.placing.specs.Placing.{Roomy, Given, BlocksOf, Blocks, LevelPlaced, Placed, LevelCopied, LevelsCopied, CopiedIn, LevelLaid, LevelsLaid}
 use Rattle.placing.specs.Placing.{LaidOut, LevelCleared, Cleared}
@@ -149,10 +147,6 @@ module _ {z : Size} {k : ℕ} {work : List ℕ} {out out₁ : List ℤ} (C : Lai
   pub laid-end : k ≤ 0 → LevelsLaid z 0 work out out₁
   laid-end h = record { same = C .1 .same; values = λ q l m n. C .1 .values q l (omega arith) n }
 
-drawn-at : (z : Size) (work : List ℕ) (x : ℕ) → x < area z → getD (drawnIn z work) x (pos 0) ≡ valueOf (wordIn z work x)
-unfolding drawnIn
-drawn-at z work x h = map-from (λ y. valueOf (wordIn z work y)) (pos 0) 0 (area z) x h ∙ ap (λ (y : ℕ). valueOf (wordIn z work y)) (omega arith)
-
 pub laid-all : {z : Size} (Z : Legal z) {work work′ : List ℕ} {out out₁ out₂ : List ℤ} → Placed z work work′ → LevelsLaid z 0 work′ out out₁
     → LevelLaid z (levels z) work′ out₁ out₂ → LaidOut z work out work′ out₂
 laid-all {z} Z {work} {work′} {out} {out₁} {out₂} P C L =
@@ -193,12 +187,6 @@ module _ {z : Size} {k : ℕ} {work work₁ : List ℕ} (C : ClearedOver z k wor
   cleared-all R h =
       record { same = C .same; words = λ x l. C .words x l (omega (arith, numbered z (legal z (R .legal)) x l .some)) }
 
-at-one : (s s′ : List ℕ) (p : ℕ) → seg p 1 s′ ≡ seg p 1 s → getD s′ p 0 ≡ getD s p 0
-at-one s s′ p e =
-    let i : p ≡ p + 0 = omega arith in
-    ap (λ (q : ℕ). getD s′ q 0) i ∙ sym (seg-at p 1 s′ 0 (omega arith)) ∙ ap (λ l. getD l 0 0) e ∙ seg-at p 1 s 0 (omega arith)
-    ∙ ap (λ (q : ℕ). getD s q 0) (sym i)
-
 pub level-cleared : {z : Size} {k : ℕ} {work : List ℕ} → Roomy z work × (1 ≤ k) × (k ≤ levels z) → (from n : ℕ) → from ≡ 4 * levelStart z k
     → n ≡ levelSize z k → (ys : List ℕ) → ys ≡ replicate (length (midOf from (from + n - from) work)) 0
     → LevelCleared z k work (putMid from (from + n - from) work ys)
@@ -207,15 +195,14 @@ level-cleared {z} {k} {work} p from size e i ys g =
       same = same-len-mid from (to - from) work ys (n ∙ sym q);
       own =
           λ x l m.
-          let u : x - levelStart z k < levelSize z k = rw m at (numbered z Z x l .under) in
-          let v : x - levelStart z k < to - from = omega arith in
-          word-numbered z Z put x l
-          ∙ ap (λ (j : ℕ). getD put (wordsFrom z j + (x - levelStart z j)) 0) m
-          ∙ ap (λ (p : ℕ). getD put (p + (x - levelStart z k)) 0) (sym e)
-          ∙ sym (seg-at from (to - from) put (x - levelStart z k) v)
-          ∙ ap (λ s. getD s (x - levelStart z k) 0) (put-own from to work ys (omega (arith, R, p .0 .room)) n ∙ g)
-          ∙ getD-replicate (length (midOf from (to - from) work)) (x - levelStart z k) 0 0 (omega (arith, q));
-      others = λ x l m. word-numbered z Z put x l ∙ kept x l m ∙ sym (word-numbered z Z work x l);
+          let t : ℕ = x - levelStart z k in
+          let u : t < levelSize z k = rw m at (numbered z Z x l .under) in
+          word-level z Z put k x m (p .1)
+          ∙ ap (λ (q : ℕ). getD put (q + t) 0) (sym e)
+          ∙ put-inside from to work ys t (omega (arith, R, p .0 .room)) n (omega arith)
+          ∙ ap (λ s. getD s t 0) g
+          ∙ getD-replicate (length (midOf from (to - from) work)) t 0 0 (omega (arith, q));
+      others = λ x l m. word-numbered z Z put x l ∙ kept x (numbered z Z x l) m (decLt (treeLevel z x) k) ∙ sym (word-numbered z Z work x l);
     }
   where
     Z : Legal z
@@ -236,23 +223,12 @@ level-cleared {z} {k} {work} p from size e i ys g =
     n : length ys ≡ to - from
     n = ap length g ∙ length-replicate (length (midOf from (to - from) work)) 0 ∙ q
 
-    kept : (x : ℕ) → x < area z → treeLevel z x ≢ k
+    kept : (x : ℕ) → Numbered z Z x → treeLevel z x ≢ k → Dec (treeLevel z x < k)
         → getD put (wordsFrom z (treeLevel z x) + (x - levelStart z (treeLevel z x))) 0
         ≡ getD work (wordsFrom z (treeLevel z x) + (x - levelStart z (treeLevel z x))) 0
-    kept x l m = go (decLt (treeLevel z x) k)
-      where
-        N : Numbered z Z x
-        N = numbered z Z x l
-
-        go : Dec (treeLevel z x < k)
-            → getD put (wordsFrom z (treeLevel z x) + (x - levelStart z (treeLevel z x))) 0
-            ≡ getD work (wordsFrom z (treeLevel z x) + (x - levelStart z (treeLevel z x))) 0
-        go (yes f) =
-            at-one work put _
-            (put-behind from to (wordsFrom z (treeLevel z x) + (x - levelStart z (treeLevel z x))) 1 work ys
-            (omega (arith, level-before z Z k (treeLevel z x) (N .some) f (p .2))) (omega arith) (omega (arith, R, p .0 .room)) n)
-        go (no f) =
-            let o : k < treeLevel z x = omega arith in
-            at-one work put _
-            (put-before from to (wordsFrom z (treeLevel z x) + (x - levelStart z (treeLevel z x))) 1 work ys
-            (omega (arith, level-before z Z (treeLevel z x) k (p .1) o (N .most), N .under)) (omega (arith, R, p .0 .room)))
+    kept x N m (yes f) =
+        put-behind from to work ys _ (omega arith) (omega (arith, R, p .0 .room)) n (omega (arith, level-before z Z k (treeLevel z x) (N .some) f (p .2)))
+    kept x N m (no f) =
+        let o : k < treeLevel z x = omega arith in
+        put-before from (to - from) work ys _ (omega (arith, R, p .0 .room))
+        (omega (arith, level-before z Z (treeLevel z x) k (p .1) o (N .most), N .under))

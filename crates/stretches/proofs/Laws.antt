@@ -8,7 +8,7 @@ use native.Mathlib.Omega.{arith}
 use lib.ListN.{length, getD, set, length-set, List·getD-eq-default}
 use lib.Seq.{getD-set-other, set-out}
 use Rattle.rules.specs.declared.Size.{Size}
-use Rattle.rules.specs.Document.Pyramid.{legalSize, levels, area}
+use Rattle.rules.specs.Document.Pyramid.{legalSize, levels}
 use Rattle.rules.specs.Document.Calls.{workFor}
 use Rattle.rules.specs.Laws.Family.Sizes.{levelStart, levelSize, levelEnd, legal, area-bound, levelSize-end}
 use Rattle.stretches.specs.Seg.{seg, seg-set}

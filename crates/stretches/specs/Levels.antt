@@ -2,24 +2,23 @@
 --
 --   wordsFrom z k     where the words of level k begin: that of its coefficient t is t places on
 --   blocksFrom z k    where its maxima begin: that of block b is b places on
-use mathlib.Core.Path.{_≡_, refl, sym, ap, ap₂, _∙_}
+use mathlib.Core.Path.{_≡_, refl, sym, ap, _∙_, subst}
 use mathlib.Core.List.{List, _++_}
-use mathlib.Core.Bool.{true}
 use Prim.Native.Nat.{ℕ, zero, suc, _+_, _-_, _*_, _/_, _≤_, _<_}
 use native.Mathlib.Omega.{arith}
 use native.Mathlib.Decide.{decLe}
-use lib.ListN.{length, take, drop, getD}
-use lib.Seq.{drop-drop, take-at, drop-at, length-take-le}
-use borrow.Rule.Slice.PartMut.{midOf, postOf, putMid, take-put, drop-put}
+use lib.ListN.{length, take, getD}
+use lib.Seq.{take-at, drop-at, length-take-le, getD-take, getD-drop}
+use borrow.Rule.Slice.PartMut.{postOf, putMid, take-put, drop-put}
 use Rattle.rules.specs.declared.Size.{Size}
-use Rattle.rules.specs.Document.Pyramid.{legalSize, area, levels}
+use Rattle.rules.specs.Document.Pyramid.{area, levels}
 use Rattle.rules.specs.Document.Calls.{workFor}
 use Rattle.rules.specs.Promises.Vocabulary.{Legal}
-use Rattle.rules.specs.Laws.Family.Sizes.{legal, span, levelStart, levelEnd, levelSize, levelSize-end, levelEnd-next, levelStart-fine, levelStart-top}
-use Rattle.rules.specs.Laws.Family.Sizes.{span-most, levelSize-fine, levelSize-top, span-quarter}
+use Rattle.rules.specs.Laws.Family.Sizes.{span, levelStart, levelEnd, levelSize, levelSize-end, levelEnd-next, levelEnd-start, levelStart-fine}
+use Rattle.rules.specs.Laws.Family.Sizes.{levelStart-top, span-some, span-most, levelSize-fine, levelSize-top, span-quarter}
 use Rattle.trees.specs.Family.{treeLevel, Lies, lies, level-at, span-falls}
-use Rattle.stretches.specs.Seg.{seg, seg-at, seg-inside}
-use Rattle.stretches.specs.Cut.{maximaFrom, valuesIn, maximaIn, stretchOf, values-at, maxima-at}
+use Rattle.stretches.specs.Seg.{seg, seg-at, seg-length}
+use Rattle.stretches.specs.Cut.{maximaFrom, stretchOf, maxima-at}
 use Rattle.stretches.specs.Workspace.{wordIn, maximumIn}
 
 abbrev pub wordsFrom : Size → ℕ → ℕ
@@ -33,7 +32,18 @@ module _ (z : Size) (Z : Legal z) where
   level-ends zero a b = absurd (omega arith)
   level-ends (suc k) a b = omega (arith, levelEnd-next z k, span-most z Z k (omega arith))
 
-  -- a coarser level ends before a finer one begins
+  -- the next finer level has four times as many and begins where the level ends; a coarser level ends before a finer one begins
+  pub next-size : (k : ℕ) → 2 ≤ k → k ≤ z .n → levelSize z (k - 1) ≡ 4 * levelSize z k
+  next-size k a b =
+      let i : suc (k - 1) ≡ k = omega arith in
+      let q : span z (k - 1) ≡ 4 * span z k = span-quarter z Z (k - 1) (omega arith) ∙ ap (λ (j : ℕ). 4 * span z j) i in
+      omega (arith, levelSize-fine z Z (k - 1) (omega arith) (omega arith), levelSize-fine z Z k (omega arith) b)
+
+  pub next-start : (k : ℕ) → 2 ≤ k → k ≤ levels z → levelStart z (k - 1) ≡ levelStart z k + levelSize z k
+  next-start k a b =
+      let i : suc (k - 1) ≡ k = omega arith in
+      sym (levelEnd-start z (k - 1) (omega arith)) ∙ ap (levelEnd z) i ∙ sym (levelSize-end z Z k (omega arith) b)
+
   pub level-before : (j k : ℕ) → 1 ≤ k → k < j → j ≤ levels z → levelStart z j + levelSize z j ≤ levelStart z k
   level-before zero k a h b = absurd (omega arith)
   level-before (suc j) k a h b =
@@ -42,41 +52,51 @@ module _ (z : Size) (Z : Legal z) where
   pub stretch-room : (k : ℕ) → 1 ≤ k → k ≤ levels z → 4 * levelStart z k + 4 * levelSize z k ≤ workFor z
   stretch-room k a b = omega (arith, levelSize-end z Z k a b, level-ends k a b)
 
-  -- a level's blocks are whole
-  pub level-blocks : (k : ℕ) → 1 ≤ k → k ≤ levels z → 4 * (levelSize z k / 4) ≡ levelSize z k
-  level-blocks k a b = go (decLe k (z .n))
+  -- a level has blocks, and they are whole
+  level-fours : (k : ℕ) → 1 ≤ k → k ≤ levels z → (m : ℕ) × (1 ≤ m) × (levelSize z k ≡ 4 * m)
+  level-fours k a b = go (decLe k (z .n))
     where
-      whole : (n m : ℕ) → n ≡ 4 * m → 4 * (n / 4) ≡ n
-      whole n m e = omega arith
-
-      go : Dec (k ≤ z .n) → 4 * (levelSize z k / 4) ≡ levelSize z k
-      go (yes l) = whole (levelSize z k) (3 * span z (suc k)) (omega (arith, levelSize-fine z Z k a l, span-quarter z Z k l))
+      go : Dec (k ≤ z .n) → (m : ℕ) × (1 ≤ m) × (levelSize z k ≡ 4 * m)
+      go (yes l) =
+          let s : 1 ≤ span z (suc k) = span-some z Z (suc k) (omega arith) in
+          (3 * span z (suc k), omega arith, omega (arith, levelSize-fine z Z k a l, span-quarter z Z k l))
       go (no l) =
           let e : k ≡ levels z = omega arith in
-          rw e (whole (levelSize z (levels z)) (span z (levels z)) (levelSize-top z Z ∙ span-quarter z Z (z .n) (omega arith)))
+          (span z (levels z), span-some z Z (levels z) (omega arith), rw e (levelSize-top z Z ∙ span-quarter z Z (z .n) (omega arith)))
 
-  -- The words and the maxima of a level, by their places in the workspace.
-  number-level : (k t : ℕ) → 1 ≤ k → k ≤ levels z → t < levelSize z k → treeLevel z (levelStart z k + t) ≡ k
-  number-level zero t a b h = absurd (omega arith)
-  number-level (suc k) t a b h =
-      level-at z k (levelStart z (suc k) + t) (omega arith) (omega (arith, levelSize-end z Z (suc k) a b, levelEnd-next z k))
-      (λ l. omega (arith, levelStart-fine z (suc k) l))
+  pub size-some : (k : ℕ) → 1 ≤ k → k ≤ levels z → 1 ≤ levelSize z k
+  size-some k a b = let f = level-fours k a b in omega (arith, f .1, f .2)
 
-  pub word-place : (work : List ℕ) (k t : ℕ) → 1 ≤ k → k ≤ levels z → t < levelSize z k → wordIn z work (levelStart z k + t) ≡ getD work (wordsFrom z k + t) 0
-  unfolding wordIn
-  word-place work k t a b h =
-      let e : levelStart z (treeLevel z (levelStart z k + t)) ≡ levelStart z k = ap (levelStart z) (number-level k t a b h) in
-      ap (λ (p : ℕ). getD work p 0) (omega arith)
+  pub level-blocks : (k : ℕ) → 1 ≤ k → k ≤ levels z → 4 * (levelSize z k / 4) ≡ levelSize z k
+  level-blocks k a b = let f = level-fours k a b in omega (arith, f .2)
 
-  pub maximum-place : (work : List ℕ) (k i : ℕ) → i < levelSize z k / 4 → maximumIn z work k i ≡ getD work (blocksFrom z k + i) 0
-  unfolding maximumIn blocksFrom stretchOf maximaFrom
-  maximum-place work k i h =
-      let n : ℕ = levelSize z k in
-      maxima-at n (seg (4 * levelStart z k) (4 * n) work) i h
-      ∙ seg-at (4 * levelStart z k) (4 * n) work (n + n + n + 3 * n / 4 + i) (omega arith)
-      ∙ ap (λ (p : ℕ). getD work p 0) (omega arith)
+  -- the tree numbers of a level, and that every one is in its level
+  pub place-level : (k x : ℕ) → 1 ≤ k → k ≤ levels z → levelStart z k ≤ x → x < levelStart z k + levelSize z k → treeLevel z x ≡ k
+  place-level zero x a b h l = absurd (omega arith)
+  place-level (suc k) x a b h l =
+      level-at z k x (omega arith) (omega (arith, levelSize-end z Z (suc k) a b, levelEnd-next z k)) (λ m. omega (arith, levelStart-fine z (suc k) m))
 
-  -- every tree number is in its level
+  pub level-place : (k x : ℕ) → treeLevel z x ≡ k → 1 ≤ k → (k ≤ levels z) × (levelStart z k ≤ x) × (x < levelStart z k + levelSize z k)
+  unfolding Lies
+  level-place zero x e a = absurd (omega arith)
+  level-place (suc k) x e a = by (subst (λ (j : ℕ). Lies z j x) e (lies z x)) (decLe (suc k) (z .n))
+    where
+      by : Lies z (suc k) x → Dec (suc k ≤ z .n)
+          → (suc k ≤ levels z) × (levelStart z (suc k) ≤ x) × (x < levelStart z (suc k) + levelSize z (suc k))
+      by l d = (omega (arith, l .2), first d, omega (arith, l .0, levelSize-end z Z (suc k) a (omega (arith, l .2)), levelEnd-next z k))
+        where
+          first : Dec (suc k ≤ z .n) → levelStart z (suc k) ≤ x
+          first (yes m) = omega (arith, levelStart-fine z (suc k) m, l .1 m)
+          first (no m) = let i : suc k ≡ levels z = omega (arith, l .2) in omega (arith, ap (levelStart z) i, levelStart-top z)
+
+  pub level-some : (x : ℕ) → x < area z → 1 ≤ treeLevel z x
+  unfolding Lies
+  level-some x h = by (treeLevel z x) (lies z x)
+    where
+      by : (k : ℕ) → Lies z k x → 1 ≤ k
+      by zero l = absurd (omega arith)
+      by (suc k) l = omega arith
+
   pub record Numbered (x : ℕ) : Type 0 where
     pub some : 1 ≤ treeLevel z x
     pub most : treeLevel z x ≤ levels z
@@ -84,83 +104,61 @@ module _ (z : Size) (Z : Legal z) where
     pub under : x - levelStart z (treeLevel z x) < levelSize z (treeLevel z x)
 
   pub numbered : (x : ℕ) → x < area z → Numbered x
-  unfolding Lies
-  numbered x h = go (treeLevel z x) refl (lies z x)
-    where
-      starts : (k : ℕ) → k ≤ levels z → (k ≤ z .n → span z k ≤ x) → levelStart z k ≤ x
-      starts k m f = by (decLe k (z .n))
-        where
-          by : Dec (k ≤ z .n) → levelStart z k ≤ x
-          by (yes l) = omega (arith, f l, levelStart-fine z k l)
-          by (no l) = let e : levelStart z k ≡ levelStart z (levels z) = ap (levelStart z) (omega arith) in omega (arith, levelStart-top z)
+  numbered x h =
+      let p = level-place (treeLevel z x) x refl (level-some x h) in
+      record { some = level-some x h; most = p .0; from = p .1; under = omega (arith, p .1, p .2) }
 
-      go : (k : ℕ) → treeLevel z x ≡ k → Lies z k x → Numbered x
-      go zero e l = absurd (omega arith)
-      go (suc k) e l =
-          let s : levelStart z (suc k) ≤ x = starts (suc k) (omega (arith, l .2)) (l .1) in
-          let u : x - levelStart z (suc k) < levelSize z (suc k) =
-          omega (arith, l .0, levelEnd-next z k, levelSize-end z Z (suc k) (omega arith) (omega (arith, l .2))) in
-          record { some = omega arith; most = omega (arith, l .2); from = rw e s; under = rw e u }
+  -- a level's stretch
+  pub stretch-at : (work : List ℕ) (k i : ℕ) → i < 4 * levelSize z k → getD (stretchOf z k work) i 0 ≡ getD work (4 * levelStart z k + i) 0
+  unfolding stretchOf
+  stretch-at work k i h = seg-at (4 * levelStart z k) (4 * levelSize z k) work i h
+
+  pub stretch-length : (work : List ℕ) (k : ℕ) → 1 ≤ k → k ≤ levels z → workFor z ≤ length work → length (stretchOf z k work) ≡ 4 * levelSize z k
+  unfolding stretchOf
+  stretch-length work k a b h = seg-length (4 * levelStart z k) (4 * levelSize z k) work (omega (arith, stretch-room k a b))
+
+  -- The words and the maxima of a level, by their places in the workspace and in its stretch.
+  pub word-level : (work : List ℕ) (k x : ℕ) → treeLevel z x ≡ k → 1 ≤ k → wordIn z work x ≡ getD work (wordsFrom z k + (x - levelStart z k)) 0
+  unfolding wordIn
+  word-level work k x e a =
+      ap (λ (j : ℕ). getD work (3 * levelStart z j + x) 0) e ∙ ap (λ (p : ℕ). getD work p 0) (omega (arith, level-place k x e a .1))
+
+  pub word-place : (work : List ℕ) (k t : ℕ) → 1 ≤ k → k ≤ levels z → t < levelSize z k → wordIn z work (levelStart z k + t) ≡ getD work (wordsFrom z k + t) 0
+  word-place work k t a b h =
+      word-level work k (levelStart z k + t) (place-level k (levelStart z k + t) a b (omega arith) (omega arith)) a
+      ∙ ap (λ (i : ℕ). getD work (wordsFrom z k + i) 0) (omega arith)
 
   pub word-numbered : (work : List ℕ) (x : ℕ) → x < area z
       → wordIn z work x ≡ getD work (wordsFrom z (treeLevel z x) + (x - levelStart z (treeLevel z x))) 0
-  word-numbered work x h =
-      let N : Numbered x = numbered x h in
-      ap (wordIn z work) (omega (arith, N .from)) ∙ word-place work (treeLevel z x) (x - levelStart z (treeLevel z x)) (N .some) (N .most) (N .under)
+  word-numbered work x h = word-level work (treeLevel z x) x refl (level-some x h)
 
--- a stretch put back
-pub put-before : (a e b m : ℕ) (s ys : List ℕ) → b + m ≤ a → a ≤ length s → seg b m (putMid a (e - a) s ys) ≡ seg b m s
-unfolding seg
-put-before a e b m s ys h l = seg-inside 0 a b m s (putMid a (e - a) s ys) (omega arith) (omega arith) (take-put a (e - a) s ys l)
+  pub word-in : (work : List ℕ) (k x : ℕ) → treeLevel z x ≡ k → 1 ≤ k → wordIn z work x ≡ getD (stretchOf z k work) (x - levelStart z k) 0
+  word-in work k x e a =
+      let p = level-place k x e a in
+      word-level work k x e a ∙ sym (stretch-at work k (x - levelStart z k) (omega (arith, p .1, p .2)))
 
-pub put-behind : (a e b m : ℕ) (s ys : List ℕ) → e ≤ b → a ≤ e → e ≤ length s → length ys ≡ e - a → seg b m (putMid a (e - a) s ys) ≡ seg b m s
-unfolding seg
-put-behind a e b m s ys h l g n =
-    let i : e + (b - e) ≡ b = omega arith in
-    ap (λ (x : ℕ). take m (drop x (putMid a (e - a) s ys))) (sym i) ∙ ap (take m) (sym (drop-drop (b - e) e (putMid a (e - a) s ys)))
-    ∙ ap (λ x. take m (drop (b - e) x)) (drop-put a e s ys l g n)
-    ∙ ap (take m) (drop-drop (b - e) e s) ∙ ap (λ (x : ℕ). take m (drop x s)) i
+  pub maximum-place : (work : List ℕ) (k i : ℕ) → i < levelSize z k / 4 → maximumIn z work k i ≡ getD work (blocksFrom z k + i) 0
+  unfolding maximumIn blocksFrom maximaFrom
+  maximum-place work k i h =
+      let n : ℕ = levelSize z k in
+      maxima-at n (stretchOf z k work) i h ∙ stretch-at work k (n + n + n + 3 * n / 4 + i) (omega arith) ∙ ap (λ (p : ℕ). getD work p 0) (omega arith)
 
+-- a part that was lent and came back: itself, and what lies before and behind it
 pub put-own : (a e : ℕ) (s ys : List ℕ) → a ≤ length s → length ys ≡ e - a → seg a (e - a) (putMid a (e - a) s ys) ≡ ys
 unfolding seg
 put-own a e s ys l n =
     ap (take (e - a)) (drop-at (take a s) (ys ++ postOf a (e - a) s) a (length-take-le a s l)) ∙ take-at ys (postOf a (e - a) s) (e - a) n
 
--- The stretch of level k lent, as `work[from..to]`, and back.
-module _ (z : Size) (legality : legalSize z ≡ true) (k : ℕ) (a : 1 ≤ k) (b : k ≤ levels z) (from to : ℕ)
-    (e : from ≡ 4 * levelStart z k) (i : to ≡ 4 * levelStart z k + 4 * levelSize z k) where
-  pub stretch-lent : (work : List ℕ) → midOf from (to - from) work ≡ stretchOf z k work
-  unfolding stretchOf seg
-  stretch-lent work = let n : to - from ≡ 4 * levelSize z k = omega arith in ap₂ (λ (x y : ℕ). take y (drop x work)) e n
+pub put-inside : (a e : ℕ) (s ys : List ℕ) (i : ℕ) → a ≤ length s → length ys ≡ e - a → i < e - a → getD (putMid a (e - a) s ys) (a + i) 0 ≡ getD ys i 0
+put-inside a e s ys i l n u = sym (seg-at a (e - a) (putMid a (e - a) s ys) i u) ∙ ap (λ x. getD x i 0) (put-own a e s ys l n)
 
-  module _ (work ys : List ℕ) (h : workFor z ≤ length work) (n : length ys ≡ to - from) where
-    pub stretch-back : stretchOf z k (putMid from (to - from) work ys) ≡ ys
-    unfolding stretchOf
-    stretch-back =
-        let c : 4 * levelSize z k ≡ to - from = omega arith in
-        ap₂ (λ (x y : ℕ). seg x y (putMid from (to - from) work ys)) (sym e) c
-        ∙ put-own from to work ys (omega (arith, stretch-room z (legal z legality) k a b)) n
+pub put-before : (a m : ℕ) (s ys : List ℕ) (i : ℕ) → a ≤ length s → i < a → getD (putMid a m s ys) i 0 ≡ getD s i 0
+put-before a m s ys i l h =
+    sym (getD-take a (putMid a m s ys) i 0 h) ∙ ap (λ x. getD x i 0) (take-put a m s ys l) ∙ getD-take a s i 0 h
 
--- A level's words and maxima are in its stretch: they are as they were where it is.
-module _ (z : Size) (Z : Legal z) where
-  pub word-stretch : (work : List ℕ) (x : ℕ) → x < area z
-      → wordIn z work x ≡ getD (valuesIn (levelSize z (treeLevel z x)) (stretchOf z (treeLevel z x) work)) (x - levelStart z (treeLevel z x)) 0
-  unfolding stretchOf
-  word-stretch work x h =
-      let k : ℕ = treeLevel z x in
-      let t : ℕ = x - levelStart z k in
-      let u : t < levelSize z k = numbered z Z x h .under in
-      word-numbered z Z work x h
-      ∙ sym (seg-at (4 * levelStart z k) (4 * levelSize z k) work t (omega arith))
-      ∙ sym (values-at (levelSize z k) (seg (4 * levelStart z k) (4 * levelSize z k) work) t u)
-
-  pub word-kept : (work work′ : List ℕ) (x : ℕ) → x < area z → stretchOf z (treeLevel z x) work′ ≡ stretchOf z (treeLevel z x) work
-      → wordIn z work′ x ≡ wordIn z work x
-  word-kept work work′ x h e =
-      word-stretch work′ x h
-      ∙ ap (λ s. getD (valuesIn (levelSize z (treeLevel z x)) s) (x - levelStart z (treeLevel z x)) 0) e
-      ∙ sym (word-stretch work x h)
-
-  pub maximum-kept : (work work′ : List ℕ) (k i : ℕ) → stretchOf z k work′ ≡ stretchOf z k work → maximumIn z work′ k i ≡ maximumIn z work k i
-  unfolding maximumIn
-  maximum-kept work work′ k i e = ap (λ s. getD (maximaIn (levelSize z k) s) i 0) e
+pub put-behind : (a e : ℕ) (s ys : List ℕ) (i : ℕ) → a ≤ e → e ≤ length s → length ys ≡ e - a → e ≤ i → getD (putMid a (e - a) s ys) i 0 ≡ getD s i 0
+put-behind a e s ys i l g n h =
+    let j : i ≡ e + (i - e) = omega arith in
+    ap (λ (x : ℕ). getD (putMid a (e - a) s ys) x 0) j
+    ∙ sym (getD-drop e (putMid a (e - a) s ys) (i - e) 0) ∙ ap (λ x. getD x (i - e) 0) (drop-put a e s ys l g n) ∙ getD-drop e s (i - e) 0
+    ∙ ap (λ (x : ℕ). getD s x 0) (sym j)

@@ -56,7 +56,7 @@ pub seg-set : (b m : ℕ) (s : List ℕ) (i a : ℕ) → i < m → seg b m (set 
 unfolding seg
 seg-set b m s i a h = ap (take m) (drop-set-add b s i a) ∙ take-set-lt m (drop b s) i a h
 
--- a segment of a segment, and one inside a stretch that is as it was
+-- a segment of a segment
 take-drop-take : (b m d : ℕ) (l : List ℕ) → b + m ≤ d → take m (drop b (take d l)) ≡ take m (drop b l)
 take-drop-take zero m d l h = take-take m d l (omega arith)
 take-drop-take (suc b) m zero l h = absurd (omega arith)
@@ -67,12 +67,6 @@ pub seg-seg : (a d b m : ℕ) (s : List ℕ) → b + m ≤ d → seg b m (seg a 
 unfolding seg
 seg-seg a d b m s h =
     take-drop-take b m d (drop a s) h ∙ ap (take m) (drop-drop b a s)
-
-pub seg-inside : (a d b m : ℕ) (s s′ : List ℕ) → a ≤ b → b + m ≤ a + d → seg a d s′ ≡ seg a d s → seg b m s′ ≡ seg b m s
-seg-inside a d b m s s′ l h e =
-    let i : a + (b - a) ≡ b = omega arith in
-    ap (λ (x : ℕ). seg x m s′) (sym i) ∙ sym (seg-seg a d (b - a) m s′ (omega arith)) ∙ ap (seg (b - a) m) e
-    ∙ seg-seg a d (b - a) m s (omega arith) ∙ ap (λ (x : ℕ). seg x m s) i
 
 -- one more number of it
 pub seg-more : (b m : ℕ) (s : List ℕ) → b + m < length s → seg b (m + 1) s ≡ seg b m s ++ (getD s (b + m) 0 ∷ [])

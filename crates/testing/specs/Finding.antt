@@ -1,6 +1,6 @@
 -- What the tests of single coefficients and their refinement ask for, and what they leave, in a level's stretch and in the output.
 use mathlib.Core.Path.{_≡_, refl, sym, subst}
-use mathlib.Core.List.{List, [], _∷_}
+use mathlib.Core.List.{List, []}
 use mathlib.Core.Bool.{true, false}
 use Prim.Native.Nat.{ℕ, _+_, _*_, _≤_, _<_, _^_}
 use native.Mathlib.Omega.{arith}
@@ -11,7 +11,7 @@ use Rattle.rules.specs.Document.Passes.{Course, listing}
 use Rattle.rules.specs.Laws.Pass.Steps.{triedAll, sharpenedAll}
 use Rattle.stretches.specs.Cut.{valuesIn, maximaFrom}
 use Rattle.lists.specs.declared.Stretch.{Stretch}
-use Rattle.lists.specs.Lists.{Inside, coefficient, waiting, known, lipAt, lspAt, Held, held, raised, Fits}
+use Rattle.lists.specs.Lists.{Inside, coefficient, known, lipAt, lspAt, Held, held, raised, Fits}
 use Rattle.testing.specs.declared.Run.{Run}
 use Rattle.testing.specs.declared.Stand.{Stand}
 use Rattle.testing.specs.declared.Ends.{Ends}

@@ -28,11 +28,11 @@ use Rattle.rules.specs.Document.Notation.{flat, greatest}
 use Rattle.rules.specs.Document.Pyramid.{Family, family, area, odd, index, row, column, levels, levelOf, offspringOf, generations, descendantsOf, maxD, maxL}
 use Rattle.rules.specs.Promises.Vocabulary.{Legal}
 use Rattle.rules.specs.Laws.Family.Sizes.{span, span-whole, span-quarter, side-falls, levelSize-fine}
-use Rattle.rules.specs.Laws.Offspring.Level.{level-most, within-over, level-area}
+use Rattle.rules.specs.Laws.Offspring.Level.{level-area}
 use Rattle.rules.specs.Laws.Offspring.Block.{row-index, column-index, halfColumns, blockLL, offspring-band, offspring-leaf}
 use Rattle.rules.specs.Laws.Offspring.Kin.{rows-2, columns-2}
 use Rattle.trees.specs.Places.{fourOf, bandWidth, group-row-lt, group-column-lt, rootAt, rasterOf, raster-level, offspring-tree, root-level}
-use Rattle.trees.specs.Places.{offspring-root}
+use Rattle.trees.specs.Places.{offspring-root, in-band}
 use Rattle.trees.specs.Renamed.{Renames, map-append, map-flat, map-greatest}
 
 module _ (z : Size) where
@@ -165,12 +165,7 @@ module _ (z : Size) (Z : Legal z) where
     group-column = column-index z _ _ (omega (arith, column-within, shr-le (z .w) (z .n)))
 
     pub group-level : levelOf z (groupAt z g) ≡ levels z
-    group-level =
-        omega (
-          arith,
-          level-most z (groupAt z g),
-          within-over z (z .n) (groupAt z g) (omega arith) (omega (arith, group-row, row-within), omega (arith, group-column, column-within)),
-        )
+    group-level = in-band z (groupAt z g) (omega (arith, group-row, row-within)) (omega (arith, group-column, column-within))
 
     pub group-even : odd (row z (groupAt z g)) || odd (column z (groupAt z g)) ≡ false
     group-even =

@@ -24,7 +24,7 @@ use Rattle.rules.specs.Laws.Family.Sizes.{span, span-quarter, span-whole}
 use Rattle.rules.specs.Laws.Family.Maxima.{greatest-same, greatest-reaches, set-A, set-B}
 use Rattle.rules.specs.Laws.Rounding.Planes.{Counts, planesOf-counts}
 use Rattle.rules.specs.Promises.Vocabulary.{Legal}
-use Rattle.trees.specs.Family.{trees, treeLevel, treeOffspring, treeMaxD, treeMaxL, Lies, lies, span-falls, treeOffspring-some, treeOffspring-none}
+use Rattle.trees.specs.Family.{trees, treeLevel, treeOffspring, treeMaxD, Lies, lies, span-falls, treeOffspring-some, treeOffspring-none}
 use Rattle.trees.specs.Lawful.{trees-lawful, tree-offspring-level}
 
 unfoldable pub keptOf : ℕ → ℕ
@@ -33,11 +33,16 @@ keptOf m = planesOf m + 1
 abbrev pub fourMost : (ℕ → ℕ) → ℕ → ℕ
 fourMost f x = max (max (f (4 * x)) (f (4 * x + 1))) (max (f (4 * x + 2)) (f (4 * x + 3)))
 
+pub four-same : (f g : ℕ → ℕ) (x y : ℕ) → ((i : ℕ) → i < 4 → f (4 * x + i) ≡ g (4 * y + i)) → fourMost f x ≡ fourMost g y
+four-same f g x y e =
+    let first : f (4 * x) ≡ g (4 * y) = ap f (omega arith) ∙ e 0 (omega arith) ∙ ap g (omega arith) in
+    ap₂ max (ap₂ max first (e 1 (omega arith))) (ap₂ max (e 2 (omega arith)) (e 3 (omega arith)))
+
 module _ (z : Size) (m : ℕ → ℕ) where
-  unfoldable pub largestD : ℕ → ℕ
+  abbrev pub largestD : ℕ → ℕ
   largestD x = greatest m (members (trees z) (typeA x))
 
-  unfoldable pub largestL : ℕ → ℕ
+  abbrev pub largestL : ℕ → ℕ
   largestL x = greatest m (members (trees z) (typeB x))
 
 -- What is kept tells whether a magnitude, or the largest of several, is significant. Planes are counted up to 32.
@@ -112,25 +117,23 @@ four-most z f x a b =
 
 module _ (z : Size) (Z : Legal z) (m : ℕ → ℕ) where
   pub largestD-step : (x : ℕ) → largestD z m x ≡ max (greatest m (treeOffspring z x)) (largestL z m x)
-  unfolding largestD largestL
   largestD-step x = set-A (trees z) m (trees-lawful z Z) x
 
-  pub largestL-step : (x : ℕ) → largestL z m x ≡ greatest (largestD z m) (treeOffspring z x)
-  unfolding largestD largestL
+  pub largestL-step : (x : ℕ) → largestL z m x ≡ greatest (λ y. largestD z m y) (treeOffspring z x)
   largestL-step x = set-B (trees z) m x
 
   module _ (x : ℕ) (a : span z (levels z) ≤ x) where
     pub largestD-four : x < span z 1 → largestD z m x ≡ max (fourMost m x) (largestL z m x)
     largestD-four b = largestD-step x ∙ ap (λ (y : ℕ). max y (largestL z m x)) (four-most z m x a b)
 
-    pub largestL-four : x < span z 1 → largestL z m x ≡ fourMost (largestD z m) x
-    largestL-four b = largestL-step x ∙ four-most z (largestD z m) x a b
+    pub largestL-four : x < span z 1 → largestL z m x ≡ fourMost (λ y. largestD z m y) x
+    largestL-four b = largestL-step x ∙ four-most z (λ y. largestD z m y) x a b
 
   -- nothing under x
   no-offspring : (x : ℕ) → treeOffspring z x ≡ [] → (largestD z m x ≡ 0) × (largestL z m x ≡ 0)
   unfolding greatest
   no-offspring x e =
-      let l : largestL z m x ≡ 0 = largestL-step x ∙ ap (greatest (largestD z m)) e in
+      let l : largestL z m x ≡ 0 = largestL-step x ∙ ap (greatest (λ y. largestD z m y)) e in
       (largestD-step x ∙ ap (λ ys. max (greatest m ys) (largestL z m x)) e ∙ omega arith, l)
 
   pub largestD-leaf : (x : ℕ) → span z 1 ≤ x → largestD z m x ≡ 0
@@ -147,15 +150,9 @@ module _ (z : Size) (Z : Legal z) (m : ℕ → ℕ) where
       by (no d) = no-offspring x (treeOffspring-none z x (omega arith)) .1
       by (yes l) =
           largestL-four x (omega (arith, span-falls z 2 (levels z) (omega (arith, Z .some)))) l
-          ∙ omega (
-            arith,
-            largestD-leaf (4 * x) (omega (arith, q)),
-            largestD-leaf (4 * x + 1) (omega (arith, q)),
-            largestD-leaf (4 * x + 2) (omega (arith, q)),
-            largestD-leaf (4 * x + 3) (omega (arith, q)),
-          )
+          ∙ four-same (λ y. largestD z m y) (λ y. 0) x x (λ i f. largestD-leaf (4 * x + i) (omega (arith, q)))
 
-  -- treeMaxD and treeMaxL find them, over as many generations as there are levels below.
+  -- treeMaxD finds them, over as many generations as there are levels below.
   pub treeMaxD-members : (g x : ℕ) → treeLevel z x ≤ suc g → treeMaxD z m g x ≡ largestD z m x
   unfolding treeMaxD Lies
   treeMaxD-members zero x h = sym (largestD-leaf x (leaf (treeLevel z x) refl (lies z x)))
@@ -166,7 +163,7 @@ module _ (z : Size) (Z : Legal z) (m : ℕ → ℕ) where
       leaf (suc (suc k)) e l = absurd (omega arith)
   treeMaxD-members (suc g) x h =
       ap (max (greatest m (treeOffspring z x)))
-      (greatest-same (treeMaxD z m g) (largestD z m) (treeOffspring z x)
+      (greatest-same (treeMaxD z m g) (λ y. largestD z m y) (treeOffspring z x)
       (every-all _ (treeOffspring z x) (λ r i. treeMaxD-members g r (omega (arith, tree-offspring-level z Z x r i))))
       ∙ sym (largestL-step x))
       ∙ sym (largestD-step x)

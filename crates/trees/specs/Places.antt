@@ -71,19 +71,22 @@ module _ (z : Size) where
 
 -- A node's row and column, by those of the node over it.
 module _ (z : Size) where
-  treeRow-four : (d t f : ℕ) → f < 4 → treeRow z (suc d) (4 * t + f) ≡ 2 * treeRow z d t + f / 2
-  unfolding treeRow
-  treeRow-four d t f h =
+  pub tree-four : (d t f : ℕ) → f < 4
+      → (treeRow z (suc d) (4 * t + f) ≡ 2 * treeRow z d t + f / 2) × (treeColumn z (suc d) (4 * t + f) ≡ 2 * treeColumn z d t + f % 2)
+  unfolding treeRow treeColumn
+  tree-four d t f h =
       let e : (4 * t + f) / 4 ≡ t = omega arith in
       let g : (4 * t + f) % 4 ≡ f = omega arith in
-      rw (e, g)
+      (rw (e, g), rw (e, g))
 
-  treeColumn-four : (d t f : ℕ) → f < 4 → treeColumn z (suc d) (4 * t + f) ≡ 2 * treeColumn z d t + f % 2
-  unfolding treeColumn
-  treeColumn-four d t f h =
-      let e : (4 * t + f) / 4 ≡ t = omega arith in
-      let g : (4 * t + f) % 4 ≡ f = omega arith in
-      rw (e, g)
+  -- node t of level k, d levels under the roots
+  pub raster-fine : (k d t : ℕ) → k ≤ z .n → depthOf z k ≡ d → rasterOf z k t ≡ index z (treeRow z d t) (treeColumn z d t)
+  unfolding rasterOf
+  raster-fine k d t h e = rw (le-leb k (z .n) h, e)
+
+  -- what stands in the LL band's rows and columns is of its level
+  pub in-band : (q : ℕ) → row z q < z .h / 2 ^ z .n → column z q < bandWidth z → levelOf z q ≡ levels z
+  in-band q r c = omega (arith, level-most z q, within-over z (z .n) q (omega arith) (r, c))
 
 module _ (z : Size) (Z : Legal z) where
   half-rows-some : 1 ≤ halfRows z
@@ -155,15 +158,8 @@ module _ (z : Size) (Z : Legal z) where
           outside-level z (suc j) q (λ w. s .2 (rw at-row at (w .0)) (rw at-column at (w .1))),
         )
 
-  -- node t of level k, as it stands in that level's tree
-  fine : (k t : ℕ) → k ≤ z .n → rasterOf z k t ≡ index z (treeRow z (depthOf z k) t) (treeColumn z (depthOf z k) t)
-  unfolding rasterOf
-  fine k t h = rw (le-leb k (z .n) h)
-
   fine-depth : (d j t : ℕ) → j + suc d ≡ z .n → rasterOf z (suc j) t ≡ index z (treeRow z (suc d) t) (treeColumn z (suc d) t)
-  fine-depth d j t e =
-      let m : depthOf z (suc j) ≡ suc d = omega arith in
-      fine (suc j) t (omega arith) ∙ ap (λ (x : ℕ). index z (treeRow z x t) (treeColumn z x t)) m
+  fine-depth d j t e = raster-fine z (suc j) (suc d) t (omega arith) (omega arith)
 
   -- The block of a node, or of a root, is four nodes of the level under it.
   module _ (d j t : ℕ) (e : j + suc d ≡ z .n) where
@@ -186,7 +182,7 @@ module _ (z : Size) (Z : Legal z) where
         node : (f u x y : ℕ) → f < 4 → u ≡ 4 * t + f → x ≡ 2 * treeRow z d t + f / 2 → y ≡ 2 * treeColumn z d t + f % 2
             → index z x y ≡ rasterOf z (suc j) u
         node f u x y l g a b =
-            ap₂ (index z) (a ∙ sym (treeRow-four z d t f l)) (b ∙ sym (treeColumn-four z d t f l))
+            ap₂ (index z) (a ∙ sym (tree-four z d t f l .0)) (b ∙ sym (tree-four z d t f l .1))
             ∙ sym (fine-depth d j (4 * t + f) e)
             ∙ ap (rasterOf z (suc j)) (sym g)
 
@@ -237,12 +233,7 @@ module _ (z : Size) (Z : Legal z) where
 
     pub root-level : levelOf z (rootAt z u) ≡ levels z
     root-level =
-        omega (
-          arith,
-          level-most z (rootAt z u),
-          within-over z (z .n) (rootAt z u) (omega arith)
-              (omega (arith, root-row, root-row-lt, rows-2 z Z), omega (arith, root-column, root-column-lt, columns-2 z Z)),
-        )
+        in-band z (rootAt z u) (omega (arith, root-row, root-row-lt, rows-2 z Z)) (omega (arith, root-column, root-column-lt, columns-2 z Z))
 
     one-odd : odd (together (halfRows z) (treeRow z 0 u)) || odd (together (halfColumns z) (treeColumn z 0 u)) ≡ true
     one-odd = go (decLt (treeRow z 0 u) (halfRows z)) (decLt (treeColumn z 0 u) (halfColumns z))
@@ -291,11 +282,7 @@ module _ (z : Size) (Z : Legal z) where
         let q : ℕ = rasterOf z (levels z) t in
         let r : t / bandWidth z < z .h / 2 ^ z .n =
         div-lt-iff-lt-mul {x = t} {y = z .h / 2 ^ z .n} band-width-some .1 (omega (arith, levelSize-top z Z)) in
-        omega (
-          arith,
-          level-most z q,
-          within-over z (z .n) q (omega arith) (omega (arith, top-row), omega (arith, top-column, mod-lt t band-width-some)),
-        )
+        in-band z q (omega (arith, top-row)) (omega (arith, top-column, mod-lt t band-width-some))
 
   -- Back from a place to the node: treeAt is the inverse of treeRow and treeColumn, both ways.
   pub treeAt-node : (d j t : ℕ) → j + d ≡ z .n → t < 3 * span z (suc j) → treeAt z d (treeRow z d t) (treeColumn z d t) ≡ t
@@ -406,8 +393,8 @@ module _ (z : Size) (Z : Legal z) where
       (omega (arith, s .0), omega (arith, s .1), λ p q. s .2 (omega arith) (omega arith)) in
       let l : 2 * (x % 2) + y % 2 < 4 = omega arith in
       let t : ℕ = treeAt z d (x / 2) (y / 2) in (
-        treeRow-four z d t (2 * (x % 2) + y % 2) l ∙ twice-row (treeRow z d t) x y (i .0),
-        treeColumn-four z d t (2 * (x % 2) + y % 2) l ∙ twice-column (treeColumn z d t) x y (i .1),
+        tree-four z d t (2 * (x % 2) + y % 2) l .0 ∙ twice-row (treeRow z d t) x y (i .0),
+        tree-four z d t (2 * (x % 2) + y % 2) l .1 ∙ twice-column (treeColumn z d t) x y (i .1),
         four-under t (span z (suc (suc j))) (span z (suc j)) (2 * (x % 2) + y % 2) l (span-quarter z Z (suc j) (omega arith)) (i .2),
       )
 

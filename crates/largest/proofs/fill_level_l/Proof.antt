@@ -39,7 +39,7 @@ returns c =
     let to = c .before .before .before .before .stretch-to .ensures in
     let size = c .before .before .before .before .before .before .level-size .ensures in
     let filled = c .before .before .fill-blocks-l .ensures in
-    level-l _ _ _ (start .pre .0) _ _ _ (from .0) size (omega arith) (to .1) _ (filled .apart) (omega arith) (start .pre .1) filled
+    level-l _ _ _ (start .pre .0) _ _ _ (from .0) size (omega arith) (to .1) _ (filled .apart) (start .pre .1) filled
 
 pub fill-level-l-spec : {M : Type 1} → statement M
 fill-level-l-spec =

@@ -1,7 +1,8 @@
 -- `largest::pair_to` meets its contract.
 use native.Mathlib.Omega.{arith}
 use Rattle.rules.specs.Laws.Family.Sizes.{legal}
-use Rattle.largest.proofs.Lent.{pair-finest, pair-next}
+use Rattle.largest.proofs.Lent.{pair-finest}
+use Rattle.stretches.specs.Levels.{next-start}
 use borrow.Author.Needs.{needs}
 use Rattle.largest.proofs.pair_to.Statement.{statement}
 use Rattle.largest.proofs.pair_to.Tie as tie
@@ -24,7 +25,8 @@ stretch-to-requires-2 c κs = search needs
 returns-2 : tie.Need-returns-2
 returns-2 c =
     let start = c .before .before .before .before in
-    let behind = pair-next (start .args .z) (legal _ (start .pre .0)) (start .args .k .0) (c .before .before .if1 .left) (start .pre .2) in
+    let most = start .pre .2 in
+    let behind = next-start (start .args .z) (legal _ (start .pre .0)) (start .args .k .0) (c .before .before .if1 .left) (omega arith) in
     (omega arith, search needs, search needs)
 
 pub pair-to-spec : {M : Type 1} → statement M
