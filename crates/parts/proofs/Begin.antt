@@ -38,8 +38,8 @@ use Rattle.stretches.specs.Workspace.{wordIn, maximumIn}
 use Rattle.lists.specs.declared.Role.{Role}
 use Rattle.lists.specs.declared.Stretch.{Stretch}
 use Rattle.lists.specs.declared.Fill.{Fill}
-use Rattle.lists.specs.Lists.{Inside, Marked, lipAt, known, held, listsIn, Fits, Beside, LipPushed, SetAdded, sets-fit, todo-none, waiting-none, held-waiting, held-known}
-use Rattle.lists.specs.Lists.{known-none, held-begins, lists-none}
+use Rattle.lists.specs.Lists.{Inside, Marked, lipAt, known, held, listsIn, Fits, Beside, LipPushed, SetAdded}
+use Rattle.lists.specs.Lists.{sets-fit, todo-none, waiting-none, held-waiting, held-known, known-none, held-begins, lists-none}
 use Rattle.lists.specs.Besides.{beside-none, beside-then, marked-lent}
 use Rattle.parts.specs.declared.Counts.{Counts}
 use Rattle.parts.specs.Standing.{countAt, nothing, listsAt, stateOf, stretchBy, Started}

@@ -89,7 +89,8 @@ module _ {run : Run} {body work out : List ℕ} {counts : Counts} (H : Running r
   pub running-lends : {f : Fill} → f ≡ fillOf counts k → Lending run body work out (record { fill = f; at = run .from })
   running-lends {f} e =
       subst (λ x. Lending x body work out (record { fill = f; at = run .from })) (sym (H .runs))
-      (part-lending (run .stretch .role) (H .ready) (run .from) (run .until) (H .place) (H .words) (H .marks) body out (subst (λ x. Silent x body) (H .runs) (H .silent)) e)
+      (part-lending (run .stretch .role) (H .ready) (run .from) (run .until) (H .place) (H .words) (H .marks) body out
+      (subst (λ x. Silent x body) (H .runs) (H .silent)) e)
 
   module _ (six : Places counts) {f : Fill} (e : f ≡ fillOf counts k) {work₁ out₁ : List ℕ} {r : Stand}
       (T : Lent run body work out (record { fill = f; at = run .from }) work₁ out₁ r) {own : Counts} (i : own ≡ withLists counts k (r .fill)) where
@@ -101,7 +102,11 @@ module _ {run : Run} {body work out : List ℕ} {counts : Counts} (H : Running r
 
     pub running-more : Counting own (run .level) (r .fill .moved)
     running-more =
-        record { coarser = running-few .0; level = running-few .1; few = rw i (more-fits (run .stretch .role) (H .ready) (run .from) (run .until) six lent-run) }
+        record {
+          coarser = running-few .0;
+          level = running-few .1;
+          few = rw i (more-fits (run .stretch .role) (H .ready) (run .from) (run .until) six lent-run);
+        }
 
     pub running-done : {p : Passed} → p .counts ≡ withMoved own k (r .fill .moved) → p .at ≡ r .at → PartRun run body work counts out p work₁ out₁
     running-done {p} g h =

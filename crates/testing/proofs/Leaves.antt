@@ -144,7 +144,8 @@ module _ (run : Run) (at : ℕ) (s : List ℕ) (x : ℕ) (b : Bool) (r : run .st
         by (yes there) = refined-there run at s x b r there l drew o e
         by (no past) =
             let vs = valuesIn (run .stretch .n) s in
-            let same = drew .values ∙ ap (set vs (x - run .stretch .first)) (unfolded (silent (ap reading r) (omega arith))) ∙ set-getD vs (x - run .stretch .first) 0 in
+            let place = x - run .stretch .first in
+            let same = drew .values ∙ ap (set vs place) (unfolded (silent (ap reading r) (omega arith))) ∙ set-getD vs place 0 in
             record { long = drew .long; values = same ∙ noted-past run at s (refined x b) r (omega arith) .values; others = drew .others }
 
 -- what is noted of a coefficient, found or not

@@ -102,7 +102,8 @@ module _ (run : Run) (s body : List ℕ) where
   abbrev a : ℕ
   a = 2 * 2 ^ run .plane .0
 
-  sharpened-most : (x : ℕ) (y : Chan) (q : ℕ) → localWord (run .stretch .first) (sharpened C x y .values) q ≤ localWord (run .stretch .first) (y .values) q + a * is q x
+  sharpened-most : (x : ℕ) (y : Chan) (q : ℕ)
+      → localWord (run .stretch .first) (sharpened C x y .values) q ≤ localWord (run .stretch .first) (y .values) q + a * is q x
   unfolding sharpened bitNoted side
   sharpened-most x y q = refined-most run _ x _ (y .values) q
 

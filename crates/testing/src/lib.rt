@@ -270,7 +270,8 @@ fn test(run: Run, body: &[u8], s: &mut [u32], w: Stand, out: &mut [u8], e: usize
     requires { ⌜ (run .plane .0 < mostPlanes) × Fits (run .stretch) (now s) (w .fill) × (run .stretch .n < 2 ^ 32)
         × (w .fill .lip + w .fill .lsp < run .stretch .n) × (w .at .at + 2 < 2 ^ 62) × (e < 2 ^ 32)
         × Inside (run .stretch) (coefficient e) × Marked (run .stretch) (now s) e ⌝ }
-    ensures { λ r. ⌜ Tested run (now (body .entry)) (coefficient e ∷ []) (now (s .entry)) (now (out .entry)) w (now (s .exit)) (now (out .exit)) (movedTo w r) ⌝ }
+    ensures { λ r. ⌜ Tested run (now (body .entry)) (coefficient e ∷ []) (now (s .entry)) (now (out .entry)) w (now (s .exit)) (now (out .exit))
+        (movedTo w r) ⌝ }
 {
     let told = ask_found(run, body, out, w.at, e);
     let x = lists::coefficient_of(e);

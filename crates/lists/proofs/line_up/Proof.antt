@@ -24,7 +24,9 @@ add-push-lip-3 : tie.Need-add-push-lip-3
 add-push-lip-3 c = search needs
 
 push-lip-requires-4 : tie.Need-push-lip-requires-4
-push-lip-requires-4 c κs = (search needs, omega arith, room-fourth (c .before .before .before .push-lip3 .ensures) (search (needs, two-left)), (omega arith, omega arith), omega arith)
+push-lip-requires-4 c κs =
+    let room = room-fourth (c .before .before .before .push-lip3 .ensures) (search (needs, two-left)) in
+    (search needs, omega arith, room, (omega arith, omega arith), omega arith)
 
 same-length : tie.Need-same-length
 same-length c = search needs

@@ -52,7 +52,8 @@ returns-2 : tie.Need-returns-2
 returns-2 c =
     let started = c .before .before .before .before .before .before in
     let later = c .before .before .before .before .if1 .left in
-    stretch-next _ _ _ _ (started .before .level-size .ensures) (started .level-start .ensures) later (c .before .level-size2 .ensures) (c .before .before .fill-of .ensures .0) (c .lis-end .ensures)
+    stretch-next _ _ _ _ (started .before .level-size .ensures) (started .level-start .ensures) later (c .before .level-size2 .ensures)
+    (c .before .before .fill-of .ensures .0) (c .lis-end .ensures)
 
 pub stretch-of-spec : {M : Type 1} → statement M
 stretch-of-spec =
