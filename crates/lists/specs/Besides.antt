@@ -35,32 +35,27 @@ pub held-same : {a a′ b b′ : List ℕ} {k k′ t t′ m m′ : List Entry} �
     → _≡_ {A = Held} (record { lip = a; lsp = b; kept = k; todo = t; moved = m }) (record { lip = a′; lsp = b′; kept = k′; todo = t′; moved = m′ })
 held-same a b k t m = cc
 
--- an entry stays marked where the words are as they were, and so do those of LIP
-pub marked-same : {t : Stretch} {s s′ : List ℕ} {e : ℕ} → (codes (t .role) ≡ true → (i : ℕ) → i < t .n → getD s′ i 0 ≡ getD s i 0)
-    → Marked t s e → Marked t s′ e
-marked-same {t} {e = e} same m =
-    record {
-      inside = m .inside;
-      mark = λ c. m .mark c ∙ ap markOf (sym (same c (coefficient e - t .first) (omega (arith, m .inside c))));
-    }
-
--- the decoder's have no mark
-pub marked-none : {t : Stretch} {s : List ℕ} {e : ℕ} → t .role ≡ Reads → Marked t s e
-marked-none r = record { inside = λ c. absurd (true≢false (sym c ∙ ap codes r)); mark = λ c. absurd (true≢false (sym c ∙ ap codes r)) }
-
--- the same in another slice that has the same words, whatever lies behind it
-pub marked-lent : {role : Role} {n first away away′ : ℕ} {s s′ : List ℕ} {e : ℕ} → ((i : ℕ) → i < n → getD s′ i 0 ≡ getD s i 0)
+-- An entry stays marked where the words are as they were, whatever lies behind the stretch; and so do those of LIP.
+pub marked-lent : {role : Role} {n first away away′ : ℕ} {s s′ : List ℕ} {e : ℕ} → (codes role ≡ true → (i : ℕ) → i < n → getD s′ i 0 ≡ getD s i 0)
     → Marked (record { role = role; n = n; first = first; away = away }) s e → Marked (record { role = role; n = n; first = first; away = away′ }) s′ e
 marked-lent {first = first} {e = e} same m =
     record {
       inside = m .inside;
-      mark = λ c. m .mark c ∙ ap markOf (sym (same (coefficient e - first) (omega (arith, m .inside c))));
+      mark = λ c. m .mark c ∙ ap markOf (sym (same c (coefficient e - first) (omega (arith, m .inside c))));
     }
+
+pub marked-same : {t : Stretch} {s s′ : List ℕ} {e : ℕ} → (codes (t .role) ≡ true → (i : ℕ) → i < t .n → getD s′ i 0 ≡ getD s i 0)
+    → Marked t s e → Marked t s′ e
+marked-same {t} same m = marked-lent {away = t .away} same m
 
 pub marks-kept : {t : Stretch} {s s′ : List ℕ} {m : ℕ} → (codes (t .role) ≡ true → (i : ℕ) → i < t .n → getD s′ i 0 ≡ getD s i 0)
     → ((i : ℕ) → i < m → lipAt (t .n) i s′ ≡ lipAt (t .n) i s) → ((i : ℕ) → i < m → Marked t s (lipAt (t .n) i s))
     → (i : ℕ) → i < m → Marked t s′ (lipAt (t .n) i s′)
 marks-kept {t} {s′ = s′} words lips marked i h = subst (Marked t s′) (sym (lips i h)) (marked-same words (marked i h))
+
+-- the decoder's have no mark
+pub marked-none : {t : Stretch} {s : List ℕ} {e : ℕ} → t .role ≡ Reads → Marked t s e
+marked-none r = record { inside = λ c. absurd (true≢false (sym c ∙ ap codes r)); mark = λ c. absurd (true≢false (sym c ∙ ap codes r)) }
 
 pub fits-fewer : {t : Stretch} {s : List ℕ} {f : Fill} (m : ℕ) → Fits t s (raised f m) → Fits t s f
 fits-fewer m h =

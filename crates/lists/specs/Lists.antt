@@ -28,7 +28,7 @@ use Rattle.lists.specs.declared.Stretch.{Stretch}
 use Rattle.lists.specs.declared.Fill.{Fill}
 use Rattle.lists.specs.declared.Set.{Set}
 use Rattle.lists.specs.declared.Set.the-variants.{TypeA, TypeB}
-use Rattle.stretches.specs.Seg.{seg, seg-none, seg-length, seg-cons, seg-more, seg-add, seg-count, seg-same}
+use Rattle.stretches.specs.Seg.{seg, seg-none, seg-length, seg-cons, seg-more, seg-add, seg-count}
 
 -- An entry of LIS as a number: index x 2, and 1 more for type B.
 unfoldable pub entry : ℕ → Entry
@@ -265,14 +265,6 @@ waiting-none n i s = ap (map coefficient) (seg-none (lipFrom n + i) s)
 pub waiting-length : (n i m : ℕ) (s : List ℕ) → 4 * n ≤ length s → i + m ≤ n → length (waiting n i m s) ≡ m
 unfolding waiting lipFrom
 waiting-length n i m s h k = length-map (seg (n + i) m s) coefficient ∙ seg-length (n + i) m s (omega arith)
-
-pub waiting-same : (n i m : ℕ) (s s′ : List ℕ) → length s′ ≡ length s → ((j : ℕ) → i ≤ j → j < i + m → lipAt n j s′ ≡ lipAt n j s)
-    → waiting n i m s′ ≡ waiting n i m s
-unfolding waiting lipAt lipFrom
-waiting-same n i m s s′ l e =
-    ap (map coefficient)
-    (seg-same (n + i) m s s′ l
-    (λ j a b. let p : n + (j - n) ≡ j = omega arith in subst (λ (x : ℕ). getD s′ x 0 ≡ getD s x 0) p (e (j - n) (omega arith) (omega arith))))
 
 pub waiting-one : (n i : ℕ) (s : List ℕ) → 4 * n ≤ length s → i < n → waiting n i 1 s ≡ coefficient (lipAt n i s) ∷ []
 unfolding waiting lipAt lipFrom

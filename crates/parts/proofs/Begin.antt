@@ -500,7 +500,7 @@ module _ (role : Role) (z : Size) (r : Fill) where
     -- LIP's entries are marked; the other levels have none
     top-marks : (i : ℕ) → i < r .lip
         → Marked (stretchBy role z (levels z)) (stretchOf z (levels z) work′) (lipAt (levelSize z (levels z)) i (stretchOf z (levels z) work′))
-    top-marks j l = rw (top-stretch, ← i, levelStart-top z) (marked-lent (λ x g. refl) (B .fits .marked j l))
+    top-marks j l = rw (top-stretch, ← i, levelStart-top z) (marked-lent (λ c x g. refl) (B .fits .marked j l))
 
     pub started : Started role z work counts work′
     started =

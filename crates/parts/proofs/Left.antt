@@ -243,7 +243,7 @@ module _ (role : Role) {z : Size} {plane : Plane} {level : Level} {work : List �
   own-marks i h =
       let f = T .ran .fits in
       subst (Marked (stretchBy role z k) (stretchOf z k work₁)) (lent-lip role D from until work₁ i (omega (arith, f .lip)))
-      (marked-lent (λ j l. sym (lent-own role D from until work₁ j (omega arith))) (f .marked i h))
+      (marked-lent (λ c j l. sym (lent-own role D from until work₁ j (omega arith))) (f .marked i h))
 
   other-marks : Marks role z work counts → (j i : ℕ) → 1 ≤ j → j ≤ levels z → j ≢ k → i < countAt (counts .lip) j
       → Marked (stretchBy role z j) (stretchOf z j work₁) (lipAt (levelSize z j) i (stretchOf z j work₁))

@@ -191,7 +191,7 @@ module _ (role : Role) {z : Size} {plane : Plane} {level : Level} {work : List �
         room = omega (arith, lent-length z L k a b work (D .room), lent-fits z L k a b .0);
         marked = λ i h.
             subst (Marked (run .stretch) (lent work)) (sym (lent-lip work i (omega (arith, f .lip))))
-            (marked-lent (λ j l. lent-own work j (omega arith)) (M .lips k i a b h));
+            (marked-lent (λ c j l. lent-own work j (omega arith)) (M .lips k i a b h));
         lip = f .lip;
         lsp = f .lsp;
         kept = f .kept;
