@@ -3,27 +3,24 @@
  *
  * A pyramid of integer wavelet coefficients is coded once, at full detail, as a
  * record: a header, then parts. Each part has a plane (bit planes, counted down
- * to 0, the finest) and a level (1 is the finest, K the coarsest). A
+ * to 0, the finest) and a level (1 is the finest, N + 1 the coarsest). A
  * smaller version of a record is some of its parts, so it is cut out of the
- * bytes without decoding them: that is serving, for a level and a plane or for a
- * plane of each level. By an index, which is kept
- * beside a record, it is served without a walk over its parts. Two such
- * versions are joined to one that has the parts of both. A survey tells what a record holds, and so
+ * bytes without decoding them: that is serving. Two such versions are joined to
+ * one that has the parts of both. A survey tells what a record holds, and so
  * how much to lend for decoding it. Decoding makes a pyramid of whatever parts
  * of a record are there, and tells how far each level got and how many of its
- * parts could not be used; from that it is told how far a pixel may be from the
- * recorded one. The pyramid of a picture is made of a grey file, and a grey file
- * of a pyramid.
+ * parts could not be used. The pyramid of a picture is made of a grey file, and
+ * a grey file of a pyramid.
  *
- * Link with libafshtruni, static or shared: pkg-config afshtruni tells how. It
- * needs no library but C's own, allocates nothing, keeps nothing between calls
- * and may be called from any number of threads at once, each with memory of its
- * own. Every function in it is proved to meet its contract, to end and never to
- * go wrong, for any bytes whatever. Trusted, not proved: the prover and back end
- * of the Rattle kit, on machines other than x86-64 LLVM's back end for them on
- * the kit's module, the C compiler, the linker and the tool; and a caller must
- * keep the slices that it lends apart and aligned, and nobody may write to them
- * while the call runs. A record has no checksum: docs/FORMAT.md.
+ * Link with libafshtruni (x86-64), static or shared: pkg-config afshtruni tells
+ * how. It needs no library but C's own, allocates nothing, keeps nothing
+ * between calls and may be called from any number of threads at once, each with
+ * memory of its own. Every function in it is proved to meet its contract, to
+ * end and never to go wrong, for any bytes whatever. Trusted, not proved: the
+ * prover and back end of the Rattle kit, the C compiler, the linker and the
+ * tool; and a caller must keep the slices that it lends apart and aligned, and
+ * nobody may write to them while the call runs. A record has no checksum:
+ * docs/FORMAT.md.
  */
 #ifndef AFSHTRUNI_H
 #define AFSHTRUNI_H
@@ -42,39 +39,21 @@ extern "C" {
  * library is libafshtruni.so.AFS_INTERFACE, a number that goes up where a
  * program that was built before has to be built anew.
  *
- * 0.4.0, libafshtruni.so.2: afs_serve_planes(), afs_nearness(), afs_check(),
- * afs_grey_widen() and afs_grey_cut() are new. Nothing that was there has changed.
- *
- * 0.3.0, libafshtruni.so.2: sides go up to 4,096, N up to 8. The answer of
- * afs_decode() has 21 numbers, as a record may have nine levels: it had 15, and
- * the counts of skipped parts stand further back. A caller who lends 15 to 20
- * numbers now gets 5, with answer, pyramid and workspace all 0. So a program has
- * to be built anew, and no more than that where it lends AFS_DECODED_NUMBERS and
- * goes from the planes to the counts by AFS_LEVEL_PLACES: these follow the
- * header. AFS_CODE_BOUND is larger, and AFS_GREY_BOUND is new. Every pyramid that
- * was legal before is coded to the same bytes.
- *
- * With it come records of version 2, which afs_code_levels() makes: the levels
- * from K on are one. All calls take them, and records of version 1 as before.
- * afs_survey() tells K as a ninth number, and E, how far a pixel may be, goes by
- * it: a program that was built before would tell too small an E. An older library
- * refuses version 2 with 7.
- *
- * 0.2.0, libafshtruni.so.1: the answer of afs_decode() had 15 numbers; it had 9
- * before, which stood where they stood.
+ * 0.2.0, libafshtruni.so.1: the answer of afs_decode() has 15 numbers; it had 9,
+ * which stand where they stood. A caller who lends 9 to 14 numbers now gets 5,
+ * with answer, pyramid and workspace all 0.
  */
 #define AFS_VERSION_MAJOR 0
-#define AFS_VERSION_MINOR 4
+#define AFS_VERSION_MINOR 2
 #define AFS_VERSION_PATCH 0
-#define AFS_INTERFACE 2
+#define AFS_INTERFACE 1
 
 /*
  * NUMBERS
  *
  * What a call may come back with. 0 is accepted; everything else is a refusal,
- * and then a place is told with it. A place is an offset in the record, or in
- * the index beside it, or an index in the pyramid, where the list below says
- * so, and otherwise 0. Where
+ * and then a place is told with it. A place is an offset in the record, or an
+ * index in the pyramid, where the list below says so, and otherwise 0. Where
  * several refusals would be due, the description of the call tells which is
  * given.
  *
@@ -87,57 +66,40 @@ extern "C" {
  */
 enum {
     AFS_ACCEPTED = 0,
-    AFS_SIZE = 1,      /* width, height, decompositions, planes or K not legal, or no size to cut to; place 0 */
+    AFS_SIZE = 1,      /* width, height, decompositions or planes not legal; place 0 */
     AFS_LENGTH = 2,    /* pyramid not exactly width x height; place 0; never from serving */
     AFS_WORK = 3,      /* workspace under 4 x width x height; place 0; never from serving */
     AFS_RANGE = 4,     /* a magnitude over 65535, from coding, or over 131071, from afs_grey_out(); first such index */
     AFS_ROOM = 5,      /* the output, or the answer, is too short; place 0 */
     AFS_HEAD = 6,      /* header ends early, or a number in it goes on after four bytes; offset of that number */
-    AFS_VERSION = 7,   /* version not 1 or 2; place 0 */
+    AFS_VERSION = 7,   /* version not 1; place 0 */
     AFS_PART = 8,      /* head of a part not legal, or a number in it goes on after four bytes; offset of the part */
     AFS_PAD = 9,       /* a padding bit set; offset of the part */
-    AFS_FIT = 10,      /* bits of a part run out or are left over; offset of the part; only from decoding and checking */
-    AFS_ASK = 11,      /* level, plane or halvings asked for not legal; place 0; only from serving and afs_nearness() */
+    AFS_FIT = 10,      /* bits of a part run out or are left over; offset of the part; only from decoding */
+    AFS_ASK = 11,      /* level or plane asked for not legal; place 0; only from serving */
     AFS_LONGFORM = 12, /* a number in long form; its offset if it is in the header, else that of its part */
-    AFS_GREY = 13,     /* no grey file, or cut short; place 0; only from calls that read one */
+    AFS_GREY = 13,     /* no grey file, or cut short; place 0; only from afs_grey_size() and afs_grey_in() */
     AFS_MIXED = 14,    /* the headers of two records differ; place 0; only from joining */
-    AFS_CLASH = 15,    /* a part that two records have differs; its offset in the first; only from joining */
-    AFS_INDEX = 16,    /* an index isn't this record's, or can't be made; offset in the index; only from afs_index() and afs_serve_by() */
-    AFS_FOREIGN = 17   /* it decodes, but our coder didn't write it; place 0; only from afs_check() */
+    AFS_CLASH = 15     /* a part that two records have differs; its offset in the first; only from joining */
 };
 
 /*
  * PYRAMIDS
  *
- * Width and height are 4 to 4096, both multiples of 2^(N+1); N, the number of
- * decompositions, is 1 to 8. So at N = 8 they are 512 at least. The coefficients
- * stand row by row: row i, column j has index i x width + j. The coarsest level,
- * N + 1, is the top left block of height / 2^N rows and width / 2^N columns;
- * level k, 1 to N, is what lies in the first height / 2^(k-1) rows and
- * width / 2^(k-1) columns and not in the first height / 2^k rows and
- * width / 2^k columns.
- *
- * Parts have a part level, 1 to K. In a record of version 1, which afs_code()
- * makes, K is N + 1: every level has parts of its own. In one of version 2, which
- * afs_code_levels() makes, K is 1 to N + 1, and the levels K to N + 1 are one
- * part level, K: a coefficient of level k belongs to part level k where k is
- * under K, and else to K. Serving, reached planes, counts and the order of parts
- * go by part level; below, the level of a part is its part level. With K = N + 1
- * both versions have the same parts, byte for byte.
+ * Width and height are 4 to 512, both multiples of 2^(N+1); N, the number of
+ * decompositions, is 1 to 5. The coefficients stand row by row: row i, column
+ * j has index i x width + j. The coarsest level, N + 1, is the top left block
+ * of height / 2^N rows and width / 2^N columns; level k, 1 to N, is what lies
+ * in the first height / 2^(k-1) rows and width / 2^(k-1) columns and not in
+ * the first height / 2^k rows and width / 2^k columns.
  */
-enum {
-    AFS_LEAST_SIDE = 4,
-    AFS_GREATEST_SIDE = 4096,
-    AFS_MOST_DECOMPOSITIONS = 8
-};
 
 /*
  * MEMORY BEFORE A CALL
  *
  * Each length counts elements, not bytes. The caller keeps the slices that it
  * lends apart: no byte of one may belong to another, but for the two records of
- * afs_join(), which are both only read, and record and index of
- * afs_serve_by(). Each is aligned as its type is. Nobody
+ * afs_join(), which are both only read. Each is aligned as its type is. Nobody
  * writes to any of them while the call runs. A pointer may be NULL where its
  * length is 0.
  *
@@ -151,28 +113,19 @@ enum {
  * For a pyramid of w x h, as constants where w and h are:
  *
  *   AFS_CODE_BOUND(w, h)   bytes in which every record that afs_code() makes of
- *                          such a pyramid has room: 6 x w x h + 1,100
- *   AFS_GREY_BOUND(w, h)   bytes in which the file that afs_grey_out() makes of
- *                          it has room: w x h + 17
+ *                          such a pyramid has room: 6 x w x h + 640
  *   AFS_WORK(w, h)         numbers of workspace that coding and decoding need,
  *                          and reading and writing grey files: 4 x w x h.
  *                          Without parentheses AFS_WORK is the refusal of a
  *                          workspace that is shorter.
- *
- * For an index, of whatever record:
- *
- *   AFS_INDEX_BOUND        bytes in which every index has room: 4, and 10 for
- *                          each of the parts that a record can have
  */
 #ifdef __cplusplus
 #define AFS_SIDE_(n) static_cast<size_t>(n)
 #else
 #define AFS_SIDE_(n) ((size_t)(n))
 #endif
-#define AFS_CODE_BOUND(w, h) (6 * AFS_SIDE_(w) * AFS_SIDE_(h) + 1100)
-#define AFS_GREY_BOUND(w, h) (AFS_SIDE_(w) * AFS_SIDE_(h) + 17)
+#define AFS_CODE_BOUND(w, h) (6 * AFS_SIDE_(w) * AFS_SIDE_(h) + 640)
 #define AFS_WORK(w, h) (4 * AFS_SIDE_(w) * AFS_SIDE_(h))
-#define AFS_INDEX_BOUND 1534
 
 /*
  * ANSWER OF CODING
@@ -199,8 +152,8 @@ enum {
  *
  *   pyramid, pyramid_len   the coefficients, exactly width x height of them;
  *                          only read
- *   width, height          4 to 4096
- *   decompositions         N, 1 to 8
+ *   width, height          4 to 512
+ *   decompositions         N, 1 to 5
  *   out, out_len           where the record goes; AFS_CODE_BOUND(width, height)
  *                          bytes are always enough
  *   work, work_len         workspace, at least AFS_WORK(width, height) numbers
@@ -214,7 +167,7 @@ enum {
  *
  *   5 ROOM     answer_len is under 3. This alone is judged before all else,
  *              and only returned: the answer itself is all 0.
- *   1 SIZE     decompositions not 1 to 8, or width or height not 4 to 4096 or
+ *   1 SIZE     decompositions not 1 to 5, or width or height not 4 to 512 or
  *              not a multiple of 2^(N+1). Place 0.
  *   2 LENGTH   pyramid_len is not exactly width x height. Place 0.
  *   3 WORK     work_len is under 4 x width x height. Place 0.
@@ -241,11 +194,11 @@ enum {
  *   uint8_t out[AFS_CODE_BOUND(4, 4)];
  *   uint32_t work[AFS_WORK(4, 4)];
  *   uint64_t answer[AFS_CODED_NUMBERS];
- *   if (afs_code(pyramid, 16, 4, 4, 1, out, 1196, work, 64, answer, 3) == AFS_ACCEPTED)
+ *   if (afs_code(pyramid, 16, 4, 4, 1, out, 736, work, 64, answer, 3) == AFS_ACCEPTED)
  *       store(out, answer[AFS_CODED_LENGTH]);
  *
  * answers 0, 0, 30, and `out` holds this record of 30 bytes, of six parts, and
- * then 1,166 bytes of 0:
+ * then 706 bytes of 0:
  *
  *   01 04 04 01 03                  version 1, 4 x 4, N = 1, 3 planes
  *   02 02 05 80                     plane 2, level 2, 5 bits
@@ -265,43 +218,10 @@ uint64_t afs_code(const int32_t *pyramid, size_t pyramid_len,
                   uint64_t *answer, size_t answer_len);
 
 /*
- * afs_code_levels() - make the record of a pyramid, with fewer levels.
- *
- * As afs_code(), but for the record's version, 2, and its parts, which are of
- * part levels 1 to `levels`. Each part less saves its head and the padding of its
- * body. All of the pyramid is there as before, and each plane has as many bits.
- *
- *   levels   K, 1 to N + 1
- *
- * All else is as in afs_code(), with the same answer, and with one more cause of
- *
- *   1 SIZE     levels not 1 to decompositions + 1. Place 0.
- *
- * `levels` is never truncated either.
- *
- * Example. The pyramid of the example at afs_code(), in one level,
- *
- *   if (afs_code_levels(pyramid, 16, 4, 4, 1, 1, out, 1196, work, 64, answer, 3) == AFS_ACCEPTED)
- *       store(out, answer[AFS_CODED_LENGTH]);
- *
- * answers 0, 0, 20, and `out` holds this record of three parts and then 0:
- *
- *   02 04 04 01 03 01               version 2, 4 x 4, N = 1, 3 planes, K = 1
- *   02 01 08 80                     plane 2, level 1, 8 bits
- *   01 01 0D 48 C0                  plane 1, level 1, 13 bits
- *   00 01 10 C1 81                  plane 0, level 1, 16 bits
- */
-uint64_t afs_code_levels(const int32_t *pyramid, size_t pyramid_len,
-                         uint64_t width, uint64_t height, uint64_t decompositions, uint64_t levels,
-                         uint8_t *out, size_t out_len,
-                         uint32_t *work, size_t work_len,
-                         uint64_t *answer, size_t answer_len);
-
-/*
  * ANSWER OF SERVING
  *
- * Where each number stands in the answers of afs_serve() and afs_serve_planes(),
- * and how many there are. An answer may be longer; what is beyond is set to 0.
+ * Where each number stands in the answer of afs_serve(), and how many there
+ * are. An answer may be longer; what is beyond is set to 0.
  */
 enum {
     AFS_SERVED_NUMBER = 0, /* one of the numbers above, the same as is returned */
@@ -321,7 +241,7 @@ enum {
  * the larger plane of both; only the tail differs, as the result has none.
  *
  *   record, record_len   the record; only read
- *   level                the finest level kept, 1 to K; 1 keeps all levels
+ *   level                the finest level kept, 1 to N + 1; 1 keeps all levels
  *   plane                the lowest plane kept, 0 to the number of planes that
  *                        the header tells; 0 keeps all planes, the number of
  *                        planes keeps the header alone
@@ -341,19 +261,18 @@ enum {
  *              and only returned: the answer itself is all 0.
  *   6 HEAD     the version's number ends early or goes on after four bytes.
  *              Place 0. If it is in long form, 12 LONGFORM instead.
- *   7 VERSION  the version is not 1 or 2. Place 0.
- *   6 HEAD     one of the others in the header (width, height, decompositions,
- *              planes, and in version 2 K) ends early or goes on after four
+ *   7 VERSION  the version is not 1. Place 0.
+ *   6 HEAD     one of the four others in the header (width, height,
+ *              decompositions, planes) ends early or goes on after four
  *              bytes. Place: the offset where it begins, or would begin: the
  *              length of the record if that ends between two of them. If it is
  *              in long form, 12 LONGFORM instead, with the same place.
- *   1 SIZE     decompositions not 1 to 8, or width or height not 4 to 4096 or
- *              not a multiple of 2^(N+1), or planes over 17, or K not 1 to N + 1.
- *              Place 0.
+ *   1 SIZE     decompositions not 1 to 5, or width or height not 4 to 512 or
+ *              not a multiple of 2^(N+1), or planes over 17. Place 0.
  *   11 ASK     `level` or `plane` is not legal for this record. Place 0.
  *   8 PART     in the first part at fault: a number of its head goes on after
  *              four bytes; or the head is there, and its plane is not under the
- *              number of planes, its level not 1 to K, its place in the
+ *              number of planes, its level not 1 to N + 1, its place in the
  *              order not after the part before it, or its bit count over
  *              4 x width x height (even if the body is cut off). Place: the
  *              offset of the part. If the first of its three numbers that has
@@ -397,54 +316,6 @@ uint64_t afs_serve(const uint8_t *record, size_t record_len,
                    uint64_t *answer, size_t answer_len);
 
 /*
- * afs_serve_planes() - cut a smaller version out of a record, with a plane for
- * each level.
- *
- * As afs_serve(), but for what is asked for: a part of level k is kept where its
- * plane is at least planes[k - 1]. Served for one request and then for another it
- * is the same bytes as served once for the larger plane of each level.
- * afs_serve() for a level and a plane is this call with the number of planes for
- * every finer level, and that plane from there on.
- *
- *   record, record_len   the record; only read
- *   planes, planes_len   a plane for each of the record's levels, level 1 first:
- *                        just K of them, each 0 to the number of planes that the
- *                        header tells; 0 keeps all of a level, the number of
- *                        planes nothing of it; only read
- *   out, out_len         where the result goes; record_len is always enough
- *   answer, answer_len   where the answer goes, at least AFS_SERVED_NUMBERS
- *
- * Planes may rise toward the coarse. That is wasteful, as parts of a finer level
- * are then not usable, but it is not refused: decoding counts them as skipped.
- * Where they don't, each level of what was served reaches the larger of the plane
- * asked for it and the plane that the record had reached.
- *
- * All else is as in afs_serve(), the numbers and their order too, but for
- *
- *   11 ASK     planes_len is not K, or a plane is over the number of planes.
- *              Place 0.
- *
- * No plane is ever truncated: 2^32 is not 0, but ASK.
- *
- * Example. With the record of 30 bytes that stands at afs_code(),
- *
- *   const uint64_t planes[2] = {2, 0};
- *   uint8_t out[30];
- *   uint64_t answer[AFS_SERVED_NUMBERS];
- *   if (afs_serve_planes(record, 30, planes, 2, out, 30, answer, 4) == AFS_ACCEPTED)
- *       send(out, answer[AFS_SERVED_LENGTH]);
- *
- * keeps of level 1 plane 2 alone, and all of level 2. It answers 0, 0, 21, 0, and
- * `out` holds these 21 bytes and then 9 of 0:
- *
- *   01 04 04 01 03  02 02 05 80  02 01 03 00  01 02 05 40  00 02 05 C0
- */
-uint64_t afs_serve_planes(const uint8_t *record, size_t record_len,
-                          const uint64_t *planes, size_t planes_len,
-                          uint8_t *out, size_t out_len,
-                          uint64_t *answer, size_t answer_len);
-
-/*
  * ANSWER OF JOINING
  *
  * Where each number stands in the answer of afs_join(), and how many there
@@ -469,9 +340,7 @@ enum {
  * Of two selections of one record that afs_code() wrote, by serving or by loss
  * and each perhaps cut off, the result is the parts of it that either has; with
  * room this is never refused. What decoding promises of a selection, it
- * promises of the result. A join keeps whole parts: what a tail gave is gone in
- * it, unless that part is whole in the other record, so it may print less than
- * the record with the tail did.
+ * promises of the result.
  *
  * It doesn't matter which record is the first: where the call is accepted, it
  * is in the other order too, with the same bytes. Three may be joined in either
@@ -503,7 +372,7 @@ enum {
  *              of the second record, likewise. Places are offsets in the
  *              second. The answer doesn't tell which record is at fault, but
  *              afs_survey() says the same of each.
- *   14 MIXED   the headers differ; so do those of versions 1 and 2. Place 0.
+ *   14 MIXED   the headers differ. Place 0.
  *   15 CLASH   a part that is there in both differs, in bit count or body.
  *              Place: the offset, in the first record, of the first such part.
  *   5 ROOM     the whole result is longer than out_len. Place 0.
@@ -538,167 +407,6 @@ uint64_t afs_join(const uint8_t *first, size_t first_len,
                   uint64_t *answer, size_t answer_len);
 
 /*
- * AN INDEX BESIDE A RECORD
- *
- * An index is the record's length and then, for each of its whole parts, plane,
- * level, offset and length of head and body together: numbers in the form that
- * a record's numbers have, groups of seven bits, lowest first, at most four
- * bytes, shortest form only. A tail has no entry; the length counts it.
- *
- * The index of the record of 30 bytes that stands at afs_code() has 25:
- *
- *   1E                              30 bytes
- *   02 02 05 04                     plane 2, level 2: 4 bytes from byte 5 on
- *   02 01 09 04                     plane 2, level 1: 4 bytes from byte 9 on
- *   01 02 0D 04                     plane 1, level 2: 4 bytes from byte 13 on
- *   01 01 11 04                     plane 1, level 1: 4 bytes from byte 17 on
- *   00 02 15 04                     plane 0, level 2: 4 bytes from byte 21 on
- *   00 01 19 05                     plane 0, level 1: 5 bytes from byte 25 on
- *
- * ANSWERS OF AN INDEX
- *
- * Where each number stands in the answer of afs_index() and in that of
- * afs_serve_by(), and how many there are. An answer may be longer; what is
- * beyond is set to 0.
- */
-enum {
-    AFS_INDEXED_NUMBER = 0, /* one of the numbers above, the same as is returned */
-    AFS_INDEXED_PLACE = 1,  /* place of a refusal, else 0 */
-    AFS_INDEXED_LENGTH = 2, /* bytes written to the front of the output, 0 if refused */
-    AFS_INDEXED_NUMBERS = 3 /* the least length of the answer */
-};
-
-enum {
-    AFS_BY_INDEX_NUMBER = 0, /* one of the numbers above, the same as is returned */
-    AFS_BY_INDEX_PLACE = 1,  /* place of a refusal, else 0 */
-    AFS_BY_INDEX_LENGTH = 2, /* bytes written to the front of the output, 0 if refused */
-    AFS_BY_INDEX_NUMBERS = 3 /* the least length of the answer */
-};
-
-/*
- * afs_index() - make the index of a record.
- *
- *   record, record_len   the record; only read
- *   out, out_len         where the index goes; AFS_INDEX_BOUND bytes are always
- *                        enough
- *   answer, answer_len   where the answer goes, at least AFS_INDEXED_NUMBERS
- *
- * Returns the number, which is also answer[AFS_INDEXED_NUMBER] where the answer
- * is long enough.
- *
- * Numbers, in the order in which they are judged; the first that is due is
- * given:
- *
- *   5 ROOM     answer_len is under 3. This alone is judged before the record,
- *              and only returned: the answer itself is all 0.
- *   6, 12, 7, 1; 8, 12, 9
- *              of the record: its header, then its first part at fault, as
- *              afs_serve() judges them, in its order and with its places.
- *   16 INDEX   the record has 2^28 bytes or more, which no number can hold.
- *              Place 0.
- *   5 ROOM     the whole index is longer than out_len. Place 0.
- *
- * Memory after the call.
- *
- *   outcome            out                          answer
- *   accepted           the index, 0 after it        0, 0, length, 0 ...
- *   refused            all 0                        number, place, 0, 0 ...
- *   answer too short   all 0                        all 0
- *
- * Example. With the record of 30 bytes that stands at afs_code(),
- *
- *   uint8_t out[AFS_INDEX_BOUND];
- *   uint64_t answer[AFS_INDEXED_NUMBERS];
- *   if (afs_index(record, 30, out, AFS_INDEX_BOUND, answer, 3) == AFS_ACCEPTED)
- *       store(out, answer[AFS_INDEXED_LENGTH]);
- *
- * answers 0, 0, 25, and `out` holds the 25 bytes above and then 0. With an
- * `out` of 24 bytes the answer is 5, 0, 0, and those are all 0. Of the record's
- * first 29 bytes, whose last 4 are a tail, the index is 1D and the first five
- * entries, 21 bytes.
- */
-uint64_t afs_index(const uint8_t *record, size_t record_len,
-                   uint8_t *out, size_t out_len,
-                   uint64_t *answer, size_t answer_len);
-
-/*
- * afs_serve_by() - cut a smaller version out of a record, by an index.
- *
- * Writes to `out` the header of the record and the stretches that the entries
- * of the index with level >= `level` and plane >= `plane` name, unaltered and
- * in their order. By the index that afs_index() made of this record that is
- * what afs_serve() writes, for every request, with a tail or without; the tail
- * isn't told, as nobody looked for one.
- *
- * Of the record only the header, 12 bytes at each offset of an entry that is
- * kept, and the stretches that are copied are looked at: a caller who has read
- * only these may leave the rest of it 0. record_len is the whole record's.
- *
- * Whatever index is lent, be it another record's or a forged one, what is
- * copied is still a stretch of this record that begins with the head named, a
- * legal one, and has the length which that implies; the stretches are in order.
- * So the result is never refused with 8. What a forged index can do: leave
- * parts out; name a head that stands inside of a body, or across two parts, so
- * that a stretch is served that was never a part; name one whose padding is
- * set, so that reading the result gives 9. A seal tells that (docs/FORMAT.md).
- * The record's own parts are not walked over: no 8, no 9.
- *
- *   record, record_len   the record; only read
- *   index, index_len     the index; only read
- *   level, plane         as afs_serve() has them
- *   out, out_len         where the result goes; record_len is always enough by
- *                        the record's own index
- *   answer, answer_len   where the answer goes, at least AFS_BY_INDEX_NUMBERS
- *
- * Returns the number, which is also answer[AFS_BY_INDEX_NUMBER] where the
- * answer is long enough.
- *
- * Numbers, in the order in which they are judged; the first that is due is
- * given:
- *
- *   5 ROOM     answer_len is under 3. This alone is judged before the record,
- *              and only returned: the answer itself is all 0.
- *   6, 12, 7, 1
- *              of the record's header, as afs_serve() judges it.
- *   11 ASK     `level` or `plane` is not legal for this record. Place 0.
- *   16 INDEX   the index's first number ends early, is malformed, or isn't
- *              record_len. Place 0. Then of the first entry at fault: one of
- *              its four numbers ends early or is malformed; its plane and level
- *              don't come after those of the entry before it; its stretch isn't
- *              inside of the record; or it is kept, and at its offset there is
- *              no legal head of its plane, its level and its length. Place: the
- *              offset of the entry in the index.
- *   5 ROOM     the whole result is longer than out_len. Place 0.
- *
- * Of an entry that isn't kept only form, order and the record's end are judged.
- *
- * Memory after the call.
- *
- *   outcome            out                          answer
- *   accepted           the result, 0 after it       0, 0, length, 0 ...
- *   refused            all 0                        number, place, 0, 0 ...
- *   answer too short   all 0                        all 0
- *
- * `level` and `plane` are never truncated: 2^32 + 1 is not level 1, but ASK.
- *
- * Example. With that record and its index above,
- *
- *   uint8_t out[30];
- *   uint64_t answer[AFS_BY_INDEX_NUMBERS];
- *   if (afs_serve_by(record, 30, index, 25, 2, 0, out, 30, answer, 3) == AFS_ACCEPTED)
- *       send(out, answer[AFS_BY_INDEX_LENGTH]);
- *
- * answers 0, 0, 17, and `out` holds the 17 bytes that stand at afs_serve() and
- * then 13 of 0. By the index 1E 02 02 05 05, which says that the first part has
- * 5 bytes, the answer is 16, 1, 0; by 1F and anything, 16, 0, 0.
- */
-uint64_t afs_serve_by(const uint8_t *record, size_t record_len,
-                      const uint8_t *index, size_t index_len,
-                      uint64_t level, uint64_t plane,
-                      uint8_t *out, size_t out_len,
-                      uint64_t *answer, size_t answer_len);
-
-/*
  * ANSWER OF A SURVEY
  *
  * Where each number stands in the answer of afs_survey(), and how many there
@@ -713,8 +421,7 @@ enum {
     AFS_SURVEYED_PLANES = 5,         /* its number of planes */
     AFS_SURVEYED_PARTS = 6,          /* how many parts are there whole */
     AFS_SURVEYED_TAIL = 7,           /* bytes of an incomplete part at the record's end */
-    AFS_SURVEYED_LEVELS = 8,         /* its K: N + 1 in version 1 */
-    AFS_SURVEYED_NUMBERS = 9         /* the least length of the answer */
+    AFS_SURVEYED_NUMBERS = 8         /* the least length of the answer */
 };
 
 /*
@@ -722,7 +429,7 @@ enum {
  *
  * Reads the header and the heads of all parts, and judges them and their
  * padding as afs_serve() does for level 1 and plane 0. A record of every part
- * has K x planes of them; which are there, only decoding tells.
+ * has (N + 1) x planes of them; which are there, only decoding tells.
  *
  *   record, record_len   the record; only read
  *   answer, answer_len   where the answer goes, at least AFS_SURVEYED_NUMBERS
@@ -733,7 +440,7 @@ enum {
  * Numbers, in the order in which they are judged; the first that is due is
  * given:
  *
- *   5 ROOM     answer_len is under 9. This alone is judged before the record,
+ *   5 ROOM     answer_len is under 8. This alone is judged before the record,
  *              and only returned: the answer itself is all 0.
  *   6, 12, 7, 1
  *              as afs_serve() judges the header, in its order and with its
@@ -750,21 +457,21 @@ enum {
  * Memory after the call.
  *
  *   outcome            answer
- *   accepted           0, 0, width, height, N, planes, parts, tail, K, 0 ...
- *   refused            number, place, 0, 0, 0, 0, 0, 0, 0, 0 ...
+ *   accepted           0, 0, width, height, N, planes, parts, tail, 0 ...
+ *   refused            number, place, 0, 0, 0, 0, 0, 0, 0 ...
  *   answer too short   all 0
  *
  * Example. With the record of 30 bytes that stands at afs_code(),
  *
  *   uint64_t told[AFS_SURVEYED_NUMBERS];
- *   if (afs_survey(record, 30, told, 9) == AFS_ACCEPTED)
+ *   if (afs_survey(record, 30, told, 8) == AFS_ACCEPTED)
  *       lend(told[AFS_SURVEYED_WIDTH] * told[AFS_SURVEYED_HEIGHT],
  *            AFS_WORK(told[AFS_SURVEYED_WIDTH], told[AFS_SURVEYED_HEIGHT]));
  *
- * answers 0, 0, 4, 4, 1, 3, 6, 0, 2: 4 x 4 coefficients in 1 decomposition, 3
- * planes, all 6 parts, no tail, 2 levels. Of the record's first 29 bytes the last
- * 4 are a tail: the answer is 0, 0, 4, 4, 1, 3, 5, 4, 2. Of its first 4 it is 6,
- * 4 and seven times 0, as the number of planes is missing.
+ * answers 0, 0, 4, 4, 1, 3, 6, 0: 4 x 4 coefficients in 1 decomposition, 3
+ * planes, all 6 parts, no tail. Of the record's first 29 bytes the last 4 are a
+ * tail: the answer is 0, 0, 4, 4, 1, 3, 5, 4. Of its first 4 it is 6, 4 and six
+ * times 0, as the number of planes is missing.
  */
 uint64_t afs_survey(const uint8_t *record, size_t record_len,
                     uint64_t *answer, size_t answer_len);
@@ -779,10 +486,10 @@ enum {
     AFS_DECODED_NUMBER = 0,   /* one of the numbers above, the same as is returned */
     AFS_DECODED_PLACE = 1,    /* place of a refusal, else 0 */
     AFS_DECODED_TAIL = 2,     /* bytes of an incomplete part at the record's end, 0 if refused */
-    AFS_DECODED_REACHED = 3,  /* nine reached planes, level 1 first; 0 beyond level K, 0 if refused */
-    AFS_DECODED_SKIPPED = 12, /* nine counts of parts that are there and not usable, likewise */
-    AFS_DECODED_NUMBERS = 21, /* the least length of the answer */
-    AFS_LEVEL_PLACES = 9      /* how many reached planes there are, and how many counts */
+    AFS_DECODED_REACHED = 3,  /* six reached planes, level 1 first; 0 beyond level N + 1, 0 if refused */
+    AFS_DECODED_SKIPPED = 9,  /* six counts of parts that are there and not usable, likewise */
+    AFS_DECODED_NUMBERS = 15, /* the least length of the answer */
+    AFS_LEVEL_PLACES = 6      /* how many reached planes there are, and how many counts */
 };
 
 /*
@@ -791,26 +498,20 @@ enum {
  * Where a record was made of a picture, by afs_grey_in() and afs_code(), and
  * parts of it were left out or lost and its end cut off since, a pixel that
  * afs_grey_out() prints of what afs_decode() made is at most E grey values from
- * the recorded one. With m_k the reached plane of the part level that level k
- * belongs to: k where k is under K, else K,
+ * the recorded one. With m_k the reached plane of level k,
  *
  *   E = 2^m_(N+1) - 1, and for each k of 1 to N with m_k > 0: + 3 x 2^m_k
  *
  * and never over 255. In the picture halved S times the sum begins at k = S + 1,
  * and the recorded pixel is that of the whole record's picture halved likewise.
- * Proved as pixel-near, in crates/pictures/specs/Promises/Pictures. For other
+ * Proved as pixel-near, in crates/pictures/specs/Laws/PixelNear. For other
  * pyramids, and where a byte was changed or lost inside a part, there is no such
  * bound.
  *
- * The sum goes over all N + 1 levels, whatever K is; afs_survey() tells K.
- *
  *   const uint64_t *reached = answer + AFS_DECODED_REACHED;
- *   uint64_t top = told[AFS_SURVEYED_LEVELS];
- *   uint64_t e = ((uint64_t)1 << reached[top - 1]) - 1;
- *   for (uint64_t k = s + 1; k <= n; k++) {
- *       uint64_t m = reached[(k < top ? k : top) - 1];
- *       e += m > 0 ? (uint64_t)3 << m : 0;
- *   }
+ *   uint64_t e = ((uint64_t)1 << reached[n]) - 1;
+ *   for (uint64_t k = s + 1; k <= n; k++)
+ *       e += reached[k - 1] > 0 ? (uint64_t)3 << reached[k - 1] : 0;
  *   e = e < 255 ? e : 255;
  */
 
@@ -862,7 +563,7 @@ enum {
  * Numbers, in the order in which they are judged; the first that is due is
  * given:
  *
- *   5 ROOM     answer_len is under 21. This alone is judged before the record,
+ *   5 ROOM     answer_len is under 15. This alone is judged before the record,
  *              and only returned: the answer itself is all 0.
  *   6, 12, 7, 1
  *              as afs_serve() judges the header, in its order and with its
@@ -885,10 +586,10 @@ enum {
  *
  * Memory after the call.
  *
- *   outcome            out           answer                                               work
- *   accepted           the pyramid   0, 0, tail, nine reached planes, nine counts, 0 ...  all 0
- *   refused            all 0         number, place, 0 ...                                 all 0
- *   answer too short   all 0         all 0                                                all 0
+ *   outcome            out           answer                                             work
+ *   accepted           the pyramid   0, 0, tail, six reached planes, six counts, 0 ...  all 0
+ *   refused            all 0         number, place, 0 ...                               all 0
+ *   answer too short   all 0         all 0                                              all 0
  *
  * A record that no coder wrote may decode to magnitudes over 65535, up to
  * 131071.
@@ -898,13 +599,13 @@ enum {
  *   int32_t out[16];
  *   uint32_t work[64];
  *   uint64_t answer[AFS_DECODED_NUMBERS];
- *   if (afs_decode(record, 30, out, 16, work, 64, answer, 21) == AFS_ACCEPTED)
+ *   if (afs_decode(record, 30, out, 16, work, 64, answer, 15) == AFS_ACCEPTED)
  *       draw(out, answer + AFS_DECODED_REACHED);
  *
- * answers 21 times 0, and `out` holds the pyramid that stands there. Of the
- * record's first 29 bytes the last 4 are a tail: the answer is 0, 0, 4, then 1
- * and eight times 0, so level 1 got down to plane 1 and level 2 to plane 0, then
- * nine times 0, as no part is skipped, and `out` holds
+ * answers 15 times 0, and `out` holds the pyramid that stands there. Of the
+ * record's first 29 bytes the last 4 are a tail: the answer is 0, 0, 4, then
+ * 1, 0, 0, 0, 0, 0, so level 1 got down to plane 1 and level 2 to plane 0, then
+ * six times 0, as no part is skipped, and `out` holds
  *
  *    4 -1  0  0
  *    2  0  0 -2
@@ -915,10 +616,10 @@ enum {
  * level 1.
  *
  * Where the part of plane 1, level 2 is lost, the 26 other bytes answer 0, 0, 0,
- * then 2, 2 and seven times 0, then 2, 1 and seven times 0: of level 1 two parts
- * are there and not usable, of level 2 one.
+ * then 2, 2, 0, 0, 0, 0, then 2, 1, 0, 0, 0, 0: of level 1 two parts are there
+ * and not usable, of level 2 one.
  *
- * With an `out` of 15 numbers the answer is 2 and 20 times 0, and those are all
+ * With an `out` of 15 numbers the answer is 2 and 14 times 0, and those are all
  * 0.
  */
 uint64_t afs_decode(const uint8_t *record, size_t record_len,
@@ -927,82 +628,13 @@ uint64_t afs_decode(const uint8_t *record, size_t record_len,
                     uint64_t *answer, size_t answer_len);
 
 /*
- * ANSWER OF A CHECK
- *
- * Where each number stands in the answer of afs_check(), and how many there
- * are. An answer may be longer; what is beyond is set to 0.
- */
-enum {
-    AFS_CHECKED_NUMBER = 0, /* one of the numbers above, the same as is returned */
-    AFS_CHECKED_PLACE = 1,  /* place of a refusal, else 0 */
-    AFS_CHECKED_NUMBERS = 2 /* the least length of the answer */
-};
-
-/*
- * afs_check() - tell whether our coder wrote a record, before its pyramid is
- * deleted.
- *
- * A record is accepted exactly if some pyramid that coding takes is coded to just
- * these bytes, by afs_code() or afs_code_levels(), or was by their count of
- * planes before 0.2.0. With the answer comes that pyramid; there is no other.
- * Proved as check-exactly and check-one, in crates/checks/specs/Laws/Checked.
- *
- *   record, record_len   the record; only read
- *   out, out_len         where the pyramid goes, exactly width x height
- *   work, work_len       the workspace, at least AFS_WORK(width, height)
- *   answer, answer_len   where the answer goes, at least AFS_CHECKED_NUMBERS
- *
- * Returns the number, which is also answer[AFS_CHECKED_NUMBER] where the answer
- * is long enough.
- *
- * Numbers, in the order in which they are judged; the first that is due is
- * given:
- *
- *   5 ROOM     answer_len is under 2. This alone is judged before the record,
- *              and only returned: the answer itself is all 0.
- *   6, 12, 7, 1; 2, 3; 8, 12, 9, 10
- *              as afs_decode() judges record, output and workspace, in its order
- *              and with its places.
- *   17 FOREIGN it decodes, but our coder didn't write it: it has a tail, a part
- *              is missing, a magnitude is over 65535, the number of planes is
- *              another, or some bit is. Place 0.
- *
- * Memory after the call.
- *
- *   outcome            out           answer              work
- *   accepted           the pyramid   0, 0, 0 ...         all 0
- *   refused            all 0         number, place, 0 .. all 0
- *   answer too short   all 0         all 0               all 0
- *
- * Example. With the record of 30 bytes that stands at afs_code(),
- *
- *   int32_t out[16];
- *   uint32_t work[64];
- *   uint64_t answer[AFS_CHECKED_NUMBERS];
- *   if (afs_check(record, 30, out, 16, work, 64, answer, 2) == AFS_ACCEPTED)
- *       forget(pyramid);
- *
- * answers 0, 0, and `out` holds the pyramid that stands there. Of the record's
- * first 29 bytes, of what is served of it, and of the 13 bytes
- *
- *   01 04 04 01 01  00 02 05 80  00 01 07 80
- *
- * it is 17, 0: there a set is opened in which nothing is found, where the coder
- * writes 00 01 03 00.
- */
-uint64_t afs_check(const uint8_t *record, size_t record_len,
-                   int32_t *out, size_t out_len,
-                   uint32_t *work, size_t work_len,
-                   uint64_t *answer, size_t answer_len);
-
-/*
  * GREY FILES
  *
  * Pictures come in and go out as binary grey files of Netpbm's: P5, maxval 255.
  *
  *   file     'P' '5' gap width gap height gap maxval end pixels rest
  *   gap      one or more of: a blank; a comment
- *   blank    space, TAB, LF, VT, FF or CR
+ *   blank    space, TAB, LF or CR
  *   comment  '#' and all bytes up to the next LF or CR, which is a blank then
  *   number   (width, height, maxval) digits; zeros in front don't matter
  *   end      one blank; or a comment and the LF or CR that ended it
@@ -1072,7 +704,7 @@ uint64_t afs_grey_size(const uint8_t *file, size_t file_len,
  * afs_grey_in() - make the pyramid of a grey file.
  *
  *   file, file_len       the file; only read
- *   decompositions       N, 1 to 8
+ *   decompositions       N, 1 to 5
  *   out, out_len         where the pyramid goes: exactly width x height of the
  *                        file, row by row
  *   work, work_len       workspace, at least 4 x width x height numbers
@@ -1087,7 +719,7 @@ uint64_t afs_grey_size(const uint8_t *file, size_t file_len,
  *   5 ROOM     answer_len is under 4. This alone is judged before all else,
  *              and only returned: the answer itself is all 0.
  *   13 GREY    as afs_grey_size(). Place 0.
- *   1 SIZE     decompositions not 1 to 8, or width or height not 4 to 4096 or
+ *   1 SIZE     decompositions not 1 to 5, or width or height not 4 to 512 or
  *              not a multiple of 2^(N+1). Place 0.
  *   2 LENGTH   out_len is not exactly width x height. Place 0.
  *   3 WORK     work_len is under 4 x width x height. Place 0.
@@ -1148,10 +780,10 @@ enum {
  *
  *   pyramid, pyramid_len   the coefficients, exactly width x height of them;
  *                          only read
- *   width, height          4 to 4096
- *   decompositions         N, 1 to 8
- *   out, out_len           where the file goes; AFS_GREY_BOUND(width, height)
- *                          bytes are always enough
+ *   width, height          4 to 512
+ *   decompositions         N, 1 to 5
+ *   out, out_len           where the file goes; width x height + 15 bytes are
+ *                          always enough
  *   work, work_len         workspace, at least 4 x width x height numbers
  *   answer, answer_len     where the answer goes, at least
  *                          AFS_GREY_WRITTEN_NUMBERS
@@ -1164,7 +796,7 @@ enum {
  *
  *   5 ROOM     answer_len is under 4. This alone is judged before all else,
  *              and only returned: the answer itself is all 0.
- *   1 SIZE     decompositions not 1 to 8, or width or height not 4 to 4096 or
+ *   1 SIZE     decompositions not 1 to 5, or width or height not 4 to 512 or
  *              not a multiple of 2^(N+1). Place 0.
  *   2 LENGTH   pyramid_len is not exactly width x height. Place 0.
  *   3 WORK     work_len is under 4 x width x height. Place 0.
@@ -1183,14 +815,14 @@ enum {
  *
  * Example. With the pyramid of 4 x 4 that stands at afs_grey_in(),
  *
- *   uint8_t out[AFS_GREY_BOUND(4, 4)];
- *   uint32_t work[AFS_WORK(4, 4)];
+ *   uint8_t out[31];
+ *   uint32_t work[64];
  *   uint64_t answer[AFS_GREY_WRITTEN_NUMBERS];
- *   if (afs_grey_out(pyramid, 16, 4, 4, 1, out, 33, work, 64, answer, 4) == AFS_ACCEPTED)
+ *   if (afs_grey_out(pyramid, 16, 4, 4, 1, out, 31, work, 64, answer, 4) == AFS_ACCEPTED)
  *       print(out, answer[AFS_GREY_WRITTEN_LENGTH]);
  *
  * answers 0, 0, 27, 0, and `out` holds the 27 bytes that stand at
- * afs_grey_size() and then 6 of 0. An `out` of 27 bytes does as well. With one
+ * afs_grey_size() and then 4 of 0. An `out` of 27 bytes does as well. With one
  * of 26 the answer is 5, 0, 0, 0, and those are all 0.
  *
  * With the pyramid that stands at afs_code(), which was made of no picture, the
@@ -1203,197 +835,6 @@ uint64_t afs_grey_out(const int32_t *pyramid, size_t pyramid_len,
                       uint64_t width, uint64_t height, uint64_t decompositions,
                       uint8_t *out, size_t out_len,
                       uint32_t *work, size_t work_len,
-                      uint64_t *answer, size_t answer_len);
-
-/*
- * ANSWER OF THE DISTANCE
- *
- * Where each number stands in the answer of afs_nearness(), and how many there
- * are. An answer may be longer; what is beyond is set to 0.
- */
-enum {
-    AFS_NEARNESS_NUMBER = 0, /* one of the numbers above, the same as is returned */
-    AFS_NEARNESS_PLACE = 1,  /* 0 */
-    AFS_NEARNESS_MOST = 2,   /* how far a pixel may be, 0 to 255, 0 if refused */
-    AFS_NEARNESS_NUMBERS = 3 /* the least length of the answer */
-};
-
-/*
- * afs_nearness() - tell how far a printed pixel may be from the recorded one.
- *
- * For a record that was made of a grey file, whatever parts of it arrived, cut
- * anywhere: no pixel of the file that afs_grey_out() makes of what afs_decode()
- * gave is farther from the pixel in its place than this, by the planes that
- * afs_decode() told. It is the least of 255 and the sum of 2^m - 1, m being the
- * plane of level N + 1, and of 3 x 2^m for each level 1 to N whose plane m isn't
- * 0. A level from K on counts with the plane of part level K. Of the picture
- * halved s times, which the top left block gives, it is the same without levels 1
- * to s, and the distance from the same of the whole record.
- *
- *   width, height          4 to 4096
- *   decompositions         N, 1 to 8
- *   levels                 K, the number of part levels: N + 1 of a record of
- *                          version 1; afs_survey() tells it
- *   reached, reached_len   the reached planes, level 1 first, as afs_decode()
- *                          tells them: the nine numbers there do as they stand;
- *                          at least K, and what is behind these is ignored; only
- *                          read
- *   halvings               s, 0 to N - 1
- *   answer, answer_len     where the answer goes, at least AFS_NEARNESS_NUMBERS
- *
- * Returns the number, which is also answer[AFS_NEARNESS_NUMBER] where the answer
- * is long enough.
- *
- * Numbers, in the order in which they are judged; the first that is due is
- * given:
- *
- *   5 ROOM     answer_len is under 3. This alone is judged before all else,
- *              and only returned: the answer itself is all 0.
- *   1 SIZE     decompositions not 1 to 8, or width or height not 4 to 4096 or
- *              not a multiple of 2^(N+1), or levels not 1 to N + 1. Place 0.
- *   11 ASK     halvings is over N - 1, reached_len is under K, or one of the first
- *              K planes is over 17. Place 0.
- *
- * Memory after the call.
- *
- *   outcome            answer
- *   accepted           0, 0, distance, 0 ...
- *   refused            number, 0, 0, 0 ...
- *   answer too short   all 0
- *
- * No number is ever truncated.
- *
- * Example. Where level 1 of a record of 4 x 4, N = 1, got down to plane 2 and
- * level 2 to plane 0, as of the 21 bytes that stand at afs_serve_planes(),
- *
- *   const uint64_t reached[2] = {2, 0};
- *   uint64_t answer[AFS_NEARNESS_NUMBERS];
- *   afs_nearness(4, 4, 1, 2, reached, 2, 0, answer, 3);
- *
- * answers 0, 0, 12.
- */
-uint64_t afs_nearness(uint64_t width, uint64_t height, uint64_t decompositions, uint64_t levels,
-                      const uint64_t *reached, size_t reached_len, uint64_t halvings,
-                      uint64_t *answer, size_t answer_len);
-
-/*
- * PICTURES OF ANY SIZE
- *
- * A picture whose sides are not legal is widened: to the next legal size for N,
- * by repeating its last column and row. What is coded then is the widened
- * picture, and a caller who keeps the true width and height cuts what is printed
- * back to them: of a whole record every pixel is then as it was, and of what
- * arrived of one none is farther than E, as that holds for each.
- *
- * Where each number stands in the answer of afs_grey_widen() and of
- * afs_grey_cut(), and how many there are. An answer may be longer; what is beyond
- * is set to 0.
- */
-enum {
-    AFS_GREY_FRAMED_NUMBER = 0, /* one of the numbers above, the same as is returned */
-    AFS_GREY_FRAMED_PLACE = 1,  /* 0 */
-    AFS_GREY_FRAMED_LENGTH = 2, /* bytes written to the front of the output, 0 if refused */
-    AFS_GREY_FRAMED_WIDTH = 3,  /* of the picture that was written, 0 if refused */
-    AFS_GREY_FRAMED_HEIGHT = 4, /* so too */
-    AFS_GREY_FRAMED_NUMBERS = 5 /* the least length of the answer */
-};
-
-/*
- * afs_grey_widen() - make a grey file of a legal size.
- *
- * The file that is written has the lines that afs_grey_out() writes, the least
- * multiples of 2^(N+1) that are no less than width and height of the file, and
- * the pixels of the file, its last column and then its last row repeated. A
- * picture whose sides are legal for N is written as it is.
- *
- *   file, file_len       the file; only read
- *   decompositions       N, 1 to 8
- *   out, out_len         where the file goes; AFS_GREY_BOUND of the widened sides
- *                        is always enough, so of those of the file with
- *                        2^(N+1) - 1 added to each
- *   answer, answer_len   where the answer goes, at least AFS_GREY_FRAMED_NUMBERS
- *
- * Returns the number, which is also answer[AFS_GREY_FRAMED_NUMBER] where the
- * answer is long enough.
- *
- * Numbers, in the order in which they are judged; the first that is due is
- * given:
- *
- *   5 ROOM     answer_len is under 5. This alone is judged before all else,
- *              and only returned: the answer itself is all 0.
- *   13 GREY    as afs_grey_size(). Place 0.
- *   1 SIZE     decompositions not 1 to 8, or width or height of the file not
- *              1 to 4096. Place 0. No widened side is over 4096 then.
- *   5 ROOM     the whole file is longer than out_len. Place 0.
- *
- * Memory after the call.
- *
- *   outcome            out                     answer
- *   accepted           the file, 0 after it    0, 0, length, width, height, 0 ...
- *   refused            all 0                   number, 0, 0, 0, 0, 0 ...
- *   answer too short   all 0                   all 0
- *
- * `decompositions` is never truncated.
- *
- * Example. With the file of 3 x 2
- *
- *   50 35 0A 33 20 32 0A 32 35 35 0A
- *   0A 14 1E  28 32 3C
- *
- *   uint8_t out[AFS_GREY_BOUND(4, 4)];
- *   uint64_t answer[AFS_GREY_FRAMED_NUMBERS];
- *   if (afs_grey_widen(file, 17, 1, out, 33, answer, 5) == AFS_ACCEPTED)
- *       code(out, answer[AFS_GREY_FRAMED_LENGTH]);
- *
- * answers 0, 0, 27, 4, 4, and `out` holds
- *
- *   50 35 0A 34 20 34 0A 32 35 35 0A
- *   0A 14 1E 1E  28 32 3C 3C  28 32 3C 3C  28 32 3C 3C
- *
- * and then 6 of 0. With an `out` of 26 bytes the answer is 5, 0, 0, 0, 0, and
- * those are all 0.
- */
-uint64_t afs_grey_widen(const uint8_t *file, size_t file_len, uint64_t decompositions,
-                        uint8_t *out, size_t out_len,
-                        uint64_t *answer, size_t answer_len);
-
-/*
- * afs_grey_cut() - make a grey file of the top left of a picture.
- *
- *   file, file_len       the file; only read
- *   width, height        of what is kept: 1 to the file's own
- *   out, out_len         where the file goes; file_len bytes are always enough,
- *                        and AFS_GREY_BOUND(width, height) where both are under
- *                        10,000
- *   answer, answer_len   where the answer goes, at least AFS_GREY_FRAMED_NUMBERS
- *
- * Returns the number, which is also answer[AFS_GREY_FRAMED_NUMBER] where the
- * answer is long enough.
- *
- * Numbers, in the order in which they are judged; the first that is due is
- * given:
- *
- *   5 ROOM     answer_len is under 5. This alone is judged before all else,
- *              and only returned: the answer itself is all 0.
- *   13 GREY    as afs_grey_size(). Place 0.
- *   1 SIZE     width or height is 0, or over the file's. Place 0.
- *   5 ROOM     the whole file is longer than out_len. Place 0.
- *
- * Memory after the call: as after afs_grey_widen(). `width` and `height` are
- * never truncated. The file's own sides need not be legal.
- *
- * Example. With the file of 4 x 4 that stands at afs_grey_widen(),
- *
- *   uint8_t out[AFS_GREY_BOUND(3, 2)];
- *   uint64_t answer[AFS_GREY_FRAMED_NUMBERS];
- *   if (afs_grey_cut(file, 27, 3, 2, out, 23, answer, 5) == AFS_ACCEPTED)
- *       print(out, answer[AFS_GREY_FRAMED_LENGTH]);
- *
- * answers 0, 0, 17, 3, 2, and `out` holds the 17 bytes that stand there and then
- * 6 of 0. With width 5 the answer is 1, 0, 0, 0, 0.
- */
-uint64_t afs_grey_cut(const uint8_t *file, size_t file_len, uint64_t width, uint64_t height,
-                      uint8_t *out, size_t out_len,
                       uint64_t *answer, size_t answer_len);
 
 #ifdef __cplusplus

@@ -51,38 +51,9 @@ const Pair pairs[] = {
     {"512 x 512, N = 5, all zero", 512, 512, 5, "", "01 80 04 80 04 05 00"},
     {"512 x 512, N = 5", 512, 512, 5, "1",
      "01 80 04 80 04 05 01 00 06 81 02 80 " ZEROS_24 ZEROS_4 ZEROS_4 "00 05 C0 01 " ZEROS_24 NOTHING_IN_4_TO_1},
-
-    {"516 wide", 516, 4, 1, "", "01 84 04 04 01 00"},
-    {"516 high", 4, 516, 1, "", "01 04 84 04 01 00"},
-    {"4,096 wide", 4096, 4, 1, "", "01 80 20 04 01 00"},
-    {"4,096 high", 4, 4096, 1, "", "01 04 80 20 01 00"},
-    {"128 x 128, N = 6, all zero", 128, 128, 6, "", "01 80 01 80 01 06 00"},
-    {"256 x 256, N = 7, all zero", 256, 256, 7, "", "01 80 02 80 02 07 00"},
-    {"512 x 512, N = 8, all zero", 512, 512, 8, "", "01 80 04 80 04 08 00"},
-    {"512 x 512, N = 8", 512, 512, 8, "1", "01 80 04 80 04 08 01 00 09 05 80 00 08 03 00 00 07 00 00 06 00 00 05 00 " NOTHING_IN_4_TO_1},
 };
 
 const size_t pair_count = sizeof pairs / sizeof *pairs;
-
-/* 8 x 8 with N = 2, whose coefficients are found late. */
-#define LATE "0 0 0 0 0 0 0 0  0 -1 0 0 0 0 0 0  0 3 0 0 0 0 0 0  0 0 0 0 0 0 0 0  0 0 0 0 1 0 0 0  0 0 0 1 0 0 0 0  0 0 0 0 0 0 0 0  0 0 0 0 0 0 0 -4"
-#define LATE_OF_THREE                                                                                                                      \
-    "02 08 08 02 03 03 02 03 04 00 02 02 07 20 02 01 0A 88 C0 01 03 04 00 01 02 0B 05 00 01 01 08 00 00 03 05 18 00 02 09 00 80 "          \
-    "00 01 16 18 14 40"
-#define LATE_OF_TWO "02 08 08 02 03 02 02 02 0B 02 00 02 01 0A 88 C0 01 02 0F 00 50 01 01 08 00 00 02 0E 18 04 00 01 16 18 14 40"
-#define LATE_OF_ONE "02 08 08 02 03 01 02 01 15 02 11 18 01 01 17 00 0A 00 00 01 24 18 00 C0 A2 10"
-
-const MergedPair merged_pairs[] = {
-    {{"W9: the example in two levels", 4, 4, 1, EXAMPLE_PYRAMID, EXAMPLE_OF_TWO}, 2},
-    {{"W9: the example in one", 4, 4, 1, EXAMPLE_PYRAMID, EXAMPLE_OF_ONE}, 1},
-    {{"W9: no planes", 4, 4, 1, "", "02 04 04 01 00 01"}, 1},
-    {{"W9: late, N = 2, in three levels", 8, 8, 2, LATE, LATE_OF_THREE}, 3},
-    {{"W9: late in two", 8, 8, 2, LATE, LATE_OF_TWO}, 2},
-    {{"W9: late in one", 8, 8, 2, LATE, LATE_OF_ONE}, 1},
-    {{"W9: 512 x 512, N = 8, all zero, in nine levels", 512, 512, 8, "", "02 80 04 80 04 08 00 09"}, 9},
-};
-
-const size_t merged_pair_count = sizeof merged_pairs / sizeof *merged_pairs;
 
 /* Until W5 the coder had a plane more where M is no power of two: log2 M rounded up. */
 const Pair written_before[] = {

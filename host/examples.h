@@ -15,14 +15,6 @@
 #define EXAMPLE HEADER PART_2_2 PART_2_1 PART_1_2 PART_1_1 PART_0_2 PART_0_1
 #define EXAMPLE_PYRAMID "4 -1 0 0  2 0 0 -3  0 0 1 0  0 0 0 0"
 
-/* The same pyramid in version 2, in one level and in two. */
-#define HEADER_OF_ONE "02 04 04 01 03 01 "
-#define PART_2_OF_ONE "02 01 08 80 "
-#define PART_1_OF_ONE "01 01 0D 48 C0 "
-#define PART_0_OF_ONE "00 01 10 C1 81 "
-#define EXAMPLE_OF_ONE HEADER_OF_ONE PART_2_OF_ONE PART_1_OF_ONE PART_0_OF_ONE
-#define EXAMPLE_OF_TWO "02 04 04 01 03 02 " PART_2_2 PART_2_1 PART_1_2 PART_1_1 PART_0_2 PART_0_1
-
 /* A body of 64 bits. */
 #define EIGHT "FF 00 55 AA 01 80 7F FE "
 
@@ -35,15 +27,6 @@ typedef struct {
 
 extern const Pair pairs[];
 extern const size_t pair_count;
-
-/* The same in version 2, with so many levels. */
-typedef struct {
-    Pair pair;
-    uint64_t levels;
-} MergedPair;
-
-extern const MergedPair merged_pairs[];
-extern const size_t merged_pair_count;
 
 /* Records that the coder wrote once and writes no longer; they are read as ever. */
 extern const Pair written_before[];

@@ -2,10 +2,10 @@
  * Makes the archive's calls for a program that can't link it: reads calls from standard input until it ends, and writes to standard output
  * what each returned and what became of the memory that it was lent.
  *
- * A call is a letter (c, k, s, j, d or v for code, code_levels, serve, join, decode or survey; p or n for serve_planes or nearness; a for check;
- * x or b for index or serve_by; g, i or o for grey_size, grey_in or grey_out; w or u for grey_widen or grey_cut), its numbers, and each of its
- * stretches of memory as length in bytes and contents, in the order of afshtruni.h. Its answer is the returned number and the contents of the
- * stretches, in the same order. A number between them has 64 bits, lowest byte first, and contents are as they stand in the memory of an x86-64.
+ * A call is a letter (c, s, j, d or v for code, serve, join, decode or survey; g, i or o for grey_size, grey_in or grey_out), its numbers, and
+ * each of its stretches of memory as length in bytes and contents, in the order of afshtruni.h. Its answer is the returned number and the contents of
+ * the stretches, in the same order. A number between them has 64 bits, lowest byte first, and contents are as they stand in the memory of an
+ * x86-64.
  *
  * It fails where the input ends inside of a call, or where a call has written next to the memory that it was lent.
  */
@@ -86,42 +86,12 @@ static void code(void) {
     give_memory(answer);
 }
 
-static void code_levels(void) {
-    uint64_t width = take_number(), height = take_number(), decompositions = take_number(), levels = take_number();
-    Lent pyramid = take_memory(), out = take_memory(), work = take_memory(), answer = take_memory();
-    give_number(afs_code_levels(pyramid.at, pyramid.size / sizeof(int32_t), width, height, decompositions, levels, out.at, out.size, work.at,
-                                work.size / sizeof(uint32_t), answer.at, answer.size / sizeof(uint64_t)));
-    give_memory(pyramid);
-    give_memory(out);
-    give_memory(work);
-    give_memory(answer);
-}
-
 static void serve(void) {
     uint64_t level = take_number(), plane = take_number();
     Lent record = take_memory(), out = take_memory(), answer = take_memory();
     give_number(afs_serve(record.at, record.size, level, plane, out.at, out.size, answer.at, answer.size / sizeof(uint64_t)));
     give_memory(record);
     give_memory(out);
-    give_memory(answer);
-}
-
-static void serve_planes(void) {
-    Lent record = take_memory(), planes = take_memory(), out = take_memory(), answer = take_memory();
-    give_number(afs_serve_planes(record.at, record.size, planes.at, planes.size / sizeof(uint64_t), out.at, out.size, answer.at,
-                                 answer.size / sizeof(uint64_t)));
-    give_memory(record);
-    give_memory(planes);
-    give_memory(out);
-    give_memory(answer);
-}
-
-static void nearness(void) {
-    uint64_t width = take_number(), height = take_number(), decompositions = take_number(), levels = take_number(), halvings = take_number();
-    Lent reached = take_memory(), answer = take_memory();
-    give_number(afs_nearness(width, height, decompositions, levels, reached.at, reached.size / sizeof(uint64_t), halvings, answer.at,
-                             answer.size / sizeof(uint64_t)));
-    give_memory(reached);
     give_memory(answer);
 }
 
@@ -134,39 +104,10 @@ static void join(void) {
     give_memory(answer);
 }
 
-static void make_index(void) {
-    Lent record = take_memory(), out = take_memory(), answer = take_memory();
-    give_number(afs_index(record.at, record.size, out.at, out.size, answer.at, answer.size / sizeof(uint64_t)));
-    give_memory(record);
-    give_memory(out);
-    give_memory(answer);
-}
-
-static void serve_by(void) {
-    uint64_t level = take_number(), plane = take_number();
-    Lent record = take_memory(), index = take_memory(), out = take_memory(), answer = take_memory();
-    give_number(afs_serve_by(record.at, record.size, index.at, index.size, level, plane, out.at, out.size, answer.at,
-                             answer.size / sizeof(uint64_t)));
-    give_memory(record);
-    give_memory(index);
-    give_memory(out);
-    give_memory(answer);
-}
-
 static void decode(void) {
     Lent record = take_memory(), out = take_memory(), work = take_memory(), answer = take_memory();
     give_number(afs_decode(record.at, record.size, out.at, out.size / sizeof(int32_t), work.at, work.size / sizeof(uint32_t), answer.at,
                            answer.size / sizeof(uint64_t)));
-    give_memory(record);
-    give_memory(out);
-    give_memory(work);
-    give_memory(answer);
-}
-
-static void check(void) {
-    Lent record = take_memory(), out = take_memory(), work = take_memory(), answer = take_memory();
-    give_number(afs_check(record.at, record.size, out.at, out.size / sizeof(int32_t), work.at, work.size / sizeof(uint32_t), answer.at,
-                          answer.size / sizeof(uint64_t)));
     give_memory(record);
     give_memory(out);
     give_memory(work);
@@ -209,56 +150,20 @@ static void grey_out(void) {
     give_memory(answer);
 }
 
-static void grey_widen(void) {
-    uint64_t decompositions = take_number();
-    Lent file = take_memory(), out = take_memory(), answer = take_memory();
-    give_number(afs_grey_widen(file.at, file.size, decompositions, out.at, out.size, answer.at, answer.size / sizeof(uint64_t)));
-    give_memory(file);
-    give_memory(out);
-    give_memory(answer);
-}
-
-static void grey_cut(void) {
-    uint64_t width = take_number(), height = take_number();
-    Lent file = take_memory(), out = take_memory(), answer = take_memory();
-    give_number(afs_grey_cut(file.at, file.size, width, height, out.at, out.size, answer.at, answer.size / sizeof(uint64_t)));
-    give_memory(file);
-    give_memory(out);
-    give_memory(answer);
-}
-
 int main(void) {
     for (int call; (call = getchar()) != EOF;) {
         switch (call) {
         case 'c':
             code();
             break;
-        case 'k':
-            code_levels();
-            break;
         case 's':
             serve();
-            break;
-        case 'p':
-            serve_planes();
-            break;
-        case 'n':
-            nearness();
             break;
         case 'j':
             join();
             break;
-        case 'x':
-            make_index();
-            break;
-        case 'b':
-            serve_by();
-            break;
         case 'd':
             decode();
-            break;
-        case 'a':
-            check();
             break;
         case 'v':
             survey();
@@ -271,12 +176,6 @@ int main(void) {
             break;
         case 'o':
             grey_out();
-            break;
-        case 'w':
-            grey_widen();
-            break;
-        case 'u':
-            grey_cut();
             break;
         default:
             fail("no such call");

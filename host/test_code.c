@@ -1,4 +1,4 @@
-/* Tests of afs_code and afs_code_levels as a C program calls them: document 01's cases, each refusal with its place, and all memory lent, for every outcome. */
+/* Tests of afs_code as a C program calls it: document 01's cases, each refusal with its place, and all memory lent, for every outcome. */
 #include "examples.h"
 #include "testing.h"
 
@@ -9,8 +9,7 @@
 /* A call and what must come of it; `result` is empty for a refusal. */
 typedef struct {
     const Pyramid *pyramid;
-    uint64_t width, height, decompositions, levels;
-    bool of_version_2;
+    uint64_t width, height, decompositions;
     size_t room, work_length, answer_length;
     uint64_t number, place;
     Bytes result;
@@ -23,22 +22,14 @@ static void check_out(const Call *call, const Lent *out) {
     check_zero_from(out, result->length, "output not 0 after the record");
 }
 
-static uint64_t made(const Call *call, const Lent *out, const Lent *work, const Lent *answer) {
-    const Pyramid *pyramid = call->pyramid;
-    if (call->of_version_2)
-        return afs_code_levels(pyramid->at, pyramid->length, call->width, call->height, call->decompositions, call->levels, out->at, call->room,
-                               work->at, call->work_length, answer->at, call->answer_length);
-    return afs_code(pyramid->at, pyramid->length, call->width, call->height, call->decompositions, out->at, call->room, work->at,
-                    call->work_length, answer->at, call->answer_length);
-}
-
 static void try_call(const Call *call) {
     const uint64_t numbers[AFS_CODED_NUMBERS] = {call->number, call->place, call->result.length};
     const Pyramid *pyramid = call->pyramid;
     Lent out = lend(call->room), work = lend(call->work_length * sizeof(uint32_t)), answer = lend(call->answer_length * sizeof *numbers);
     Pyramid before = pyramid_copy_of(pyramid->at, pyramid->length);
 
-    uint64_t returned = made(call, &out, &work, &answer);
+    uint64_t returned = afs_code(pyramid->at, pyramid->length, call->width, call->height, call->decompositions, out.at, call->room,
+                                 work.at, call->work_length, answer.at, call->answer_length);
 
     check(returned == call->number, "number returned");
     check_answer(&answer, numbers, AFS_CODED_NUMBERS);
@@ -124,27 +115,22 @@ static void try_large(Call call, const Bytes *record) {
     try_call(&call);
 }
 
-static void try_pair(const Pair *pair, bool of_version_2, uint64_t levels) {
-    begin_case(pair->name);
-    Pyramid pyramid = pyramid_of(pair->pyramid, pair->width * pair->height);
-    Bytes record = bytes_of(pair->record);
-    Call call = {.pyramid = &pyramid, .width = pair->width, .height = pair->height, .decompositions = pair->decompositions, .levels = levels,
-                 .of_version_2 = of_version_2};
-    if (pyramid.length <= 4096) {
-        try_accepted(call, &record);
-        try_wrong_lengths(call);
-    } else
-        try_large(call, &record);
-    free(record.at);
-    free(pyramid.at);
-    end_case();
-}
-
 static void test_pairs(void) {
-    for (size_t i = 0; i < pair_count; i++)
-        try_pair(&pairs[i], false, 0);
-    for (size_t i = 0; i < merged_pair_count; i++)
-        try_pair(&merged_pairs[i].pair, true, merged_pairs[i].levels);
+    for (size_t i = 0; i < pair_count; i++) {
+        const Pair *pair = &pairs[i];
+        begin_case(pair->name);
+        Pyramid pyramid = pyramid_of(pair->pyramid, pair->width * pair->height);
+        Bytes record = bytes_of(pair->record);
+        Call call = {.pyramid = &pyramid, .width = pair->width, .height = pair->height, .decompositions = pair->decompositions};
+        if (pyramid.length <= 4096) {
+            try_accepted(call, &record);
+            try_wrong_lengths(call);
+        } else
+            try_large(call, &record);
+        free(record.at);
+        free(pyramid.at);
+        end_case();
+    }
 }
 
 /* "Output of 29 bytes for the record above gives 5, of 30 none." */
@@ -172,12 +158,8 @@ typedef struct {
 
 static const BadSize bad_sizes[] = {
     {"N = 0", 64, 64, 0},
-    {"N = 9", 512, 512, 9},
-    {"N = 9 at 1,024", 1024, 1024, 9},
+    {"N = 6", 128, 128, 6},
     {"N = 6 at 64", 64, 64, 6},
-    {"N = 8 at 256", 256, 256, 8},
-    {"768 x 512, N = 8", 768, 512, 8},
-    {"512 x 768, N = 8", 512, 768, 8},
     {"N = 63", 64, 64, 63},
     {"N = 64", 64, 64, 64},
     {"N = 2^32 + 1", 4, 4, TWO_TO_32 + 1},
@@ -195,10 +177,8 @@ static const BadSize bad_sizes[] = {
     {"width 2", 2, 4, 1},
     {"height 2", 4, 2, 1},
     {"width 5", 5, 4, 1},
-    {"width 4,098", 4098, 4, 1},
-    {"width 4,100", 4100, 4, 1},
-    {"height 4,100", 4, 4100, 1},
-    {"width 8,192", 8192, 4, 1},
+    {"width 516", 516, 4, 1},
+    {"height 516", 4, 516, 1},
     {"width 2^16 + 4", (1 << 16) + 4, 4, 1},
     {"width 2^32", TWO_TO_32, 4, 1},
     {"width 2^32 + 4", TWO_TO_32 + 4, 4, 1},
@@ -211,43 +191,22 @@ static const BadSize bad_sizes[] = {
     {"greatest of all", UINT64_MAX, UINT64_MAX, UINT64_MAX},
 };
 
-/* The same of version 2. */
-typedef struct {
-    BadSize size;
-    uint64_t levels;
-} BadMergedSize;
-
-static const BadMergedSize bad_merged_sizes[] = {
-    {{"W9: K = 0", 4, 4, 1}, 0},
-    {{"W9: K = N + 2", 4, 4, 1}, 3},
-    {{"W9: K = 10 of N = 8", 512, 512, 8}, 10},
-    {{"W9: K = 2^32 + 1", 4, 4, 1}, TWO_TO_32 + 1},
-    {{"W9: greatest K", 4, 4, 1}, UINT64_MAX},
-    {{"W9: width 6, K = 1", 6, 4, 1}, 1},
-    {{"W9: N = 0, K = 1", 4, 4, 0}, 1},
-    {{"W9: greatest of all", UINT64_MAX, UINT64_MAX, UINT64_MAX}, UINT64_MAX},
-};
-
 /* A size is refused whatever the pyramid is. */
-static void try_size(const BadSize *size, bool of_version_2, uint64_t levels) {
+static void test_sizes(void) {
     Pyramid zero = pyramid_of("", 16), over = pyramid_of("65536", 16), longer = pyramid_of("", 17), none = pyramid_of("", 0);
     const Pyramid *given[] = {&zero, &over, &longer, &none};
-    begin_case(size->name);
-    for (size_t j = 0; j < LENGTH_OF(given); j++)
-        try_refused((Call){.pyramid = given[j], .width = size->width, .height = size->height, .decompositions = size->decompositions,
-                           .levels = levels, .of_version_2 = of_version_2, .number = AFS_SIZE});
-    end_case();
+    for (size_t i = 0; i < LENGTH_OF(bad_sizes); i++) {
+        const BadSize *size = &bad_sizes[i];
+        begin_case(size->name);
+        for (size_t j = 0; j < LENGTH_OF(given); j++)
+            try_refused((Call){.pyramid = given[j], .width = size->width, .height = size->height, .decompositions = size->decompositions,
+                               .number = AFS_SIZE});
+        end_case();
+    }
     free(none.at);
     free(longer.at);
     free(over.at);
     free(zero.at);
-}
-
-static void test_sizes(void) {
-    for (size_t i = 0; i < LENGTH_OF(bad_sizes); i++)
-        try_size(&bad_sizes[i], false, 0);
-    for (size_t i = 0; i < LENGTH_OF(bad_merged_sizes); i++)
-        try_size(&bad_merged_sizes[i].size, true, bad_merged_sizes[i].levels);
 }
 
 typedef struct {

@@ -28,16 +28,12 @@ static size_t coefficients_in(Bytes pyramid) {
     return pyramid.length % COEFFICIENT_BYTES == 0 ? pyramid.length / COEFFICIENT_BYTES : 0;
 }
 
-Outcome code_numbers(const int32_t *pyramid, size_t count, CodeSizes sizes) {
+Outcome code_numbers(const int32_t *pyramid, size_t count, uint64_t width, uint64_t height, uint64_t decompositions) {
     size_t room = room_for_record(count), work_count = WORK_PER_COEFFICIENT * count;
     uint32_t *work = memory_for(work_count, sizeof *work);
     uint8_t *out = memory_for(room, 1);
     uint64_t answer[AFS_CODED_NUMBERS];
-    if (sizes.of_version_2)
-        afs_code_levels(pyramid, count, sizes.width, sizes.height, sizes.decompositions, sizes.levels, out, room, work, work_count, answer,
-                        AFS_CODED_NUMBERS);
-    else
-        afs_code(pyramid, count, sizes.width, sizes.height, sizes.decompositions, out, room, work, work_count, answer, AFS_CODED_NUMBERS);
+    afs_code(pyramid, count, width, height, decompositions, out, room, work, work_count, answer, AFS_CODED_NUMBERS);
     free(work);
     return (Outcome){
         .number = answer[AFS_CODED_NUMBER],
@@ -46,44 +42,26 @@ Outcome code_numbers(const int32_t *pyramid, size_t count, CodeSizes sizes) {
     };
 }
 
-Outcome code(Bytes pyramid, CodeSizes sizes) {
+Outcome code(Bytes pyramid, uint64_t width, uint64_t height, uint64_t decompositions) {
     size_t count = coefficients_in(pyramid);
     int32_t *coefficients = memory_for(count, sizeof *coefficients);
     for (size_t i = 0; i < count; i++)
         coefficients[i] = coefficient_at(pyramid.at + COEFFICIENT_BYTES * i);
-    Outcome outcome = code_numbers(coefficients, count, sizes);
+    Outcome outcome = code_numbers(coefficients, count, width, height, decompositions);
     free(coefficients);
     return outcome;
-}
-
-static Outcome served_into(uint8_t *out, const uint64_t answer[AFS_SERVED_NUMBERS]) {
-    return (Outcome){
-        .number = answer[AFS_SERVED_NUMBER],
-        .place = answer[AFS_SERVED_PLACE],
-        .bytes = {out, answer[AFS_SERVED_LENGTH]},
-        .tail = answer[AFS_SERVED_TAIL],
-    };
 }
 
 Outcome serve(Bytes record, uint64_t level, uint64_t plane) {
     uint8_t *out = memory_for(record.length, 1);
     uint64_t answer[AFS_SERVED_NUMBERS];
     afs_serve(record.at, record.length, level, plane, out, record.length, answer, AFS_SERVED_NUMBERS);
-    return served_into(out, answer);
-}
-
-Outcome serve_planes(Bytes record, const uint64_t *planes, size_t count) {
-    uint8_t *out = memory_for(record.length, 1);
-    uint64_t answer[AFS_SERVED_NUMBERS];
-    afs_serve_planes(record.at, record.length, planes, count, out, record.length, answer, AFS_SERVED_NUMBERS);
-    return served_into(out, answer);
-}
-
-uint64_t nearness(Header header, const uint64_t reached[AFS_LEVEL_PLACES], uint64_t halvings) {
-    uint64_t answer[AFS_NEARNESS_NUMBERS];
-    uint64_t number = afs_nearness(header.width, header.height, header.decompositions, coarsest(header), reached, AFS_LEVEL_PLACES, halvings, answer,
-                                   AFS_NEARNESS_NUMBERS);
-    return number == AFS_ACCEPTED ? answer[AFS_NEARNESS_MOST] : FARTHEST;
+    return (Outcome){
+        .number = answer[AFS_SERVED_NUMBER],
+        .place = answer[AFS_SERVED_PLACE],
+        .bytes = {out, answer[AFS_SERVED_LENGTH]},
+        .tail = answer[AFS_SERVED_TAIL],
+    };
 }
 
 Outcome join(Bytes first, Bytes second) {
@@ -123,14 +101,18 @@ static Outcome decode_into(Bytes record, int32_t *pyramid, size_t count, uint32_
     return outcome;
 }
 
-/* Decoding may find a fault before the first one that a survey finds: what is before that is surveyed again, as it is
+/* What a good header tells, else all 0. Decoding may find a fault before the first one that a survey finds: what is before that is surveyed again, as it is
    a record too unless its header is at fault. */
-Header told_header(Bytes record) {
+static Header survey_header(Bytes record) {
     uint64_t answer[AFS_SURVEYED_NUMBERS];
     if (afs_survey(record.at, record.length, answer, AFS_SURVEYED_NUMBERS) != AFS_ACCEPTED)
         afs_survey(record.at, answer[AFS_SURVEYED_PLACE], answer, AFS_SURVEYED_NUMBERS);
-    const uint8_t *at = record.at;
-    return answer[AFS_SURVEYED_WIDTH] > 0 ? read_header(&at) : (Header){.width = 0};
+    return (Header){
+        .width = (uint32_t)answer[AFS_SURVEYED_WIDTH],
+        .height = (uint32_t)answer[AFS_SURVEYED_HEIGHT],
+        .decompositions = (uint32_t)answer[AFS_SURVEYED_DECOMPOSITIONS],
+        .planes = (uint32_t)answer[AFS_SURVEYED_PLANES],
+    };
 }
 
 bool is_legal_header(Header header) {
@@ -141,7 +123,7 @@ bool is_legal_header(Header header) {
 
 Outcome decode_numbers(Bytes record, int32_t **pyramid, Header *header) {
     *pyramid = NULL;
-    *header = told_header(record);
+    *header = survey_header(record);
     size_t count = (size_t)header->width * header->height, work_count = WORK_PER_COEFFICIENT * count;
     int32_t *numbers = memory_for(count, sizeof *numbers);
     uint32_t *work = memory_for(work_count, sizeof *work);
@@ -164,27 +146,11 @@ Outcome decode(Bytes record) {
     return outcome;
 }
 
-Outcome check(Bytes record) {
-    Header header = told_header(record);
-    size_t count = (size_t)header.width * header.height, work_count = WORK_PER_COEFFICIENT * count;
-    int32_t *pyramid = memory_for(count, sizeof *pyramid);
-    uint32_t *work = memory_for(work_count, sizeof *work);
-    uint64_t answer[AFS_CHECKED_NUMBERS];
-    afs_check(record.at, record.length, pyramid, count, work, work_count, answer, AFS_CHECKED_NUMBERS);
-    Outcome outcome = {.number = answer[AFS_CHECKED_NUMBER], .place = answer[AFS_CHECKED_PLACE]};
-    if (outcome.number == AFS_ACCEPTED)
-        outcome.bytes = bytes_of(pyramid, count);
-    free(pyramid);
-    free(work);
-    return outcome;
-}
-
 const char *name_of(uint64_t number) {
     static const char *const names[] = {
         [AFS_ACCEPTED] = "ACCEPTED", [AFS_SIZE] = "SIZE", [AFS_LENGTH] = "LENGTH",   [AFS_WORK] = "WORK", [AFS_RANGE] = "RANGE", [AFS_ROOM] = "ROOM",
         [AFS_HEAD] = "HEAD",         [AFS_VERSION] = "VERSION", [AFS_PART] = "PART", [AFS_PAD] = "PAD",   [AFS_FIT] = "FIT",     [AFS_ASK] = "ASK",
         [AFS_LONGFORM] = "LONGFORM", [AFS_GREY] = "GREY", [AFS_MIXED] = "MIXED",     [AFS_CLASH] = "CLASH",
-        [AFS_INDEX] = "INDEX",       [AFS_FOREIGN] = "FOREIGN",
     };
     return number < sizeof names / sizeof *names && names[number] != NULL ? names[number] : "UNKNOWN";
 }

@@ -5,12 +5,8 @@
 #include "../afshtruni.h"
 #include "files.h"
 #include "record.h"
-#include "units.h"
 
 enum { WORK_PER_COEFFICIENT = AFS_WORK(1, 1) };
-
-/* No grey value is farther from another. */
-enum { FARTHEST = 255 };
 
 /* What came of a call. Where it refused, all but number and place is 0. */
 typedef struct {
@@ -20,41 +16,21 @@ typedef struct {
     uint64_t reached[AFS_LEVEL_PLACES]; /* from decoding: the reached plane of each level, level 1 first */
     uint64_t skipped[AFS_LEVEL_PLACES]; /* from decoding: its parts that are there and not usable */
     uint64_t clipped;                   /* from printing: pixels that were set to the nearer end */
-    uint64_t planes[AFS_LEVEL_PLACES];  /* from serving within a distance: what was chosen, level 1 first, */
-    uint64_t farthest;                  /* and how far a printed pixel may be */
-    const LevelUnit *unit;              /* in which grey values are told too, where a job's sheet has one */
+    uint64_t plane, farthest;           /* from serving within a distance: the plane, and how far a printed pixel may be */
 } Outcome;
 
-typedef struct {
-    uint64_t width, height, decompositions;
-    bool of_version_2;
-    uint64_t levels; /* K, in version 2 */
-} CodeSizes;
-
 /* A pyramid in a file is a row of 32-bit numbers, lowest byte first. */
-Outcome code(Bytes pyramid, CodeSizes sizes);
+Outcome code(Bytes pyramid, uint64_t width, uint64_t height, uint64_t decompositions);
 
 Outcome serve(Bytes record, uint64_t level, uint64_t plane);
-
-/* With a plane for each level, level 1 first. */
-Outcome serve_planes(Bytes record, const uint64_t *planes, size_t count);
-
-/* How far a printed pixel may be from the recorded one, by the reached plane of each level, in a picture that is halved so many times. */
-uint64_t nearness(Header header, const uint64_t reached[AFS_LEVEL_PLACES], uint64_t halvings);
 
 Outcome join(Bytes first, Bytes second);
 
 Outcome decode(Bytes record);
 
-/* Whether our coder wrote it: the pyramid that it is the record of. */
-Outcome check(Bytes record);
-
 /* The same on numbers instead of a file's bytes. A pyramid that was decoded is for the caller to free, and NULL where it was refused. */
-Outcome code_numbers(const int32_t *pyramid, size_t count, CodeSizes sizes);
+Outcome code_numbers(const int32_t *pyramid, size_t count, uint64_t width, uint64_t height, uint64_t decompositions);
 Outcome decode_numbers(Bytes record, int32_t **pyramid, Header *header);
-
-/* What a good header tells, else all 0. */
-Header told_header(Bytes record);
 
 /* Whether serving and joining can read it. */
 bool is_record(Bytes record);

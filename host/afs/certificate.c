@@ -9,7 +9,6 @@
 #include <string.h>
 #include <sys/stat.h>
 #include <time.h>
-#include <unistd.h>
 
 enum { ROOM_FOR_DATE = 64 };
 
@@ -22,105 +21,46 @@ static const char *date_of(const char *path, char room[ROOM_FOR_DATE]) {
     return strftime(room, ROOM_FOR_DATE, "%Y-%m-%d %H:%M:%S UTC", &parts) > 0 ? room : NULL;
 }
 
+/* Without its tail, as far as it can be sealed. */
+static Digest seal_digest(Bytes record, uint64_t tail) {
+    Seal seal = seal_of("", (Bytes){record.at, record.length - tail});
+    Digest digest = digest_of_seal(&seal);
+    free_seal(&seal);
+    return digest;
+}
+
 static const char *last_name(const char *name) {
     const char *slash = strrchr(name, '/');
     return slash == NULL || slash[1] == '\0' ? name : slash + 1;
 }
 
-/* A text of its own, which the caller frees. */
-static char *string_of(Text *text) {
-    return (char *)end_text(text).at;
-}
-
-/* The names of files beside the seals that are called as signatures of them are. */
-static char *signatures_beside(const char *seals) {
-    static const char *const endings[] = {".asc", ".minisig", ".sig"};
-    Text names;
-    bool has_any = false;
-    begin_text(&names);
-    for (size_t i = 0; is_named(seals) && i < sizeof endings / sizeof *endings; i++) {
-        char *path = memory_for(strlen(seals) + strlen(endings[i]) + 1, 1);
-        strcat(strcpy(path, seals), endings[i]);
-        if (access(path, F_OK) == 0) {
-            fprintf(names.stream, "%s%s", has_any ? ", " : "", last_name(path));
-            has_any = true;
-        }
-        free(path);
-    }
-    return string_of(&names);
-}
-
-static char *found_by(Matcher *matcher, const Verdict *verdict) {
-    Text text;
-    begin_text(&text);
-    if (verdict->comparison.seal != NULL && verdict->comparison.is_changed)
-        tell_changes(text.stream, matcher, verdict);
-    else if (verdict->comparison.seal != NULL)
-        tell_unchanged(text.stream, verdict);
-    return string_of(&text);
-}
-
-/* What a sheet is made of. */
-typedef struct {
-    const Request *request;
-    const char *path;
-    Bytes record;
-    const Outcome *printed;
-    const JobSheet *job;
-} Subject;
-
-static Bytes html_of(const Subject *subject, const Held *held, int *status) {
+static Bytes html_of(const Request *request, const char *path, Bytes record, const Outcome *printed) {
     char date[ROOM_FOR_DATE];
-    const Request *request = subject->request;
-    const Outcome *printed = subject->printed;
-    Bytes record = subject->record;
     Sheet sheet = {
-        .name = last_name(name_of_input(subject->path)),
-        .date = date_of(subject->path, date),
+        .name = last_name(name_of_input(path)),
+        .date = date_of(path, date),
         .title = request->title,
         .note = request->note,
         .device = request->device,
         .scale = request->scale,
         .record = record,
         .printed = printed,
-        .halvings = (uint32_t)halvings_to_draw(request, record),
+        .halvings = (uint32_t)request->halvings,
         .holding = holding_of(record, printed),
-        .held = held,
-        .job = subject->job,
+        .seal = seal_digest(record, printed->tail),
         .of_file = digest_of(record.at, record.length),
     };
-    sheet.asked = asked_for(request, &sheet.holding);
-    sheet.outside = pixels_outside(record, &sheet.holding, printed, sheet.halvings);
-    *status = held != NULL ? held->verdict->status : STATUS_DONE;
-    if (sheet.outside > 0 && *status < STATUS_LACKS)
-        *status = STATUS_LACKS;
     Text text;
     begin_text(&text);
     write_sheet(text.stream, &sheet);
     return end_text(&text);
 }
 
-static Bytes html_of_held(const Subject *subject, Matcher *matcher, int *status) {
-    const Request *request = subject->request;
-    Reading reading = read_file(name_of_input(subject->path), subject->record);
-    if (subject->job != NULL)
-        reading.job = subject->job->text;
-    Verdict verdict = verdict_on(matcher, request, &reading);
-    char *signatures = signatures_beside(request->seals), *found = found_by(matcher, &verdict);
-    Held held = {.seals = last_name(name_of_input(request->seals)), .signatures = signatures, .found = found, .verdict = &verdict};
-    Bytes html = html_of(subject, &held, status);
-    free(signatures);
-    free(found);
-    free_reading(&reading);
-    return html;
-}
-
-Bytes certificate_of(const Request *request, Matcher *matcher, const char *path, Bytes record, const Outcome *printed, const JobSheet *job, int *status) {
-    Subject subject = {request, path, record, printed, job};
-    Bytes converted, html = request->seals != NULL ? html_of_held(&subject, matcher, status) : html_of(&subject, NULL, status);
-    if (request->kind == AS_HTML)
+Bytes certificate_of(const Request *request, const char *path, Bytes record, const Outcome *printed) {
+    Bytes html = html_of(request, path, record, printed), converted;
+    if (request->form == AS_HTML)
         return html;
-    const char *why = convert_sheet(html, request->kind, &converted);
+    const char *why = convert_sheet(html, request->form, &converted);
     free(html.at);
     if (why != NULL)
         fail("%s: %s", request->out, why);

@@ -3,9 +3,10 @@
 #define AFS_CONVERTING_H
 
 #include "files.h"
-#include "kinds.h"
+
+typedef enum { AS_HTML, AS_PDF, AS_PNG } SheetForm;
 
 /* NULL, and the caller frees what was made; or why it can't be made. */
-const char *convert_sheet(Bytes html, Kind kind, Bytes *made);
+const char *convert_sheet(Bytes html, SheetForm form, Bytes *made);
 
 #endif

@@ -9,7 +9,7 @@
 #include <string.h>
 #include <unistd.h>
 
-/* An endless input must not take all memory. Records of ours and pyramids have far less; one that no coder of ours wrote may be legal and longer. */
+/* Far more than any record or pyramid has; an endless input must not take all memory. */
 static const size_t longest_input = (size_t)1 << 28;
 
 void *memory_for(size_t count, size_t size) {
@@ -41,7 +41,7 @@ static const char *read_stream(FILE *in, Bytes *bytes) {
         if (ferror(in))
             return strerror(errno);
         if (bytes->length > longest_input)
-            return "longer than 268,435,456 bytes, which is more than any record of ours or pyramid has";
+            return "longer than any record or pyramid";
     } while (!feof(in));
     return NULL;
 }

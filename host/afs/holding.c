@@ -17,8 +17,7 @@ Holding holding_of(Bytes record, const Outcome *outcome) {
     const uint8_t *at = record.at, *end = end_of_parts(record, outcome);
     Header header = read_header(&at);
     Holding holding = {
-        .header = header, .levels = coarsest(header), .reached = outcome->reached, .skipped = outcome->skipped, .tail = outcome->tail,
-        .unit = outcome->unit};
+        .header = header, .levels = coarsest(header), .reached = outcome->reached, .skipped = outcome->skipped, .tail = outcome->tail};
     while (at < end) {
         Part part = read_part(&at);
         holding.there[part.level - 1] |= UINT32_C(1) << part.plane;
@@ -44,10 +43,6 @@ bool is_cut_used(const Holding *holding) {
     return true;
 }
 
-bool is_tail_used(const Holding *holding) {
-    return is_cut_used(holding) && holding->there_of_cut > 0;
-}
-
 uint32_t count_parts(const Holding *holding, bool (*counts)(const Holding *, uint32_t, uint32_t)) {
     uint32_t count = 0;
     for (uint32_t level = 1; level <= holding->levels; level++)
@@ -65,10 +60,7 @@ bool is_whole(const Holding *holding) {
 }
 
 uint64_t expected_plane(const Request *request, const Holding *holding, uint32_t level) {
-    bool is_highest = level == holding->levels && !request->has_level;
-    if (level < request->level && !is_highest)
-        return holding->header.planes;
-    return level <= request->plane_count ? request->planes[level - 1] : request->plane;
+    return level >= request->level ? request->plane : holding->header.planes;
 }
 
 bool lacks(const Request *request, const Holding *holding) {

@@ -16,7 +16,6 @@ typedef struct {
     Part cut;              /* the part that the tail is of, where its head is whole */
     uint64_t there_of_cut; /* bytes of its body that are there */
     bool has_cut;
-    const LevelUnit *unit; /* or NULL */
 } Holding;
 
 /* The parts stand between the header and the tail. */
@@ -30,18 +29,15 @@ bool is_there(const Holding *holding, uint32_t plane, uint32_t level);
 /* Usable planes run without a gap from the top down to the reached one. */
 bool is_used(const Holding *holding, uint32_t plane, uint32_t level);
 
-/* Whether the part that the tail is of can be decoded, as far as its bits go: it lies just below what its level reached, and all that it builds on is used;
-   and whether any of its bits is there. */
+/* Whether the part that the tail is of was decoded, as far as its bits go: it lies just below what its level reached, and all that it builds on is used. */
 bool is_cut_used(const Holding *holding);
-bool is_tail_used(const Holding *holding);
 
 uint32_t count_parts(const Holding *holding, bool (*counts)(const Holding *, uint32_t plane, uint32_t level));
 
 uint32_t parts_of_whole(const Holding *holding);
 bool is_whole(const Holding *holding);
 
-/* The lowest plane to be expected of a level in what is served for a request of a whole record; the number of planes where nothing of it is. A halved
-   picture needs the level that its finest one belongs to. */
+/* The lowest plane to be expected of a level in what is served for a request of a whole record; the number of planes where nothing of it is. */
 uint64_t expected_plane(const Request *request, const Holding *holding, uint32_t level);
 
 /* Whether anything lacks of what was to be expected, which is all of the record, without a tail, where nothing else was said. */

@@ -2,7 +2,6 @@
 
 #include "calls.h"
 #include "messages.h"
-#include "notes.h"
 #include "output.h"
 #include "refusals.h"
 
@@ -49,19 +48,16 @@ static int tell_join_refused(const Request *request, const Input *inputs, const 
 static int join_both(const Request *request, const Input *inputs, Output *output) {
     Outcome outcome = join(inputs[0].bytes, inputs[1].bytes);
     int status = STATUS_DONE;
-    if (outcome.number == AFS_ACCEPTED) {
+    if (outcome.number == AFS_ACCEPTED)
         put_out(output, outcome.bytes.at, outcome.bytes.length);
-        for (size_t i = 0; i < RECORDS; i++)
-            note_joined(request, inputs[i].name, inputs[i].bytes, outcome.bytes);
-    } else {
+    else
         status = tell_join_refused(request, inputs, &outcome);
-    }
     free(outcome.bytes.at);
     return status;
 }
 
 int run_join(const Request *request) {
-    Output output = output_to(request->out, false, request->force);
+    Output output = output_to(request->out, false, request->force, NULL);
     Input inputs[RECORDS];
     int status = read_both(request, inputs) ? join_both(request, inputs, &output) : STATUS_FAILED;
     for (size_t i = 0; i < RECORDS; i++)

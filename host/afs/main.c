@@ -2,13 +2,9 @@
 #include "commands.h"
 #include "files.h"
 
-#include <stdlib.h>
-
 int main(int argc, char **argv) {
     (void)argc;
     keep_standard_streams();
     Request request = request_from(argv);
-    int status = run(&request);
-    free(request.planes);
-    return status;
+    return run(&request);
 }

@@ -1,16 +1,78 @@
 #include "options.h"
 
-#include "../afshtruni.h"
 #include "files.h"
 #include "help.h"
 #include "messages.h"
 #include "output.h"
-#include "text.h"
-#include "words.h"
 
 #include <errno.h>
+#include <inttypes.h>
 #include <stdlib.h>
 #include <string.h>
+
+static const char *const commands[COMMANDS] = {[CODE] = "code", [SERVE] = "serve", [JOIN] = "join", [DECODE] = "decode", [PARTS] = "parts",
+                                               [EXPLAIN] = "explain", [SEAL] = "seal", [VERIFY] = "verify", [CERTIFICATE] = "certificate"};
+static const char commands_there[] = "code, serve, join, decode, parts, explain, seal, verify and certificate are there";
+
+enum { EVERY = (1 << COMMANDS) - 1 };
+
+typedef enum {
+    DECOMPOSITIONS,
+    LEVEL,
+    PLANE,
+    GREY,
+    HALVE,
+    MOST,
+    WHOLE,
+    CHECK,
+    JSON,
+    OF,
+    TITLE,
+    NOTE,
+    DEVICE,
+    SCALE,
+    OUTPUT,
+    FORCE,
+    QUIET,
+    HELP,
+    VERSION_OPTION,
+    OPTIONS
+} Option;
+
+static const struct {
+    char letter; /* or 0 */
+    const char *word;
+    const char *argument; /* what is to follow, or NULL */
+    unsigned commands;    /* bits of those that it is for */
+    const char *is_for;   /* the same in words */
+} options[OPTIONS] = {
+    [DECOMPOSITIONS] = {'n', "decompositions", "a number", 1 << CODE, "code"},
+    [LEVEL] = {'r', "level", "a level", 1 << SERVE | 1 << DECODE | 1 << CERTIFICATE, "serve, decode and certificate"},
+    [PLANE] = {'p', "plane", "a plane", 1 << SERVE | 1 << DECODE, "serve and decode"},
+    [GREY] = {'g', "grey", NULL, 1 << DECODE, "decode"},
+    [HALVE] = {'s', "halve", "a number", 1 << DECODE, "decode"},
+    [MOST] = {'e', "error", "a number", 1 << SERVE, "serve"},
+    [WHOLE] = {0, "whole", NULL, 1 << DECODE | 1 << VERIFY, "decode and verify"},
+    [CHECK] = {0, "check", NULL, 1 << DECODE, "decode"},
+    [JSON] = {0, "json", NULL, 1 << DECODE | 1 << PARTS | 1 << EXPLAIN, "parts, explain and decode --check"},
+    [OF] = {0, "of", "a name", 1 << VERIFY, "verify"},
+    [TITLE] = {0, "title", "a text", 1 << CERTIFICATE, "certificate"},
+    [NOTE] = {0, "note", "a text", 1 << CERTIFICATE, "certificate"},
+    [DEVICE] = {0, "device", "a text", 1 << CERTIFICATE, "certificate"},
+    [SCALE] = {0, "scale", "a name", 1 << CERTIFICATE, "certificate"},
+    [OUTPUT] = {'o', "output", "a file", EVERY, NULL},
+    [FORCE] = {'f', "force", NULL, EVERY, NULL},
+    [QUIET] = {'q', "quiet", NULL, EVERY, NULL},
+    [HELP] = {'h', "help", NULL, EVERY, NULL},
+    [VERSION_OPTION] = {0, "version", NULL, EVERY, NULL},
+};
+
+/* The words of the command line that are no options, to the front of it, and which options there were. */
+typedef struct {
+    char **operands;
+    size_t count, before_dashes; /* how many of them stand before -- */
+    bool given[OPTIONS], as_word[OPTIONS];
+} Words;
 
 static uint64_t number_from(const char *name, unsigned least, unsigned most, const char *text) {
     char *end;
@@ -21,24 +83,15 @@ static uint64_t number_from(const char *name, unsigned least, unsigned most, con
     return number;
 }
 
-static uint64_t number_within(const char *name, unsigned least, unsigned most, const char *text) {
-    uint64_t number = number_from(name, least, most, text);
-    if (number < least || number > most)
-        misused("%s is a number from %u to %u, not '%s'", name, least, most, text);
-    return number;
-}
-
-static _Noreturn void print_and_exit(Text *text) {
-    Bytes printed = end_text(text);
-    Output output = output_to(NULL, true, false);
-    put_out(&output, printed.at, printed.length);
-    free(printed.at);
+static _Noreturn void print_and_exit(const char *text) {
+    Output output = output_to(NULL, true, false, NULL);
+    put_out(&output, text, strlen(text));
     finish_output(&output);
     exit(STATUS_DONE);
 }
 
 static const Scale *scale_from(const char *name) {
-    const Scale *scale = scale_named(name != NULL ? name : "grey");
+    const Scale *scale = scale_named(name);
     if (scale == NULL)
         misused("SCALE is %s, not '%s'", scale_names, name);
     return scale;
@@ -49,117 +102,154 @@ static const char *some(const char *text) {
     return text != NULL && text[0] != '\0' ? text : NULL;
 }
 
+static void take_text(Option option, const char *text, Request *request) {
+    switch (option) {
+    case OF:
+        request->of = text;
+        break;
+    case TITLE:
+        request->title = some(text);
+        break;
+    case NOTE:
+        request->note = some(text);
+        break;
+    case DEVICE:
+        request->device = some(text);
+        break;
+    case OUTPUT:
+        request->out = text;
+        break;
+    default:
+        break;
+    }
+}
+
+static void take_option(Option option, const char *argument, Request *request) {
+    switch (option) {
+    case DECOMPOSITIONS:
+        request->decompositions = number_from("N", 1, 5, argument);
+        break;
+    case LEVEL:
+        request->level = number_from("LEVEL", 1, 6, argument);
+        break;
+    case PLANE:
+        request->plane = number_from("PLANE", 0, 17, argument);
+        break;
+    case HALVE:
+        request->halvings = number_from("S", 0, 4, argument);
+        break;
+    case MOST:
+        request->most = number_from("E", 0, 255, argument);
+        break;
+    case SCALE:
+        request->scale = scale_from(argument);
+        break;
+    case HELP:
+        print_and_exit(help);
+    case VERSION_OPTION:
+        print_and_exit("afs " VERSION "\n");
+    default:
+        take_text(option, argument, request);
+    }
+}
+
+/* Its argument is what is attached to it, or the next word. */
+static void meet_option(Option option, const char *typed, int length, const char *attached, char ***next, Words *words, Request *request) {
+    const char *argument = options[option].argument == NULL ? NULL : attached != NULL ? attached : **next;
+    if (options[option].argument != NULL && argument == NULL)
+        misused("%.*s needs %s", length, typed, options[option].argument);
+    if (argument != NULL && attached == NULL)
+        (*next)++;
+    words->given[option] = true;
+    words->as_word[option] = typed[1] == '-';
+    take_option(option, argument, request);
+}
+
+static void meet_word(const char *word, char ***next, Words *words, Request *request) {
+    size_t length = strcspn(word, "=");
+    const char *attached = word[length] == '=' ? word + length + 1 : NULL;
+    for (Option option = 0; option < OPTIONS; option++)
+        if (strlen(options[option].word) == length - 2 && strncmp(options[option].word, word + 2, length - 2) == 0 &&
+            (attached == NULL || options[option].argument != NULL)) {
+            meet_option(option, word, (int)length, attached, next, words, request);
+            return;
+        }
+    misused("no option %s", word);
+}
+
+/* How many bytes the character at the front of a text has, with all that goes on as in UTF-8. */
+static int length_typed(const char *text) {
+    int length = 1;
+    while (((unsigned char)text[length] & 0xC0) == 0x80)
+        length++;
+    return length;
+}
+
+/* One letter after another, until one takes the rest as its argument. */
+static void meet_letters(const char *letters, char ***next, Words *words, Request *request) {
+    for (; *letters != '\0'; letters++) {
+        Option option = 0;
+        while (option < OPTIONS && options[option].letter != *letters)
+            option++;
+        if (option == OPTIONS)
+            misused("no option -%.*s", length_typed(letters), letters);
+        const char typed[] = {'-', *letters, '\0'};
+        meet_option(option, typed, 2, letters[1] == '\0' ? NULL : letters + 1, next, words, request);
+        if (options[option].argument != NULL)
+            return;
+    }
+}
+
+/* '-1' is a number that isn't legal rather than an option. */
+static bool is_operand(const char *word) {
+    return word[0] != '-' || word[1] == '\0' || (word[1] >= '0' && word[1] <= '9');
+}
+
+/* Options stand anywhere, whatever POSIXLY_CORRECT says: operands are never taken for them. */
+static void read_words(char **argv, Words *words, Request *request) {
+    bool after_dashes = false;
+    words->operands = argv;
+    for (char **next = argv + (argv[0] != NULL); *next != NULL;) {
+        char *word = *next++;
+        if (!after_dashes && strcmp(word, "--") == 0)
+            after_dashes = true;
+        else if (after_dashes || is_operand(word))
+            words->operands[words->count++] = word;
+        else if (word[1] == '-')
+            meet_word(word, &next, words, request);
+        else
+            meet_letters(word + 1, &next, words, request);
+        if (!after_dashes)
+            words->before_dashes = words->count;
+    }
+}
+
 static Command command_named(const char *name) {
     for (Command command = 0; command < COMMANDS; command++)
         if (strcmp(commands[command], name) == 0)
             return command;
-    misused("no command '%s': %s are there", name, commands_in_words(EVERY).text);
+    misused("no command '%s': %s", name, commands_there);
 }
 
-/* Of the command that is named behind 'help', or before --help; of all where none is. */
-static _Noreturn void print_help_and_exit(const Words *words) {
-    bool has_word = words->count > 0 && strcmp(words->operands[0], "help") == 0;
-    if (words->count > 1u + has_word && has_word)
-        misused("too many arguments: '%s'", words->operands[2]);
-    const char *name = words->count > has_word ? words->operands[has_word] : NULL;
-    Text text;
-    begin_text(&text);
-    print_help(text.stream, name == NULL ? EVERY : 1u << command_named(name));
-    print_and_exit(&text);
-}
-
-/* And what it stands on: the archive that it is linked with, and the kit that this was proved with. */
-static _Noreturn void print_version_and_exit(bool is_verbose) {
-    Text text;
-    begin_text(&text);
-    fputs("afs " VERSION "\n", text.stream);
-    if (is_verbose)
-        fputs("library sha256 " LIBRARY_SHA256 "\nproved with " KIT "\n", text.stream);
-    print_and_exit(&text);
-}
-
-/* The kind that a command writes where its name tells none. */
-static Kind kind_without_name(const Words *words, const Request *request) {
-    switch (request->command) {
-    case DECODE:
-        return request->check ? AS_TEXT : words->given[GREY] ? AS_PGM : AS_PYRAMID;
-    case CHECK_RECORD:
-        return AS_PYRAMID;
-    case CERTIFICATE:
-        return AS_HTML;
-    case CODE:
-    case SERVE:
-    case JOIN:
-        return AS_RECORD;
-    case INDEX:
-        return AS_INDEX;
-    default:
-        return AS_TEXT;
-    }
-}
-
-static Kind kind_by_word(const Request *request, const char *word) {
-    Kind kind = kind_asked(request->command, word);
-    if (kind == KINDS)
-        misused("KIND is %s, not '%s'", words_for_kinds(request->command), word);
-    return kind;
-}
-
-/* A name that stands for another kind of file than is written is wrong. By force a pyramid stands where its record stood. */
-static Kind choose_kind(const Words *words, const Request *request) {
-    Kind kind = words->given[AS] ? kind_by_word(request, words->arguments[AS]) : kind_without_name(words, request), named = kind_named(request->out);
-    if (named == KINDS || (named == AS_RECORD && request->command == DECODE && words->given[FORCE]))
-        return kind;
-    if (kind == AS_TEXT ? named != AS_TEXT : !is_written_by(request->command, named))
-        misused("%s: %s writes %s", request->out, commands[request->command], request->check ? "text here, as NAME.txt" : written_by(request->command));
-    if ((words->given[AS] && named != kind) || (words->given[GREY] && named == AS_PYRAMID))
-        misused("%s: stands for another kind of file than %s does", request->out, as_typed(words, words->given[AS] ? AS : GREY).text);
-    return named;
-}
-
-/* Many files have no place in one, nor have they all one name. */
-static void judge_folder(const Words *words, const Request *request) {
-    if (request->to == NULL && words->given[JOBS])
-        misused("%s is for many files: --to stands beside it", as_typed(words, JOBS).text);
-    if (request->to != NULL && request->out != NULL)
-        misused("beside --to there is no place for %s: each file keeps its name", as_typed(words, OUTPUT).text);
-    if (request->check && (request->to != NULL || words->given[AS]))
-        misused("--check writes nothing, so there is no place for --%s", request->to != NULL ? "to" : "as");
-}
-
-static const char of_json[] = "parts, explain, seal, verify and decode --check";
-
-static void judge_each_option(const Words *words, const Request *request) {
+static void judge_options(const Words *words, const Request *request) {
     for (Option option = 0; option < OPTIONS; option++)
-        if (words->given[option] && !(options[option].commands >> request->command & 1))
-            misused("%s is for %s", as_typed(words, option).text, option == JSON ? of_json : commands_in_words(options[option].commands).text);
-}
-
-static void judge_together(const Words *words, const Request *request) {
+        if (words->given[option] && !(options[option].commands >> request->command & 1)) {
+            const char letter[] = {options[option].letter, '\0'};
+            bool as_word = words->as_word[option];
+            misused("%s%s is for %s", as_word ? "--" : "-", as_word ? options[option].word : letter, options[option].is_for);
+        }
     if (request->json && request->command == DECODE && !request->check)
-        misused("--json is for %s", of_json);
+        misused("--json is for %s", options[JSON].is_for);
     if (words->given[HALVE] && !request->grey)
-        misused("%s is for pictures: -g, or -o NAME.pgm or NAME.png, stands beside it", as_typed(words, HALVE).text);
+        misused("%s is for pictures: -g, or -o NAME.pgm, stands beside it", words->as_word[HALVE] ? "--halve" : "-s");
     if (request->has_most && (words->given[LEVEL] || words->given[PLANE]))
-        misused("beside %s there is no place for -r or -p", as_typed(words, MOST).text);
-    if (request->command == CERTIFICATE && request->of != NULL && request->seals == NULL)
-        misused("--of names a sealed record: --seals stands beside it");
+        misused("beside %s there is no place for -r or -p", words->as_word[MOST] ? "--error" : "-e");
     if (request->out != NULL && request->check && !request->json)
         misused("--check writes nothing, so there is no place for -o");
-    if (request->index != NULL && request->has_most)
-        misused("beside %s there is no place for %s", as_typed(words, MOST).text, as_typed(words, BY_INDEX).text);
-    if (request->plane_count > 0 && (request->index != NULL || request->command == RANGES))
-        misused("by an index there is one PLANE for all levels, not '%s'", words->arguments[PLANE]);
-    if (request->index != NULL && request->to != NULL)
-        misused("%s is of one record: there is no place for --to", as_typed(words, BY_INDEX).text);
-    if (request->beside && request->out != NULL)
-        misused("beside --beside there is no place for %s: each index stands beside its record", as_typed(words, OUTPUT).text);
-    judge_folder(words, request);
 }
 
 static bool takes_many(const Request *request) {
-    return request->to != NULL || request->beside || request->check || request->command == PARTS || request->command == EXPLAIN ||
-           request->command == SEAL || request->command == VERIFY || (request->command == CHECK_RECORD && request->out == NULL);
+    return request->command == PARTS || request->command == EXPLAIN || request->command == SEAL || request->command == VERIFY || request->check;
 }
 
 /* The seals stand before the files that are held against them. */
@@ -170,29 +260,20 @@ static size_t read_seals_name(const Words *words, Request *request) {
     return 2;
 }
 
-/* W, H and N of a pyramid stand before its file; where there is at most one operand, or many are written to a folder, each is a picture. */
+/* W, H and N of a pyramid stand before its file; where there is at most one operand, it is a picture. */
 static size_t read_numbers(const Words *words, Request *request) {
     static const char *const names[] = {"W", "H", "N"};
     uint64_t *const numbers[] = {&request->width, &request->height, &request->decompositions};
-    request->is_picture = request->command == CODE && (words->count <= 2 || request->to != NULL);
+    request->is_picture = request->command == CODE && words->count <= 2;
     if (request->command != CODE || request->is_picture)
         return 1;
     if (words->count == 3)
         misused("before a pyramid stand W, H and N, and before a picture nothing");
     if (words->given[DECOMPOSITIONS])
-        misused("%s is for pictures; of a pyramid N stands behind W and H", as_typed(words, DECOMPOSITIONS).text);
+        misused("%s is for pictures; of a pyramid N stands behind W and H", words->as_word[DECOMPOSITIONS] ? "--decompositions" : "-n");
     for (size_t i = 0; i < 3; i++)
-        *numbers[i] = number_from(names[i], i < 2 ? AFS_LEAST_SIDE : 1, i < 2 ? AFS_GREATEST_SIDE : AFS_MOST_DECOMPOSITIONS, words->operands[1 + i]);
+        *numbers[i] = number_from(names[i], i < 2 ? 4 : 1, i < 2 ? 512 : 5, words->operands[1 + i]);
     return 4;
-}
-
-static void judge_names(const Request *request) {
-    const char *option = request->to != NULL ? "--to" : "--beside";
-    if (request->count == 0)
-        misused("%s needs files: each keeps its name", option);
-    for (size_t i = 0; i < request->count; i++)
-        if (!is_named(request->files[i]))
-            misused("standard input has no name to be kept by %s", option);
 }
 
 static void judge_pair(const Request *request) {
@@ -202,20 +283,6 @@ static void judge_pair(const Request *request) {
         misused("too many arguments: '%s'", request->files[2]);
     if (!is_named(request->files[0]) && !is_named(request->files[1]))
         misused("only one of the two records can be standard input");
-}
-
-/* A sheet is of one record; many pictures may be of one job. */
-static void judge_job(const Words *words, const Request *request) {
-    if ((request->job != NULL || request->widen) && request->command == CODE && !request->is_picture)
-        misused("%s is for pictures, and before a pyramid stand W, H and N: leave one of both out", as_typed(words, request->widen ? WIDEN : JOB).text);
-    if (request->job == NULL)
-        return;
-    if (!is_named(request->job))
-        misused("--job needs the name of a file, not '%s'", request->job);
-    if (request->command == CODE && request->out == NULL && request->to == NULL)
-        misused("the sheet of --job is written beside the record: name that with -o, or a folder with --to");
-    if (request->command != CODE && (request->count > 1 || request->to != NULL))
-        misused("--job is the sheet of one record: of many each has its own beside it, as NAME.job.json");
 }
 
 /* Command, numbers, files. */
@@ -231,107 +298,51 @@ static void read_operands(const Words *words, Request *request) {
         judge_pair(request);
     else if (request->count > 1 && !takes_many(request))
         misused("too many arguments: '%s'", request->files[1]);
-    if (request->to != NULL || request->beside)
-        judge_names(request);
     if (request->count == 0) {
         request->files = standard_input;
         request->count = 1;
     }
-    judge_job(words, request);
-    if (request->index != NULL && !is_named(request->index) && !is_named(request->files[0]))
-        misused("only one of record and index can be standard input");
-    if (request->command == CERTIFICATE && request->seals != NULL && !is_named(request->seals) && !is_named(request->files[0]))
-        misused("only one of record and seals can be standard input");
+}
+
+static bool ends_in(const char *path, const char *ending) {
+    size_t length = path == NULL ? 0 : strlen(path), of_ending = strlen(ending);
+    return length >= of_ending && strcmp(path + length - of_ending, ending) == 0;
 }
 
 /* The halved picture needs no finer levels than these. */
 static void expect(const Words *words, Request *request) {
     request->asks = words->given[LEVEL] || words->given[PLANE];
     request->has_expectation = request->asks || request->halvings > 0;
-    request->has_level = words->given[LEVEL];
-    if (!request->has_level)
+    if (!words->given[LEVEL])
         request->level = request->halvings + 1;
+    if (request->command == CERTIFICATE)
+        request->halvings = request->level - 1;
 }
 
-/* One plane, or one for each level: 4,2,0. */
-static void take_planes(const char *text, Request *request) {
-    if (strchr(text, ',') == NULL) {
-        request->plane = number_from("PLANE", 0, 17, text);
-        return;
-    }
-    char *copy = memory_for(strlen(text) + 1, 1), *from = strcpy(copy, text);
-    request->planes = memory_for(strlen(text), sizeof *request->planes);
-    for (char *comma; from != NULL; from = comma == NULL ? NULL : comma + 1) {
-        if ((comma = strchr(from, ',')) != NULL)
-            *comma = '\0';
-        request->planes[request->plane_count++] = number_from("each PLANE", 0, 17, from);
-    }
-    free(copy);
-}
-
-static void take_numbers(const Words *words, Request *request) {
-    const char *const *arguments = words->arguments;
-    if (words->given[DECOMPOSITIONS])
-        request->decompositions = number_from("N", 1, AFS_MOST_DECOMPOSITIONS, arguments[DECOMPOSITIONS]);
-    if (words->given[LEVELS])
-        request->levels = number_from("K", 1, AFS_LEVEL_PLACES, arguments[LEVELS]);
-    if (words->given[LEVEL])
-        request->level = number_from("LEVEL", 1, AFS_LEVEL_PLACES, arguments[LEVEL]);
-    if (words->given[PLANE])
-        take_planes(arguments[PLANE], request);
-    if (words->given[HALVE])
-        request->halvings = number_from("S", 0, AFS_MOST_DECOMPOSITIONS - 1, arguments[HALVE]);
-    if (words->given[MOST])
-        request->most = number_within("E", 0, 255, arguments[MOST]);
-    request->jobs = words->given[JOBS] ? number_within("JOBS", 1, MOST_JOBS, arguments[JOBS]) : 1;
-}
-
-static void take_texts(const Words *words, Request *request) {
-    request->seals = words->arguments[SEALS];
-    request->of = words->arguments[OF];
-    request->index = words->arguments[BY_INDEX];
-    request->job = words->arguments[JOB];
-    request->title = some(words->arguments[TITLE]);
-    request->note = some(words->arguments[NOTE]);
-    request->device = some(words->arguments[DEVICE]);
-    request->scale = scale_from(words->arguments[SCALE]);
-    request->out = words->arguments[OUTPUT];
-    request->to = words->arguments[TO];
-}
-
-static void take_switches(const Words *words, Request *request) {
-    request->force = words->given[FORCE];
-    request->quiet = words->given[QUIET];
-    request->whole = words->given[WHOLE];
-    request->check = words->given[CHECK];
-    request->beside = words->given[BESIDE];
-    request->widen = words->given[WIDEN];
-    request->strict = words->given[STRICT];
-    request->json = words->given[JSON];
-    request->has_most = words->given[MOST];
-    request->has_decompositions = words->given[DECOMPOSITIONS];
-    request->has_levels = words->given[LEVELS];
+static void choose_form(Request *request) {
+    request->form = ends_in(request->out, ".pdf") ? AS_PDF : ends_in(request->out, ".png") ? AS_PNG : AS_HTML;
+    if (request->scale == NULL)
+        request->scale = scale_named("grey");
 }
 
 Request request_from(char **argv) {
-    Words words = words_of(argv);
-    if (words.given[HELP] || (words.count > 0 && strcmp(words.operands[0], "help") == 0))
-        print_help_and_exit(&words);
-    if (words.given[VERSION_OPTION])
-        print_version_and_exit(words.given[VERBOSE]);
-    if (words.given[VERBOSE])
-        misused("--verbose is for --version");
+    Words words = {.count = 0};
+    Request request = {.command = CODE};
+    read_words(argv, &words, &request);
     if (words.count == 0)
-        misused("no command: %s are there", commands_in_words(EVERY).text);
-    Request request = {.command = command_named(words.operands[0])};
-    take_numbers(&words, &request);
-    take_texts(&words, &request);
-    take_switches(&words, &request);
-    judge_each_option(&words, &request);
-    request.kind = choose_kind(&words, &request);
-    request.grey = words.given[GREY] || (request.command == DECODE && (request.kind == AS_PGM || request.kind == AS_PNG));
+        misused("no command: %s", commands_there);
+    request.command = command_named(words.operands[0]);
+    request.force = words.given[FORCE];
+    request.quiet = words.given[QUIET];
+    request.whole = words.given[WHOLE];
+    request.check = words.given[CHECK];
+    request.json = words.given[JSON];
+    request.has_most = words.given[MOST];
+    request.has_decompositions = words.given[DECOMPOSITIONS];
+    request.grey = words.given[GREY] || (request.command == DECODE && ends_in(request.out, ".pgm"));
     expect(&words, &request);
-    judge_together(&words, &request);
+    choose_form(&request);
+    judge_options(&words, &request);
     read_operands(&words, &request);
     return request;
 }

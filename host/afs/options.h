@@ -2,47 +2,34 @@
 #ifndef AFS_OPTIONS_H
 #define AFS_OPTIONS_H
 
-#include "choices.h"
-#include "kinds.h"
+#include "converting.h"
 #include "scales.h"
 
 #include <stdbool.h>
 #include <stddef.h>
 #include <stdint.h>
 
-enum { MOST_JOBS = 256 };
+typedef enum { CODE, SERVE, JOIN, DECODE, PARTS, EXPLAIN, SEAL, VERIFY, CERTIFICATE, COMMANDS } Command;
 
 typedef struct {
     Command command;
     bool is_picture;                        /* code: a grey file and no pyramid */
     uint64_t width, height, decompositions; /* of code; for a picture only the last: */
     bool has_decompositions;                /* with -n */
-    bool has_levels;                        /* code: in version 2, */
-    uint64_t levels;                        /* with so many levels */
     uint64_t level, plane;
-    uint64_t *planes;     /* serve, decode, certificate: instead of one plane one for each level, level 1 first, */
-    size_t plane_count;   /* so many; 0 where there is one plane */
     bool asks;            /* -r or -p was given */
-    bool has_level;       /* -r was given: a certificate draws this level */
     bool has_expectation; /* decode: it is known what was to be expected */
-    bool grey;            /* decode: a picture is to be written */
-    uint64_t halvings;    /* so many times halved */
-    bool has_most;        /* serve, certificate: as much as keeps every pixel */
+    bool grey;            /* decode: a grey file is to be written */
+    uint64_t halvings;    /* so many times halved; of a certificate too */
+    bool has_most;        /* serve: as much as keeps every pixel */
     uint64_t most;        /* within so many grey values */
     bool force, quiet, whole, check, json;
-    const char *seals;  /* verify, certificate: their file, or NULL */
-    const char *index;  /* serve: the file of an index, or NULL */
-    bool beside;        /* index: each beside its record */
-    const char *job;    /* the file of a job's sheet, NULL if it is beside its record */
-    bool widen;         /* code: whatever its sides are legal for */
-    bool strict;        /* certificate: with all that a report needs, or not at all */
-    const char *of;     /* of these: the name of the sealed record, NULL if it is to be found */
+    const char *seals;  /* verify: their file */
+    const char *of;     /* verify: the name of the sealed record, NULL if it is to be found */
     const char *title, *note, *device; /* certificate: NULL if not given */
     const Scale *scale;
-    Kind kind;          /* of what is written */
+    SheetForm form;
     const char *out;    /* NULL without -o */
-    const char *to;     /* a folder for what each file gives, or NULL */
-    uint64_t jobs;      /* processes that work on them at once */
     char *const *files; /* at least one, to be joined two; "-" is standard input */
     size_t count;
 } Request;

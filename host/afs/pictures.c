@@ -1,41 +1,25 @@
 #include "pictures.h"
 
-#include "png_file.h"
-
 #include <stdlib.h>
 #include <string.h>
 
-/* Where none is asked for: a picture that was coded before there were more is coded to the same bytes. */
-enum { USUAL_DECOMPOSITIONS = 5 };
+enum { LEAST_SIDE = 4, GREATEST_SIDE = 512, MOST_DECOMPOSITIONS = 5, LONGEST_HEADER = 15 };
 
-bool is_side(uint64_t side, uint64_t decompositions) {
-    return decompositions <= AFS_MOST_DECOMPOSITIONS && side >= AFS_LEAST_SIDE && side <= AFS_GREATEST_SIDE && side % (UINT64_C(2) << decompositions) == 0;
-}
-
-uint64_t halved_side(uint64_t side, uint64_t halvings) {
-    return (side + (UINT64_C(1) << halvings) - 1) >> halvings;
+static bool is_side(uint64_t side, uint64_t decompositions) {
+    return side >= LEAST_SIDE && side <= GREATEST_SIDE && side % (UINT64_C(2) << decompositions) == 0;
 }
 
 PictureSizes sizes_of(Bytes file, const uint64_t *asked) {
     uint64_t answer[AFS_GREY_READ_NUMBERS];
     afs_grey_size(file.at, file.length, answer, AFS_GREY_READ_NUMBERS);
-    PictureSizes sizes = {answer[AFS_GREY_READ_WIDTH], answer[AFS_GREY_READ_HEIGHT], asked == NULL ? USUAL_DECOMPOSITIONS : *asked};
+    PictureSizes sizes = {answer[AFS_GREY_READ_WIDTH], answer[AFS_GREY_READ_HEIGHT], asked == NULL ? MOST_DECOMPOSITIONS : *asked};
     if (asked == NULL)
         while (sizes.decompositions > 1 && !(is_side(sizes.width, sizes.decompositions) && is_side(sizes.height, sizes.decompositions)))
             sizes.decompositions--;
     return sizes;
 }
 
-void take_as_grey_file(Bytes *file) {
-    PngFault fault;
-    Bytes grey = is_png(*file) ? grey_file_of_png(*file, &fault) : (Bytes){NULL, 0};
-    if (grey.at == NULL)
-        return;
-    free(file->at);
-    *file = grey;
-}
-
-Outcome code_picture(Bytes file, const uint64_t *asked, const uint64_t *levels) {
+Outcome code_picture(Bytes file, const uint64_t *asked) {
     PictureSizes sizes = sizes_of(file, asked);
     /* Never more than the file has bytes: where it is no picture both are 0, and else all its pixels are there. */
     size_t count = sizes.width * sizes.height, work_count = WORK_PER_COEFFICIENT * count;
@@ -46,7 +30,7 @@ Outcome code_picture(Bytes file, const uint64_t *asked, const uint64_t *levels) 
     free(work);
     Outcome outcome = {.number = answer[AFS_GREY_READ_NUMBER], .place = answer[AFS_GREY_READ_PLACE]};
     if (outcome.number == AFS_ACCEPTED)
-        outcome = code_numbers(pyramid, count, (CodeSizes){sizes.width, sizes.height, sizes.decompositions, levels != NULL, levels != NULL ? *levels : 0});
+        outcome = code_numbers(pyramid, count, sizes.width, sizes.height, sizes.decompositions);
     free(pyramid);
     return outcome;
 }
@@ -62,12 +46,11 @@ static int32_t *block_of(const int32_t *pyramid, Header header, Header block) {
 static Header halved(Header header, uint64_t halvings) {
     if (halvings >= header.decompositions)
         return (Header){.decompositions = 0};
-    return (Header){.width = header.width >> halvings, .height = header.height >> halvings, .decompositions = header.decompositions - (uint32_t)halvings,
-                    .planes = header.planes};
+    return (Header){header.width >> halvings, header.height >> halvings, header.decompositions - (uint32_t)halvings, header.planes};
 }
 
 static void print_block(const int32_t *pyramid, Header header, Header block, Outcome *outcome) {
-    size_t count = (size_t)block.width * block.height, room = AFS_GREY_BOUND(block.width, block.height), work_count = WORK_PER_COEFFICIENT * count;
+    size_t count = (size_t)block.width * block.height, room = LONGEST_HEADER + count, work_count = WORK_PER_COEFFICIENT * count;
     int32_t *numbers = block_of(pyramid, header, block);
     uint32_t *work = memory_for(work_count, sizeof *work);
     uint64_t answer[AFS_GREY_WRITTEN_NUMBERS];

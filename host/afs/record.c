@@ -1,6 +1,6 @@
 #include "record.h"
 
-enum { MOST_BYTES = 4, GROUP = 7, MORE = 0x80, VERSION_1 = 1, VERSION_2 = 2 };
+enum { MOST_BYTES = 4, GROUP = 7, MORE = 0x80, VERSION_OF_FORMAT = 1 };
 
 static uint32_t read_number(const uint8_t **at) {
     uint32_t value = 0;
@@ -16,12 +16,11 @@ static uint32_t read_number(const uint8_t **at) {
 
 Header read_header(const uint8_t **at) {
     Header header;
-    uint32_t version = read_number(at);
+    read_number(at); /* the version */
     header.width = read_number(at);
     header.height = read_number(at);
     header.decompositions = read_number(at);
     header.planes = read_number(at);
-    header.levels = version == VERSION_2 ? read_number(at) : 0;
     return header;
 }
 
@@ -50,17 +49,12 @@ size_t put_head(uint8_t *at, Part part) {
 }
 
 size_t put_header(uint8_t *at, Header header) {
-    uint8_t *end = put_number(put_number(put_number(at, header.levels > 0 ? VERSION_2 : VERSION_1), header.width), header.height);
-    end = put_number(put_number(end, header.decompositions), header.planes);
-    return (size_t)((header.levels > 0 ? put_number(end, header.levels) : end) - at);
+    uint8_t *end = put_number(put_number(put_number(at, VERSION_OF_FORMAT), header.width), header.height);
+    return (size_t)(put_number(put_number(end, header.decompositions), header.planes) - at);
 }
 
 uint32_t coarsest(Header header) {
-    return header.levels > 0 ? header.levels : header.decompositions + 1;
-}
-
-bool is_merged(Header header) {
-    return coarsest(header) <= header.decompositions;
+    return header.decompositions + 1;
 }
 
 uint32_t most_parts(Header header) {

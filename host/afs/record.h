@@ -4,9 +4,8 @@
 
 #include "files.h"
 
-/* The levels are K of version 2, and 0 where the version is 1. */
 typedef struct {
-    uint32_t width, height, decompositions, planes, levels;
+    uint32_t width, height, decompositions, planes;
 } Header;
 
 typedef struct {
@@ -21,15 +20,14 @@ Part read_part(const uint8_t **at);
 /* How many bytes the body has whose bits a part counts. */
 size_t length_of_body(Part part);
 
-enum { ROOM_FOR_HEAD = 15, ROOM_FOR_HEADER = 30 };
+enum { ROOM_FOR_HEAD = 15, ROOM_FOR_HEADER = 25 };
 
 /* The bytes before a part's body, and those of a header, in the only form that is legal. How many they are. */
 size_t put_head(uint8_t *at, Part part);
 size_t put_header(uint8_t *at, Header header);
 
-/* Levels of parts run from 1, the finest, to this. Those of the pyramid run on to N + 1, and belong to it. */
+/* Levels run from 1, the finest, to this. */
 uint32_t coarsest(Header header);
-bool is_merged(Header header);
 
 /* One for each plane and level. */
 uint32_t most_parts(Header header);

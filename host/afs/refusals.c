@@ -1,52 +1,42 @@
 #include "refusals.h"
 
-#include "foreign.h"
 #include "grey_words.h"
 #include "pictures.h"
 #include "record.h"
 
 #include <inttypes.h>
 
-enum { MOST_PLANES = 17, COEFFICIENT_BYTES = 4, BITS_PER_COEFFICIENT = 4 };
+enum { LEAST_SIDE = 4, GREATEST_SIDE = 512, MOST_DECOMPOSITIONS = 5, MOST_PLANES = 17, COEFFICIENT_BYTES = 4, BITS_PER_COEFFICIENT = 4 };
 
 /* Sizes that a header or a command line tells. */
 typedef struct {
     uint64_t width, height, decompositions, planes;
     const char *where;
-    bool of_version_2;
-    uint64_t levels;
 } Sizes;
 
 static Sentence why_side(const char *name, uint64_t side, Sizes sizes) {
-    if (side < AFS_LEAST_SIDE || side > AFS_GREATEST_SIDE)
-        return say("%s%s is %" PRIu64 "; legal is %d to %d", name, sizes.where, side, AFS_LEAST_SIDE, AFS_GREATEST_SIDE);
+    if (side < LEAST_SIDE || side > GREATEST_SIDE)
+        return say("%s%s is %" PRIu64 "; legal is %d to %d", name, sizes.where, side, LEAST_SIDE, GREATEST_SIDE);
     return say("%s%s is %" PRIu64 "; legal with N = %" PRIu64 " is a multiple of %d", name, sizes.where, side, sizes.decompositions,
                2 << sizes.decompositions);
 }
 
-static bool is_number_of_decompositions(uint64_t number) {
-    return number >= 1 && number <= AFS_MOST_DECOMPOSITIONS;
-}
-
-static bool has_legal_levels(Sizes sizes) {
-    return !sizes.of_version_2 || (sizes.levels >= 1 && sizes.levels <= sizes.decompositions + 1);
+static bool is_side(uint64_t side, uint64_t decompositions) {
+    return side >= LEAST_SIDE && side <= GREATEST_SIDE && side % (UINT64_C(2) << decompositions) == 0;
 }
 
 static bool is_legal(Sizes sizes) {
-    return is_number_of_decompositions(sizes.decompositions) && is_side(sizes.width, sizes.decompositions) &&
-           is_side(sizes.height, sizes.decompositions) && sizes.planes <= MOST_PLANES && has_legal_levels(sizes);
+    return sizes.decompositions >= 1 && sizes.decompositions <= MOST_DECOMPOSITIONS && is_side(sizes.width, sizes.decompositions) &&
+           is_side(sizes.height, sizes.decompositions) && sizes.planes <= MOST_PLANES;
 }
 
 static Sentence why_size(Sizes sizes) {
-    if (!is_number_of_decompositions(sizes.decompositions))
-        return say("N, the number of decompositions,%s is %" PRIu64 "; legal is 1 to %d", sizes.where, sizes.decompositions, AFS_MOST_DECOMPOSITIONS);
+    if (sizes.decompositions < 1 || sizes.decompositions > MOST_DECOMPOSITIONS)
+        return say("N, the number of decompositions,%s is %" PRIu64 "; legal is 1 to %d", sizes.where, sizes.decompositions, MOST_DECOMPOSITIONS);
     if (!is_side(sizes.width, sizes.decompositions))
         return why_side("W, the width,", sizes.width, sizes);
     if (!is_side(sizes.height, sizes.decompositions))
         return why_side("H, the height,", sizes.height, sizes);
-    if (sizes.planes <= MOST_PLANES)
-        return say("K, the number of levels,%s is %" PRIu64 "; legal with N = %" PRIu64 " is 1 to %" PRIu64, sizes.where, sizes.levels,
-                   sizes.decompositions, sizes.decompositions + 1);
     return say("the number of planes%s is %" PRIu64 "; legal is 0 to %d", sizes.where, sizes.planes, MOST_PLANES);
 }
 
@@ -55,32 +45,13 @@ static Sentence why_range(const Request *request, Bytes pyramid, uint64_t index)
                index / request->width, index % request->width, coefficient_at(pyramid.at + COEFFICIENT_BYTES * index));
 }
 
-/* A picture is made legal elsewhere: cut, made smaller, or, where its sides are no multiples, larger. */
-static Sentence why_sides(PictureSizes sizes, bool is_asked) {
-    int multiple = 2 << sizes.decompositions;
-    Sentence with_number = say("with N = %" PRIu64 " ", sizes.decompositions);
-    Sentence legal = say("%" PRIu64 " x %" PRIu64 ": %ssides must be multiples of %d and at most %d", sizes.width, sizes.height,
-                         is_asked ? with_number.text : "", multiple, AFS_GREATEST_SIDE);
-    if (sizes.width > AFS_GREATEST_SIDE || sizes.height > AFS_GREATEST_SIDE)
-        return say("%s; 'pamdice -width=%d -height=%d' cuts it into such pieces, and 'pamscale' makes it smaller", legal.text, AFS_GREATEST_SIDE,
-                   AFS_GREATEST_SIDE);
-    return say("%s; 'afs code%s IN -o NAME.record' widens it, and writes its own size to NAME.job.json", legal.text,
-               is_side(sizes.width, 1) && is_side(sizes.height, 1) ? " --widen" : "");
-}
-
-static bool has_legal_sides(PictureSizes sizes) {
-    return is_side(sizes.width, sizes.decompositions) && is_side(sizes.height, sizes.decompositions);
-}
-
 static Sentence why_not_taken(const Request *request, Bytes file, const Outcome *outcome) {
     PictureSizes sizes = sizes_of(file, request->has_decompositions ? &request->decompositions : NULL);
     switch (outcome->number) {
     case AFS_GREY:
         return why_not_grey(file);
     case AFS_SIZE:
-        if (is_number_of_decompositions(sizes.decompositions) && sizes.width > 0 && sizes.height > 0 && !has_legal_sides(sizes))
-            return why_sides(sizes, request->has_decompositions);
-        return why_size((Sizes){sizes.width, sizes.height, sizes.decompositions, 0, " of the picture", request->has_levels, request->levels});
+        return why_size((Sizes){sizes.width, sizes.height, sizes.decompositions, 0, " of the picture"});
     default:
         return say("memory that was lent is too short");
     }
@@ -90,7 +61,7 @@ static Sentence why_not_coded(const Request *request, Bytes pyramid, const Outco
     uint64_t width = request->width, height = request->height;
     switch (outcome->number) {
     case AFS_SIZE:
-        return why_size((Sizes){width, height, request->decompositions, 0, "", request->has_levels, request->levels});
+        return why_size((Sizes){width, height, request->decompositions, 0, ""});
     case AFS_LENGTH:
         return say("%" PRIu64 " x %" PRIu64 " coefficients are %" PRIu64 " bytes; %zu are there", width, height, width * height * COEFFICIENT_BYTES,
                    pyramid.length);
@@ -112,47 +83,37 @@ static Sentence why_malformed(Form form, const char *number, size_t offset) {
     }
 }
 
-/* The last is of version 2 alone. */
-static const char *const header_names[] = {"its version", "W, the width", "H, the height", "N, the number of decompositions", "the number of planes",
-                                           "K, the number of levels"};
-
-enum { IN_VERSION_1 = 5, IN_VERSION_2 = 6 };
-
-/* Reads the header's numbers, and tells the first that isn't well formed, its name and where it begins. */
-static Form try_header(Bytes record, size_t *which, size_t *begin) {
-    size_t offset = 0, count = IN_VERSION_1;
-    Form form = WELL_FORMED;
-    for (*which = 0; *which < count; (*which)++) {
-        uint32_t number;
-        *begin = offset;
-        form = try_number(record, &offset, &number);
-        if (form != WELL_FORMED)
-            break;
-        if (*which == 0 && number == 2)
-            count = IN_VERSION_2;
-    }
-    return form;
-}
+static const char *const header_names[] = {"its version", "W, the width", "H, the height", "N, the number of decompositions", "the number of planes"};
 
 static Sentence why_head(Bytes record) {
-    size_t which, begin;
+    size_t offset = 0;
     if (record.length == 0)
         return say("nothing is there; the shortest record is a header of 5 bytes");
-    Form form = try_header(record, &which, &begin);
-    return form != WELL_FORMED ? why_malformed(form, header_names[which], begin) : say("the header is malformed");
+    for (size_t i = 0; i < sizeof header_names / sizeof *header_names; i++) {
+        size_t begin = offset;
+        uint32_t number;
+        Form form = try_number(record, &offset, &number);
+        if (form != WELL_FORMED)
+            return why_malformed(form, header_names[i], begin);
+    }
+    return say("the header is malformed");
 }
 
 /* Whether the header's numbers are there and well formed: a refusal of a number's form is then of a part. */
 static bool has_header(Bytes record) {
-    size_t which, begin;
-    return try_header(record, &which, &begin) == WELL_FORMED;
+    size_t offset = 0;
+    uint32_t number;
+    for (size_t i = 0; i < sizeof header_names / sizeof *header_names; i++)
+        if (try_number(record, &offset, &number) != WELL_FORMED)
+            return false;
+    return true;
 }
 
 static Sentence why_version(Bytes record) {
     size_t offset = 0;
     uint32_t version;
     try_number(record, &offset, &version);
-    return say("it begins with version %" PRIu32 "; legal is 1 or 2: so this is no record, or a later one", version);
+    return say("it begins with version %" PRIu32 "; legal is 1: so this is no record, or a later one", version);
 }
 
 /* A part's head in any bytes, and how far it could be read. */
@@ -222,21 +183,15 @@ static Sentence why_bits(Bytes record, const Outcome *outcome) {
 static Sentence why_ask(const Request *request, Header header) {
     if (request->level < 1 || request->level > coarsest(header))
         return say("level %" PRIu64 " was asked for; this record has levels 1 to %" PRIu32, request->level, coarsest(header));
-    if (request->plane_count > 0 && request->plane_count != coarsest(header))
-        return say("%zu planes were asked for; this record has %" PRIu32 " level%s, each with one", request->plane_count, coarsest(header),
-                   coarsest(header) == 1 ? "" : "s");
-    for (size_t level = 1; level <= request->plane_count; level++)
-        if (request->planes[level - 1] > header.planes && (!request->has_level || level >= request->level))
-            return say("plane %" PRIu64 " was asked for at level %zu; of this record 0 to %" PRIu32 " can be", request->planes[level - 1], level,
-                       header.planes);
     return say("plane %" PRIu64 " was asked for; of this record 0 to %" PRIu32 " can be", request->plane, header.planes);
 }
 
-static Sentence why_not_this_size(const Request *request, uint32_t version, Header header) {
-    Sizes sizes = {header.width, header.height, header.decompositions, header.planes, " in the header", version == 2, header.levels};
+static Sentence why_not_this_size(const Request *request, Header header) {
+    Sizes sizes = {header.width, header.height, header.decompositions, header.planes, " in the header"};
+    if (is_legal(sizes) && request->command == CERTIFICATE)
+        return say("level %" PRIu64 " was asked for; a picture can be drawn for levels 1 to %" PRIu32, request->level, header.decompositions);
     if (is_legal(sizes))
-        return say("%" PRIu64 " halving%s asked for; of this picture 0 to %" PRIu32 " can be", request->halvings, request->halvings == 1 ? " was" : "s were",
-                   header.decompositions - 1);
+        return say("%" PRIu64 " halvings were asked for; of this picture 0 to %" PRIu32 " can be", request->halvings, header.decompositions - 1);
     return why_size(sizes);
 }
 
@@ -249,7 +204,7 @@ static Sentence why_not_read(const Request *request, Bytes record, const Outcome
     Header header = read_header(&at);
     switch (outcome->number) {
     case AFS_SIZE:
-        return why_not_this_size(request, record.at[0], header);
+        return why_not_this_size(request, header);
     case AFS_PART:
     case AFS_LONGFORM:
         return why_part(record, outcome->place, header);
@@ -258,8 +213,6 @@ static Sentence why_not_read(const Request *request, Bytes record, const Outcome
         return why_bits(record, outcome);
     case AFS_ASK:
         return why_ask(request, header);
-    case AFS_FOREIGN:
-        return why_foreign(record);
     default:
         return say("memory that was lent is too short");
     }
@@ -271,15 +224,12 @@ Sentence why_refused(const Request *request, Bytes input, const Outcome *outcome
     return request->is_picture ? why_not_taken(request, input, outcome) : why_not_coded(request, input, outcome);
 }
 
-static Sentence header_in_words(Header header) {
-    Sentence sizes = say("%" PRIu32 " x %" PRIu32 ", N = %" PRIu32 ", %" PRIu32 " planes", header.width, header.height, header.decompositions, header.planes);
-    return header.levels > 0 ? say("%s, K = %" PRIu32, sizes.text, header.levels) : sizes;
-}
-
 static Sentence why_mixed(Bytes first, Bytes second) {
     const uint8_t *at = first.at, *at_second = second.at;
     Header one = read_header(&at), other = read_header(&at_second);
-    return say("their headers differ: %s; and %s", header_in_words(one).text, header_in_words(other).text);
+    return say("their headers differ: %" PRIu32 " x %" PRIu32 ", N = %" PRIu32 ", %" PRIu32 " planes; and %" PRIu32 " x %" PRIu32 ", N = %" PRIu32
+               ", %" PRIu32 " planes",
+               one.width, one.height, one.decompositions, one.planes, other.width, other.height, other.decompositions, other.planes);
 }
 
 Sentence why_not_joined(Bytes first, Bytes second, const Outcome *outcome) {

@@ -24,21 +24,11 @@ static void print_name(FILE *out, const char *name) {
 
 static void print_sealed(FILE *out, const Seal *seal) {
     Header header = seal->header;
-    fprintf(out, "record %" PRIu32 " %" PRIu32 " %" PRIu32 " %" PRIu32, header.width, header.height, header.decompositions, header.planes);
-    if (header.levels > 0)
-        fprintf(out, " %" PRIu32, header.levels);
-    fputc('\n', out);
+    fprintf(out, "record %" PRIu32 " %" PRIu32 " %" PRIu32 " %" PRIu32 "\n", header.width, header.height, header.decompositions, header.planes);
     for (size_t i = 0; i < seal->count; i++) {
         Part part = seal->parts[i].part;
         fprintf(out, "part %" PRIu32 " %" PRIu32 " %" PRIu32 " ", part.plane, part.level, part.bits);
         print_digest(out, &seal->parts[i].digest);
-        fputc('\n', out);
-    }
-    if (seal->job != NULL) {
-        fputs("job ", out);
-        print_digest(out, &seal->of_job);
-        fputc(' ', out);
-        print_name(out, seal->job);
         fputc('\n', out);
     }
 }
@@ -89,15 +79,11 @@ static bool take_number(const char **at, uint32_t *number, char behind) {
     return *at > begin && *(*at)++ == behind;
 }
 
-static bool take_digest_before(const char **at, Digest *digest, const char *behind) {
+static bool take_digest(const char **at, Digest *digest) {
     if (!read_digest(*at, digest))
         return false;
     *at += DIGEST_DIGITS;
-    return take(at, behind);
-}
-
-static bool take_digest(const char **at, Digest *digest) {
-    return take_digest_before(at, digest, "\n");
+    return take(at, "\n");
 }
 
 static int value_of(char digit) {
@@ -137,13 +123,6 @@ static bool take_parts(const char **at, Seal *seal) {
     return true;
 }
 
-/* Where there is one. It has a last name, no path. */
-static bool take_job_line(const char **at, Seal *seal) {
-    if (!take(at, "job "))
-        return true;
-    return take_digest_before(at, &seal->of_job, " ") && take_name(at, &seal->job) && seal->job[0] != '\0' && strchr(seal->job, '/') == NULL;
-}
-
 /* Names ascend; what is wrong with this one is wrong with its line. */
 static bool take_next_name(const char **at, const Seals *seals, char **name) {
     const char *begin = *at;
@@ -153,20 +132,10 @@ static bool take_next_name(const char **at, const Seals *seals, char **name) {
     return false;
 }
 
-/* The last of them: of version 1 the planes, of version 2 K behind them, which isn't 0. */
-static bool take_planes(const char **at, Header *header) {
-    const char *begin = *at;
-    header->levels = 0;
-    if (take_number(at, &header->planes, '\n'))
-        return true;
-    *at = begin;
-    return take_number(at, &header->planes, ' ') && take_number(at, &header->levels, '\n') && header->levels > 0;
-}
-
 static bool take_header(const char **at, Header *header) {
     const char *begin = *at;
     if (take(at, "record ") && take_number(at, &header->width, ' ') && take_number(at, &header->height, ' ') &&
-        take_number(at, &header->decompositions, ' ') && take_planes(at, header) && is_legal_header(*header))
+        take_number(at, &header->decompositions, ' ') && take_number(at, &header->planes, '\n') && is_legal_header(*header))
         return true;
     *at = begin;
     return false;
@@ -175,8 +144,8 @@ static bool take_header(const char **at, Header *header) {
 static bool take_seal(const char **at, Seals *seals) {
     Seal seal = {.name = NULL};
     Digest digest;
-    bool is_good = take_next_name(at, seals, &seal.name) && take_header(at, &seal.header) && take_parts(at, &seal) && take_job_line(at, &seal) &&
-                   take(at, "seal ") && take_digest(at, &digest);
+    bool is_good = take_next_name(at, seals, &seal.name) && take_header(at, &seal.header) && take_parts(at, &seal) && take(at, "seal ") &&
+                   take_digest(at, &digest);
     if (is_good)
         add_seal(seals, seal);
     else

@@ -16,16 +16,9 @@ Seal seal_of(const char *name, Bytes record) {
     return seal;
 }
 
-void seal_job(Seal *seal, const char *path, Bytes sheet) {
-    const char *slash = strrchr(path, '/'), *name = slash == NULL ? path : slash + 1;
-    seal->job = strcpy(memory_for(strlen(name) + 1, 1), name);
-    seal->of_job = digest_of(sheet.at, sheet.length);
-}
-
 void free_seal(Seal *seal) {
     free(seal->name);
     free(seal->parts);
-    free(seal->job);
 }
 
 const SealedPart *part_of(const Seal *seal, uint32_t plane, uint32_t level) {

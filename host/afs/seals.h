@@ -17,8 +17,6 @@ typedef struct {
     Header header;
     SealedPart *parts; /* in the order of a record */
     size_t count;
-    char *job;         /* the last name of the job's sheet that is sealed with it, or NULL */
-    Digest of_job;
 } Seal;
 
 typedef struct {
@@ -30,13 +28,10 @@ typedef struct {
 Seal seal_of(const char *name, Bytes record);
 void free_seal(Seal *seal);
 
-/* With the sheet of its job, by the last name of its path. */
-void seal_job(Seal *seal, const char *path, Bytes sheet);
-
 /* The part of a plane and level, or NULL. */
 const SealedPart *part_of(const Seal *seal, uint32_t plane, uint32_t level);
 
-/* Digest of what is sealed of a record, and of its job's sheet; the record's name is left out. */
+/* Digest of what is sealed of a record, its name left out. */
 Digest digest_of_seal(const Seal *seal);
 
 /* Takes the seal over. */

@@ -1,22 +1,19 @@
 #include "sheet.h"
 
 #include "html.h"
-#include "pictures.h"
 #include "png_file.h"
 
 #include <inttypes.h>
 #include <stdlib.h>
-#include <string.h>
 
 enum { VALUES = 256 };
 
-DrawnSize drawn_size(const Sheet *sheet) {
-    Header header = sheet->holding.header;
-    bool is_told = sheet->job != NULL && sheet->job->width > 0;
-    DrawnSize size = {.of_width = is_told ? sheet->job->width : header.width, .of_height = is_told ? sheet->job->height : header.height};
-    size.width = halved_side(size.of_width, sheet->halvings);
-    size.height = halved_side(size.of_height, sheet->halvings);
-    return size;
+static uint32_t width_of(const Sheet *sheet) {
+    return sheet->holding.header.width >> sheet->halvings;
+}
+
+static uint32_t height_of(const Sheet *sheet) {
+    return sheet->holding.header.height >> sheet->halvings;
 }
 
 Sentence how_often(uint32_t halvings) {
@@ -25,8 +22,7 @@ Sentence how_often(uint32_t halvings) {
 
 /* As the page's title and heading. */
 static void print_title(FILE *out, const Sheet *sheet) {
-    const char *of_job = job_text(sheet->job, "report.title");
-    print_escaped(out, sheet->title != NULL ? sheet->title : of_job != NULL ? of_job : sheet->name);
+    print_escaped(out, sheet->title != NULL ? sheet->title : sheet->name);
 }
 
 static void write_head(FILE *out, const Sheet *sheet) {
@@ -36,17 +32,11 @@ static void write_head(FILE *out, const Sheet *sheet) {
           "<meta name=\"generator\" content=\"afs " VERSION "\">\n<title>",
           out);
     print_title(out, sheet);
-    fprintf(out, "</title>\n<style>\n%s", sheet_style);
-    write_job_style(out, sheet);
-    fputs("</style>\n</head>\n", out);
+    fprintf(out, "</title>\n<style>\n%s</style>\n</head>\n", sheet_style);
 }
 
 static void write_heading(FILE *out, const Sheet *sheet) {
-    fputs("<header>\n", out);
-    write_alarm(out, sheet);
-    write_masthead(out, sheet);
-    fprintf(out, "<p class=\"kind\">%s of a layered record</p>\n<h1%s>", makes_claims(sheet) ? "Certificate" : "Sheet",
-            sheet->job != NULL ? " data-item=\"a\"" : "");
+    fputs("<header>\n<p class=\"kind\">Certificate of a layered record</p>\n<h1>", out);
     print_title(out, sheet);
     fputs("</h1>\n", out);
     if (sheet->note != NULL) {
@@ -54,7 +44,6 @@ static void write_heading(FILE *out, const Sheet *sheet) {
         print_escaped_lines(out, sheet->note);
         fputs("</p>\n", out);
     }
-    write_held(out, sheet);
     fputs("</header>\n", out);
 }
 
@@ -76,33 +65,21 @@ static void write_legend(FILE *out, const Sheet *sheet) {
           out);
 }
 
-/* The longer side fills it. */
-static void write_frame(FILE *out, const Sheet *sheet, const uint8_t *values) {
-    DrawnSize size = drawn_size(sheet);
-    uint64_t longer = size.width > size.height ? size.width : size.height;
+/* The longer side fills the frame. */
+static void write_picture(FILE *out, const Sheet *sheet) {
+    uint32_t width = width_of(sheet), height = height_of(sheet), longer = width > height ? width : height;
+    Bytes file = sheet->printed->bytes;
     char attributes[160];
-    snprintf(attributes, sizeof attributes, "class=\"picture\" alt=\"The picture of %" PRIu64 " by %" PRIu64 " pixels\" style=\"width: %.4g%%\"", size.width,
-             size.height, 100.0 * (double)size.width / (double)longer);
-    fputs("<div class=\"frame\">", out);
-    write_image(out, attributes, values, (uint32_t)size.width, (uint32_t)size.height, sheet->scale);
+    snprintf(attributes, sizeof attributes, "class=\"picture\" alt=\"The picture of %" PRIu32 " by %" PRIu32 " pixels\" style=\"width: %.4g%%\"", width, height,
+             100.0 * width / longer);
+    fputs("<figure>\n<div class=\"frame\">", out);
+    write_image(out, attributes, file.at + (file.length - (size_t)width * height), width, height, sheet->scale);
     fputs("</div>\n", out);
     write_legend(out, sheet);
-}
-
-static void write_picture(FILE *out, const Sheet *sheet) {
-    DrawnSize size = drawn_size(sheet);
-    Bytes file = sheet->printed->bytes;
-    const uint8_t *values = file.at + (file.length - size.width * size.height);
-    if (has_axes(sheet->job)) {
-        fputs("<figure class=\"wide\" data-item=\"m\">\n", out);
-        write_plot(out, sheet, values);
-    } else {
-        fputs("<figure>\n", out);
-        write_frame(out, sheet, values);
-    }
-    fprintf(out, "<figcaption>%" PRIu64 " &times; %" PRIu64 " pixels", size.width, size.height);
+    fprintf(out, "<figcaption>%" PRIu32 " &times; %" PRIu32 " pixels", width, height);
     if (sheet->halvings > 0)
-        fprintf(out, ", the recorded %" PRIu64 " &times; %" PRIu64 " halved %s", size.of_width, size.of_height, how_often(sheet->halvings).text);
+        fprintf(out, ", the recorded %" PRIu32 " &times; %" PRIu32 " halved %s", sheet->holding.header.width, sheet->holding.header.height,
+                how_often(sheet->halvings).text);
     if (sheet->scale->colours == NULL)
         fputs(". Grey values as they are.</figcaption>\n</figure>\n", out);
     else
@@ -121,34 +98,6 @@ static void write_digest_fact(FILE *out, const char *what, const char *id, const
     fputs("</code></td></tr>\n", out);
 }
 
-static void write_seal_facts(FILE *out, const Held *held) {
-    const Seal *seal = held->verdict->comparison.seal;
-    if (seal != NULL) {
-        Digest digest = digest_of_seal(seal);
-        write_text_fact(out, "Sealed as", seal->name);
-        write_digest_fact(out, "Its seal", "seal", &digest);
-    }
-    fputs("<tr><th scope=\"row\">Seals</th><td>", out);
-    print_escaped(out, held->seals);
-    if (held->signatures[0] != '\0') {
-        fputs("; beside it ", out);
-        print_escaped(out, held->signatures);
-        fputs(", not judged here", out);
-    }
-    fputs("</td></tr>\n", out);
-}
-
-/* Where it isn't held against a seal, or that has none, nobody tells whether it is the one that was written. */
-static void write_job_facts(FILE *out, const Sheet *sheet) {
-    Digest digest = digest_of(sheet->job->text.at, sheet->job->text.length);
-    bool is_sealed = sheet->held != NULL && sheet->held->verdict->job == JOB_AS_SEALED;
-    const char *slash = strrchr(sheet->job->path, '/');
-    fputs("<tr><th scope=\"row\">Job&rsquo;s sheet</th><td>", out);
-    print_escaped(out, slash == NULL ? sheet->job->path : slash + 1);
-    fputs(is_sealed ? ", as it was sealed</td></tr>\n" : ", not held against a seal</td></tr>\n", out);
-    write_digest_fact(out, "SHA-256 of that", "job", &digest);
-}
-
 static void write_facts(FILE *out, const Sheet *sheet) {
     Header header = sheet->holding.header;
     fputs("<div class=\"facts\">\n<table>\n", out);
@@ -160,58 +109,35 @@ static void write_facts(FILE *out, const Sheet *sheet) {
     fputs("<tr><th scope=\"row\">Length</th><td>", out);
     print_grouped(out, sheet->record.length);
     fprintf(out, " bytes</td></tr>\n<tr><th scope=\"row\">Recorded</th><td>%" PRIu32 " &times; %" PRIu32 " coefficients in %" PRIu32 " levels, %" PRIu32
-                 " plane%s",
-            header.width, header.height, header.decompositions + 1, header.planes, header.planes == 1 ? "" : "s");
-    if (is_merged(header))
-        fprintf(out, "; levels %" PRIu32 " to %" PRIu32 " are one", coarsest(header), header.decompositions + 1);
-    fputs("</td></tr>\n", out);
-    if (sheet->held != NULL)
-        write_seal_facts(out, sheet->held);
-    if (sheet->job != NULL)
-        write_job_facts(out, sheet);
+                 " plane%s</td></tr>\n",
+            header.width, header.height, coarsest(header), header.planes, header.planes == 1 ? "" : "s");
+    write_digest_fact(out, "Seal", "seal", &sheet->seal);
     write_digest_fact(out, "SHA-256 of the file", "sha256", &sheet->of_file);
     fputs("<tr><th scope=\"row\">Made by</th><td>afs " VERSION "</td></tr>\n</table>\n</div>\n", out);
 }
 
-static void write_foot(FILE *out, const Sheet *sheet) {
-    bool has_seal = sheet->held != NULL && sheet->held->verdict->comparison.seal != NULL;
-    fputs("<footer>\n<p>", out);
-    if (has_seal)
-        fputs("The seal is the digest on the line <code>seal</code> of the record that is named, in the seals that are: the SHA-256 of its\n"
-              "header&rsquo;s numbers and of the digests of all its parts",
-              out);
-    if (has_seal && sheet->held->verdict->comparison.seal->job != NULL)
-        fputs(", and of its job&rsquo;s sheet", out);
-    if (has_seal)
-        fputs(". Who signed them, and whether the signature is good, is to be seen with what made it\n(man afs).", out);
-    else
-        fputs("Whether a byte was changed, a seal shows: <code>afs seal</code> where a record is made, <code>afs certificate --seals</code> here.", out);
-    fputs("</p>\n<p>", out);
-    if (makes_claims(sheet))
-        fputs("What is said of coefficients and pixels holds for a record that Afshtruni&rsquo;s coder wrote, whatever whole parts were left out or lost\n"
-              "since, and wherever it was cut off; not where a byte was changed, or lost inside of a part, or where records of two jobs were joined. A record\n"
-              "does not show who wrote it, or whether it was made of a picture. The theorems named here are proved of the calls that <code>afs</code> is made\n"
-              "over (docs/PROMISES.md of Afshtruni). ",
-              out);
-    fputs("Trusted, not proved: the prover and back end of the Rattle kit, on machines other than x86-64 LLVM&rsquo;s back end for them on the kit&rsquo;s\n"
-          "module, the C compiler, the linker, and the tool, which made this sheet.</p>\n",
+static void write_foot(FILE *out) {
+    fputs("<footer>\n<p>The seal is the digest on the line <code>seal</code> that <code>afs seal</code> writes of this file: the SHA-256 of its\n"
+          "header&rsquo;s numbers and of the digests of its whole parts.</p>\n"
+          "<p>What is said of coefficients and pixels holds for a record that Afshtruni&rsquo;s coder wrote, whatever whole parts were left out or lost\n"
+          "since, and wherever it was cut off; not where a byte was changed, or lost inside of a part, or where records of two jobs were joined. A record\n"
+          "does not show who wrote it, or whether it was made of a picture. The theorems named here are proved of the calls that <code>afs</code> is made\n"
+          "over (docs/PROMISES.md of Afshtruni). Trusted, not proved: the prover and back end of the Rattle kit, the C compiler, the linker, and the tool,\n"
+          "which made this sheet.</p>\n"
+          "</footer>\n",
           out);
-    fputs("</footer>\n", out);
 }
 
 void write_sheet(FILE *out, const Sheet *sheet) {
     write_head(out, sheet);
     fputs("<body>\n<main>\n", out);
     write_heading(out, sheet);
-    write_report_facts(out, sheet);
     fputs("<section class=\"top\">\n", out);
     write_picture(out, sheet);
     write_facts(out, sheet);
     fputs("</section>\n", out);
     write_answers(out, sheet);
     write_grid(out, sheet);
-    write_statements(out, sheet);
-    write_foot(out, sheet);
-    write_end(out, sheet);
+    write_foot(out);
     fputs("</main>\n</body>\n</html>\n", out);
 }

@@ -38,21 +38,25 @@ static void tell_skipped(FILE *out, const Holding *holding) {
     }
 }
 
-/* Nobody can tell whether it was so. */
+/* Says for what request serving a whole record would keep as many, if there is one. Nobody can tell whether that was so. */
 static void tell_request(FILE *out, const Holding *holding) {
-    Asked served;
-    if (is_as_served(holding, &served))
-        fprintf(out, "They are as many as 'afs serve %s' would keep of a whole record; the others may as well have been lost.\n",
-                as_options(&served, holding->header).text);
+    uint32_t least_plane = holding->header.planes, least_level = holding->levels;
+    for (uint32_t level = holding->levels; level > 0; level--)
+        for (uint32_t plane = 0; plane < holding->header.planes; plane++)
+            if (is_there(holding, plane, level)) {
+                least_level = level < least_level ? level : least_level;
+                least_plane = plane < least_plane ? plane : least_plane;
+            }
+    uint32_t asked = (holding->header.planes - least_plane) * (holding->levels - least_level + 1);
+    if (count_parts(holding, is_there) == asked)
+        fprintf(out, "They are as many as 'afs serve -r %" PRIu32 " -p %" PRIu32 "' would keep of a whole record; the others may as well have been lost.\n",
+                least_level, least_plane);
 }
 
 /* Before any figure, what the figures can't show. */
 static void tell_what_shows(FILE *out, Header header) {
     fprintf(out, "A record of a pyramid of %" PRIu32 " x %" PRIu32 " coefficients. Levels: %" PRIu32 " (coarsest) to 1 (finest). Planes: %" PRIu32 ".\n",
             header.width, header.height, coarsest(header), header.planes);
-    if (is_merged(header))
-        fprintf(out, "Levels %" PRIu32 " to %" PRIu32 " of the pyramid are one, level %" PRIu32 ".\n", coarsest(header), header.decompositions + 1,
-                coarsest(header));
     fputs("Parts that are missing, and an end that is cut off, show below.\n"
           "Bytes that were changed, or lost inside a part, do not: a record has no checksum. Keep a seal:\n"
           "'afs seal FILE >FILE.seals' where a record is made, 'afs verify FILE.seals FILE' where it arrives.\n",
@@ -60,9 +64,8 @@ static void tell_what_shows(FILE *out, Header header) {
 }
 
 static void tell_parts(FILE *out, const Holding *holding) {
-    uint32_t there = count_parts(holding, is_there), used = count_parts(holding, is_used);
-    fprintf(out, "\nParts: %" PRIu32 " of %" PRIu32 " %s there, %" PRIu32 " of them %s used.\n", there, parts_of_whole(holding),
-            there == 1 ? "is" : "are", used, used == 1 ? "is" : "are");
+    fprintf(out, "\nParts: %" PRIu32 " of %" PRIu32 " are there, %" PRIu32 " of them are used.\n", count_parts(holding, is_there),
+            parts_of_whole(holding), count_parts(holding, is_used));
     if (holding->header.planes == 0)
         fputs("Without planes there are no parts: every coefficient is 0.\n", out);
     else
@@ -80,8 +83,7 @@ static void tell_distance(FILE *out, const Holding *holding, uint32_t level) {
     else if (plane < holding->header.planes)
         fprintf(out, "reached plane %" PRIu64 ": less than 2^%" PRIu64 " = %" PRIu64 " away\n", plane, plane, UINT64_C(1) << plane);
     else
-        fprintf(out, "reached no plane: less than 2^%" PRIu64 " = %" PRIu64 " away, and all are decoded as 0%s\n", plane, UINT64_C(1) << plane,
-                is_tail_used(holding) && holding->cut.level == level ? " but those that the tail tells" : "");
+        fprintf(out, "reached no plane: less than 2^%" PRIu64 " = %" PRIu64 " away, and all are decoded as 0\n", plane, UINT64_C(1) << plane);
 }
 
 static void tell_distances(FILE *out, const Holding *holding) {
@@ -98,45 +100,25 @@ static void tell_distances(FILE *out, const Holding *holding) {
 static void tell_farthest_pixel(FILE *out, const Holding *holding) {
     if (farthest_pixel(holding, 0) == 0)
         return;
-    const LevelUnit *unit = holding->unit;
-    fprintf(out, "\nIf this record was made of a picture, a printed pixel is at most %s%s from the recorded one%s.\n",
-            grey_values(farthest_pixel(holding, 0), unit).text, unit != NULL ? "," : "", one_grey_value(unit).text);
+    fprintf(out, "\nIf this record was made of a picture, a printed pixel is at most %" PRIu64 " grey values from the recorded one.\n",
+            farthest_pixel(holding, 0));
     for (uint32_t level = holding->levels; level > 0; level--)
-        fprintf(out, "    level %" PRIu32 "  adds %" PRIu64 "%s\n", level, added_by(holding, level), and_in_unit(added_by(holding, level), unit).text);
+        fprintf(out, "    level %" PRIu32 "  adds %" PRIu64 "\n", level, added_by(holding, level));
     for (uint32_t halvings = 1; halvings < holding->header.decompositions; halvings++)
-        fprintf(out, "%sin the picture halved %" PRIu32 " time%s at most %" PRIu64 "%s", halvings == 1 ? "    " : ", ", halvings, halvings == 1 ? "" : "s",
-                farthest_pixel(holding, halvings), and_in_unit(farthest_pixel(holding, halvings), unit).text);
+        fprintf(out, "%sin the picture halved %" PRIu32 " time%s at most %" PRIu64, halvings == 1 ? "    " : ", ", halvings, halvings == 1 ? "" : "s",
+                farthest_pixel(holding, halvings));
     if (holding->header.decompositions > 1)
         fputc('\n', out);
 }
 
-/* The bound is 0 there, and says nothing of such a record. */
-static void tell_outside(FILE *out, Bytes record, const Holding *holding, const Outcome *printed) {
-    uint64_t outside = pixels_outside(record, holding, printed, 0);
-    if (outside > 0)
-        fprintf(out,
-                "\nThis record was changed, or made of no picture: all of it is there, and %" PRIu64 " %s out under 0 or over 255,\n"
-                "as of no picture.\n",
-                outside, outside == 1 ? "pixel comes" : "pixels come");
-}
-
-uint32_t lacking_planes(const Holding *holding, uint32_t level, const Asked *asked) {
-    uint32_t lacking = 0;
-    for (uint32_t plane = 0; plane < holding->header.planes; plane++)
-        if (was_asked_for(asked, plane, level) && !is_there(holding, plane, level))
-            lacking |= UINT32_C(1) << plane;
-    return lacking;
-}
-
-void tell_missing_planes(FILE *out, const Holding *holding, uint32_t level, const Asked *asked) {
-    uint32_t lacking = lacking_planes(holding, level, asked);
+void tell_missing_planes(FILE *out, const Holding *holding, uint32_t level) {
     const char *before = "";
     for (uint32_t plane = holding->header.planes; plane-- > 0;) {
-        if (!(lacking >> plane & 1))
+        if (is_there(holding, plane, level))
             continue;
         fprintf(out, "%s%" PRIu32, before, plane);
         uint32_t first = plane;
-        while (plane > 0 && lacking >> (plane - 1) & 1)
+        while (plane > 0 && !is_there(holding, plane - 1, level))
             plane--;
         if (plane < first)
             fprintf(out, " to %" PRIu32, plane);
@@ -144,17 +126,21 @@ void tell_missing_planes(FILE *out, const Holding *holding, uint32_t level, cons
     }
 }
 
+bool lacks_planes(const Holding *holding, uint32_t level) {
+    uint32_t all_planes = (UINT32_C(1) << holding->header.planes) - 1;
+    return holding->there[level - 1] != all_planes;
+}
+
 static void tell_missing(FILE *out, const Holding *holding) {
-    const Asked all = {.is_said = false};
     uint32_t whole = parts_of_whole(holding), missing = whole - count_parts(holding, is_there);
     if (missing == 0)
         fputs("\nMissing: nothing.\n", out);
     else
         fprintf(out, "\nMissing: %" PRIu32 " of %" PRIu32 " parts.\n", missing, whole);
     for (uint32_t level = holding->levels; level > 0; level--)
-        if (lacking_planes(holding, level, &all) != 0) {
+        if (lacks_planes(holding, level)) {
             fprintf(out, "    level %" PRIu32 "  plane ", level);
-            tell_missing_planes(out, holding, level, &all);
+            tell_missing_planes(out, holding, level);
             fputc('\n', out);
         }
 }
@@ -179,19 +165,18 @@ static void tell_tail(FILE *out, const Holding *holding) {
     fprintf(out, "It is the beginning of the part of level %" PRIu32 ", plane %" PRIu32 ", ", holding->cut.level, holding->cut.plane);
     if (!is_cut_used(holding))
         fputs("and was not used, as a part that it builds on is missing.\n", out);
-    else if (!is_tail_used(holding))
+    else if (holding->there_of_cut == 0)
         fputs("and was not used, as none of its bits is there.\n", out);
     else
         tell_cut_used(out, holding);
 }
 
-void explain(FILE *out, Bytes record, const Outcome *printed) {
-    Holding holding = holding_of(record, printed);
+void explain(FILE *out, Bytes record, const Outcome *decoded) {
+    Holding holding = holding_of(record, decoded);
     tell_what_shows(out, holding.header);
     tell_parts(out, &holding);
     tell_distances(out, &holding);
     tell_farthest_pixel(out, &holding);
-    tell_outside(out, record, &holding, printed);
     tell_missing(out, &holding);
     tell_tail(out, &holding);
 }

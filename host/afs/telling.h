@@ -2,7 +2,6 @@
 #ifndef AFS_TELLING_H
 #define AFS_TELLING_H
 
-#include "asking.h"
 #include "holding.h"
 
 #include <stdio.h>
@@ -10,11 +9,11 @@
 /* The header, each part and the tail, a line each; for a record accepted by serve(). */
 void list_parts(FILE *out, Bytes record, const Outcome *served);
 
-/* The assessor's questions about a record, answered in sentences; for a record that print_picture() made a picture of. */
-void explain(FILE *out, Bytes record, const Outcome *printed);
+/* The assessor's questions about a record, answered in sentences; for a record accepted by decode(). */
+void explain(FILE *out, Bytes record, const Outcome *decoded);
 
-/* Which planes a level lacks that were asked for, as bits; and told, downward, neighbours as one stretch. */
-uint32_t lacking_planes(const Holding *holding, uint32_t level, const Asked *asked);
-void tell_missing_planes(FILE *out, const Holding *holding, uint32_t level, const Asked *asked);
+/* Whether a level lacks any, and which, downward, neighbours as one stretch. */
+bool lacks_planes(const Holding *holding, uint32_t level);
+void tell_missing_planes(FILE *out, const Holding *holding, uint32_t level);
 
 #endif

@@ -1,91 +1,22 @@
 #include "verdicts.h"
 
 #include "messages.h"
-#include "paths.h"
 
 #include <inttypes.h>
-#include <stdlib.h>
 #include <string.h>
 
-bool is_another(const Verdict *verdict) {
-    return verdict->wanted != NULL && verdict->wanted != verdict->comparison.seal;
-}
-
-bool is_as_sealed(const Verdict *verdict) {
-    bool has_its_sheet = verdict->job != JOB_CHANGED;
-    return verdict->comparison.seal != NULL && !verdict->comparison.is_changed && verdict->namesakes == 0 && !is_another(verdict) && has_its_sheet;
-}
-
-const char *verdict_in_a_word(const Verdict *verdict) {
-    if (verdict->comparison.seal == NULL)
-        return "unknown";
-    if (verdict->comparison.is_changed || verdict->job == JOB_CHANGED)
-        return "changed";
-    if (verdict->namesakes > 0)
-        return "ambiguous";
-    return is_another(verdict) ? "another" : verdict->comparison.is_whole ? "whole" : "selection";
-}
-
-/* By the file's name, unless one is asked for or there is one alone. */
-static Namesakes candidates_for(const Matcher *matcher, const char *asked, const Reading *reading) {
+const Seal *seal_for(Matcher *matcher, const char *asked, const Reading *reading) {
     if (matcher->seals->count == 1 && asked == NULL)
-        return (Namesakes){&matcher->seals->of[0], 1};
-    char *path = asked != NULL ? plain_path(asked) : full_path(reading->name);
-    Namesakes namesakes = namesakes_of(matcher, path);
-    free(path);
-    return namesakes;
+        return &matcher->seals->of[0];
+    const Seal *named = seal_named(matcher, asked != NULL ? asked : reading->name);
+    return named != NULL || !reading->has_header ? named : seal_like(matcher, &reading->found);
 }
-
-static Comparison compare_with_like(Matcher *matcher, const Reading *reading) {
-    const Seal *like = reading->has_header ? seal_like(matcher, &reading->found) : NULL;
-    return like == NULL ? (Comparison){.reading = reading} : compare_with(like, reading);
-}
-
-static int status_of(const Verdict *verdict, bool wants_whole) {
-    if (!is_as_sealed(verdict))
-        return STATUS_CHANGED;
-    if (verdict->comparison.has_tail)
-        return STATUS_UNCHECKED;
-    return wants_whole && (!verdict->comparison.is_whole || verdict->job == JOB_MISSING) ? STATUS_LACKS : STATUS_DONE;
-}
-
-Verdict verdict_on(Matcher *matcher, const Request *request, const Reading *reading) {
-    Namesakes candidates = candidates_for(matcher, request->of, reading);
-    Verdict verdict = {.wanted = candidates.seal, .namesakes = candidates.count > 1 ? candidates.count : 0};
-    if (verdict.wanted == NULL) {
-        verdict.comparison = compare_with_like(matcher, reading);
-    } else {
-        verdict.comparison = compare_with(verdict.wanted, reading);
-        Comparison like = verdict.comparison.is_changed ? compare_with_like(matcher, reading) : verdict.comparison;
-        if (like.seal != NULL && !like.is_changed)
-            verdict.comparison = like;
-    }
-    verdict.job = job_standing_of(&verdict.comparison);
-    verdict.status = status_of(&verdict, request->whole);
-    return verdict;
-}
-
-/* Lines about a file, with its name before each or without. */
-typedef struct {
-    FILE *out;
-    Matcher *matcher;
-    const Verdict *verdict;
-    bool with_names;
-} Report;
 
 /* The file's name, and the sealed record's where that isn't the same. */
-static void begin_line(const Report *report) {
-    FILE *out = report->out;
-    const Verdict *verdict = report->verdict;
-    if (!report->with_names)
-        return;
-    const char *name = verdict->comparison.reading->name, *of = is_another(verdict) ? verdict->wanted->name : verdict->comparison.seal->name;
-    char *path = plain_path(name), *of_seal = plain_path(of);
-    fprintf(out, "%s: ", name);
-    if (strcmp(path, of_seal) != 0)
-        fprintf(out, "of %s: ", of);
-    free(path);
-    free(of_seal);
+static void begin_line(FILE *out, const Comparison *comparison) {
+    fprintf(out, "%s: ", comparison->reading->name);
+    if (strcmp(comparison->seal->name, comparison->reading->name) != 0)
+        fprintf(out, "of %s: ", comparison->seal->name);
 }
 
 static void tell_range(FILE *out, const char *word, uint32_t from, uint32_t to) {
@@ -120,174 +51,87 @@ static void tell_selection(FILE *out, const Comparison *comparison) {
     tell_range(out, ", plane", least.plane, most.plane);
 }
 
-static void tell_job(FILE *out, const char *before, const Verdict *verdict) {
-    static const char *const words[] = {[JOB_AS_SEALED] = "is as it was sealed", [JOB_MISSING] = "isn't there", [JOB_CHANGED] = "changed"};
-    if (verdict->job != NO_JOB_SEALED)
-        fprintf(out, "%sits sheet %s %s", before, verdict->comparison.seal->job, words[verdict->job]);
-}
-
-void tell_unchanged(FILE *out, const Verdict *verdict) {
-    if (verdict->comparison.is_whole)
-        fputs("whole", out);
-    else
-        tell_selection(out, &verdict->comparison);
-    if (verdict->comparison.has_tail)
-        fputs("; the tail isn't checked", out);
-    tell_job(out, "; ", verdict);
-}
-
-static void tell_header_numbers(FILE *out, Header header) {
-    fprintf(out, "%" PRIu32 " %" PRIu32 " %" PRIu32 " %" PRIu32, header.width, header.height, header.decompositions, header.planes);
-    if (header.levels > 0)
-        fprintf(out, " %" PRIu32, header.levels);
-}
-
-static void tell_header(const Report *report) {
-    const Comparison *comparison = &report->verdict->comparison;
+static void tell_header(FILE *out, const Comparison *comparison) {
     Header is = comparison->reading->found.header, was = comparison->seal->header;
     if (!comparison->reading->has_header || memcmp(&is, &was, sizeof is) == 0)
         return;
-    begin_line(report);
-    fputs("the header changed: it tells ", report->out);
-    tell_header_numbers(report->out, is);
-    fputs(", and ", report->out);
-    tell_header_numbers(report->out, was);
-    fputs(" was sealed\n", report->out);
+    begin_line(out, comparison);
+    fprintf(out, "the header changed: it tells %" PRIu32 " %" PRIu32 " %" PRIu32 " %" PRIu32, is.width, is.height, is.decompositions, is.planes);
+    fprintf(out, ", and %" PRIu32 " %" PRIu32 " %" PRIu32 " %" PRIu32 " was sealed\n", was.width, was.height, was.decompositions, was.planes);
 }
 
-/* What became of a part that is there: it is as it was sealed, or it changed, or it isn't of this record, but maybe of another that is sealed. */
-typedef struct {
-    enum { UNCHANGED, CHANGED, NOT_OF_THIS } fate;
-    const Seal *other;
-} Origin;
-
-static Origin origin_of(Matcher *matcher, const Comparison *comparison, const SealedPart *part) {
-    Standing standing = standing_in_seal(comparison, part);
-    if (standing == AS_SEALED)
-        return (Origin){UNCHANGED, NULL};
-    const Seal *other = other_with(matcher, comparison->seal, part);
-    return (Origin){standing == IS_FOREIGN || other != NULL ? NOT_OF_THIS : CHANGED, other};
-}
-
-static bool is_same_origin(Origin one, Origin other) {
-    return one.fate == other.fate && one.other == other.other;
-}
-
-/* One line for all parts from the first on that have its origin. */
-static void tell_origin(const Report *report, const Origin *origins, size_t first) {
-    const Seal *found = &report->verdict->comparison.reading->found;
-    FILE *out = report->out;
-    Text names;
-    size_t count = 0;
-    begin_text(&names);
-    for (size_t i = first; i < found->count; i++)
-        if (is_same_origin(origins[i], origins[first]))
-            fprintf(names.stream, "%s(%" PRIu32 ", %" PRIu32 ")", count++ == 0 ? " " : ", ", found->parts[i].part.plane, found->parts[i].part.level);
-    Bytes listed = end_text(&names);
-    begin_line(report);
-    fprintf(out, "part%s%.*s ", count == 1 ? "" : "s", (int)listed.length, (const char *)listed.at);
-    free(listed.at);
-    if (origins[first].fate == CHANGED)
-        fputs("changed", out);
-    else
-        fputs(count == 1 ? "isn't of this record" : "aren't of this record", out);
-    fprintf(out, "%s%s\n", origins[first].other != NULL ? ", but of " : "", origins[first].other != NULL ? origins[first].other->name : "");
-}
-
-static void tell_other_parts(const Report *report) {
-    const Comparison *comparison = &report->verdict->comparison;
+static void tell_other_parts(FILE *out, Matcher *matcher, const Comparison *comparison) {
     const Seal *found = &comparison->reading->found;
-    Origin *origins = memory_for(found->count, sizeof *origins);
-    for (size_t i = 0; i < found->count; i++)
-        origins[i] = origin_of(report->matcher, comparison, &found->parts[i]);
     for (size_t i = 0; i < found->count; i++) {
-        size_t first = 0;
-        while (!is_same_origin(origins[first], origins[i]))
-            first++;
-        if (first == i && origins[i].fate != UNCHANGED)
-            tell_origin(report, origins, i);
+        const SealedPart *part = &found->parts[i];
+        Standing standing = standing_in_seal(comparison, part);
+        if (standing == AS_SEALED)
+            continue;
+        const Seal *other = other_with(matcher, comparison->seal, part);
+        begin_line(out, comparison);
+        fprintf(out, "part (%" PRIu32 ", %" PRIu32 ") %s", part->part.plane, part->part.level,
+                standing == IS_FOREIGN || other != NULL ? "isn't of this record" : "changed");
+        fprintf(out, "%s%s\n", other != NULL ? ", but of " : "", other != NULL ? other->name : "");
     }
-    free(origins);
 }
 
-static void tell_end(const Report *report) {
-    const Reading *reading = report->verdict->comparison.reading;
+static void tell_end(FILE *out, const Comparison *comparison) {
+    const Reading *reading = comparison->reading;
     if (reading->behind == reading->file.length && reading->outcome.number == AFS_ACCEPTED)
         return;
-    begin_line(report);
+    begin_line(out, comparison);
     if (reading->outcome.number != AFS_ACCEPTED)
-        fprintf(report->out, "from byte %zu on it can't be read\n", reading->behind);
+        fprintf(out, "from byte %zu on it can't be read\n", reading->behind);
     else
-        fputs("the tail isn't of this record\n", report->out);
+        fputs("the tail isn't of this record\n", out);
 }
 
 /* What isn't found anywhere in a file that was changed. */
-static void tell_missing(const Report *report) {
-    const Seal *seal = report->verdict->comparison.seal;
+static void tell_missing(FILE *out, const Comparison *comparison) {
     const char *before = "missing: part ";
-    for (size_t i = 0; i < seal->count; i++) {
-        const SealedPart *sealed = &seal->parts[i];
-        if (standing_of(&report->verdict->comparison, sealed) != IS_MISSING)
+    for (size_t i = 0; i < comparison->seal->count; i++) {
+        const SealedPart *sealed = &comparison->seal->parts[i];
+        if (standing_of(comparison, sealed) != IS_MISSING)
             continue;
         if (before[0] == 'm')
-            begin_line(report);
-        fprintf(report->out, "%s(%" PRIu32 ", %" PRIu32 ")", before, sealed->part.plane, sealed->part.level);
+            begin_line(out, comparison);
+        fprintf(out, "%s(%" PRIu32 ", %" PRIu32 ")", before, sealed->part.plane, sealed->part.level);
         before = ", ";
     }
     if (before[0] != 'm')
-        fputc('\n', report->out);
-}
-
-static void tell_changed(const Report *report) {
-    tell_header(report);
-    tell_other_parts(report);
-    tell_end(report);
-    tell_missing(report);
-    if (report->verdict->job == JOB_CHANGED) {
-        begin_line(report);
-        tell_job(report->out, "", report->verdict);
-        fputc('\n', report->out);
-    }
-}
-
-void tell_changes(FILE *out, Matcher *matcher, const Verdict *verdict) {
-    tell_changed(&(Report){out, matcher, verdict, false});
-}
-
-/* Which record it is, where it isn't the one that it is to be, or its name doesn't tell that. */
-static void tell_which(const Report *report) {
-    FILE *out = report->out;
-    const Verdict *verdict = report->verdict;
-    if (is_another(verdict))
-        begin_line(report);
-    else
-        fprintf(out, "%s: ", verdict->comparison.reading->name);
-    if (!verdict->comparison.is_changed) {
-        fprintf(out, "is %s, ", verdict->comparison.seal->name);
-        tell_unchanged(out, verdict);
-        fputs(verdict->namesakes > 0 ? "; " : "", out);
-    }
-    if (verdict->namesakes > 0)
-        fprintf(out, "by its name it may be any of %zu sealed records: --of tells which", verdict->namesakes);
-    fputc('\n', out);
-}
-
-void tell_verdict(FILE *out, Matcher *matcher, const Verdict *verdict, bool quiet) {
-    const Comparison *comparison = &verdict->comparison;
-    const Report report = {out, matcher, verdict, true};
-    if (quiet && verdict->status == STATUS_DONE)
-        return;
-    if (comparison->seal == NULL) {
-        fprintf(out, "%s: isn't of any sealed record\n", comparison->reading->name);
-        return;
-    }
-    if (is_another(verdict) || verdict->namesakes > 0)
-        tell_which(&report);
-    if (comparison->is_changed)
-        tell_changed(&report);
-    else if (verdict->namesakes == 0 && !is_another(verdict)) {
-        begin_line(&report);
-        tell_unchanged(out, verdict);
         fputc('\n', out);
+}
+
+static int tell_changed(FILE *out, Matcher *matcher, const Comparison *comparison) {
+    tell_header(out, comparison);
+    tell_other_parts(out, matcher, comparison);
+    tell_end(out, comparison);
+    tell_missing(out, comparison);
+    return STATUS_CHANGED;
+}
+
+static int status_of(const Comparison *comparison, bool wants_whole) {
+    if (comparison->has_tail)
+        return STATUS_UNCHECKED;
+    return wants_whole && !comparison->is_whole ? STATUS_LACKS : STATUS_DONE;
+}
+
+int tell_verdict(FILE *out, Matcher *matcher, const Seal *seal, const Reading *reading, const Request *request) {
+    if (seal == NULL) {
+        fprintf(out, "%s: isn't of any sealed record\n", reading->name);
+        return STATUS_CHANGED;
     }
+    Comparison comparison = compare_with(seal, reading);
+    if (comparison.is_changed)
+        return tell_changed(out, matcher, &comparison);
+    int status = status_of(&comparison, request->whole);
+    if (request->quiet && status == STATUS_DONE)
+        return status;
+    begin_line(out, &comparison);
+    if (comparison.is_whole)
+        fputs("whole", out);
+    else
+        tell_selection(out, &comparison);
+    fputs(comparison.has_tail ? "; the tail isn't checked\n" : "\n", out);
+    return status;
 }

@@ -54,16 +54,6 @@ Standing standing_of(const Comparison *comparison, const SealedPart *sealed) {
     return comparison->is_changed && stands_in(comparison->reading->file, sealed) ? STANDS_ELSEWHERE : IS_MISSING;
 }
 
-JobStanding job_standing_of(const Comparison *comparison) {
-    const Bytes job = comparison->reading->job;
-    if (comparison->seal == NULL || comparison->seal->job == NULL)
-        return NO_JOB_SEALED;
-    if (job.at == NULL)
-        return JOB_MISSING;
-    Digest digest = digest_of(job.at, job.length);
-    return is_same_digest(&digest, &comparison->seal->of_job) ? JOB_AS_SEALED : JOB_CHANGED;
-}
-
 static bool comes_behind(Part part, const Seal *found) {
     if (found->count == 0)
         return true;

@@ -13,7 +13,6 @@ typedef struct {
     bool has_header;
     Seal found;    /* of what can be read */
     size_t behind; /* where it ends */
-    Bytes job;     /* what stands where its job's sheet is to be; at NULL where nothing does */
 } Reading;
 
 Reading read_file(const char *name, Bytes file);
@@ -28,11 +27,6 @@ typedef struct {
 } Comparison;
 
 Comparison compare_with(const Seal *seal, const Reading *reading);
-
-/* How the sheet of its job stands to the one that was sealed with it. */
-typedef enum { NO_JOB_SEALED, JOB_AS_SEALED, JOB_MISSING, JOB_CHANGED } JobStanding;
-
-JobStanding job_standing_of(const Comparison *comparison);
 
 typedef enum { AS_SEALED, IS_MISSING, IS_OTHER, IS_FOREIGN, STANDS_ELSEWHERE } Standing;
 

@@ -9,13 +9,13 @@ from __future__ import annotations
 import ctypes
 import os
 from functools import lru_cache
-from typing import Any, Callable, List, Mapping, Tuple, Union
+from typing import Any, List, Mapping, Tuple, Union
 
 import numpy as np
 from numpy.typing import NDArray
 
 from . import _place
-from ._answers import ACCEPTED, ANSWER_LENGTH, NAMES, NUMBER, PLACE
+from ._answers import ACCEPTED, ANSWER_LENGTH, NUMBER, PLACE
 from ._refusal import Refusal
 
 VARIABLE = "AFSHTRUNI_LIBRARY"
@@ -29,21 +29,13 @@ _WIDE = (ctypes.c_uint64,)
 # What each call takes, in order; the answer, a slice, comes after it.
 _CALLS: Mapping[str, Tuple[Tuple[Any, ...], ...]] = {
     "afs_code": (_SLICE, _WIDE, _WIDE, _WIDE, _SLICE, _SLICE),
-    "afs_code_levels": (_SLICE, _WIDE, _WIDE, _WIDE, _WIDE, _SLICE, _SLICE),
     "afs_serve": (_SLICE, _WIDE, _WIDE, _SLICE),
-    "afs_serve_planes": (_SLICE, _SLICE, _SLICE),
-    "afs_nearness": (_WIDE, _WIDE, _WIDE, _WIDE, _SLICE, _WIDE),
     "afs_join": (_SLICE, _SLICE, _SLICE),
-    "afs_index": (_SLICE, _SLICE),
-    "afs_serve_by": (_SLICE, _SLICE, _WIDE, _WIDE, _SLICE),
     "afs_survey": (_SLICE,),
     "afs_decode": (_SLICE, _SLICE, _SLICE),
-    "afs_check": (_SLICE, _SLICE, _SLICE),
     "afs_grey_size": (_SLICE,),
     "afs_grey_in": (_SLICE, _WIDE, _SLICE, _SLICE),
     "afs_grey_out": (_SLICE, _WIDE, _WIDE, _WIDE, _SLICE, _SLICE),
-    "afs_grey_widen": (_SLICE, _WIDE, _SLICE),
-    "afs_grey_cut": (_SLICE, _WIDE, _WIDE, _SLICE),
 }
 
 
@@ -53,8 +45,8 @@ def _load(path: str) -> ctypes.CDLL:
         return ctypes.CDLL(path)
     except OSError as error:
         raise OSError(
-            f"the library can't be loaded: {error}. 'make -C host library' makes it for the source"
-            f" tree, and the environment variable {VARIABLE} names another file."
+            f"the library can't be loaded: {error}. It is for x86-64; 'make -C host library' makes"
+            f" it for the source tree, and the environment variable {VARIABLE} names another file."
         ) from error
 
 
@@ -86,11 +78,9 @@ def ask(name: str, *arguments: Argument) -> Answer:
     return [int(number) for number in answer]
 
 
-def call(name: str, *arguments: Argument, why: Callable[[int, int], str]) -> Answer:
-    """The same, but raises `Refusal` where the answer is one; `why` has the words for it, by its
-    number and place."""
+def call(name: str, *arguments: Argument) -> Answer:
+    """The same, but raises `Refusal` where the answer is one."""
     answer = ask(name, *arguments)
-    number, place = answer[NUMBER], answer[PLACE]
-    if number != ACCEPTED:
-        raise Refusal(number, place, why(number, place) if number in NAMES else None)
+    if answer[NUMBER] != ACCEPTED:
+        raise Refusal(answer[NUMBER], answer[PLACE])
     return answer

@@ -2,181 +2,88 @@
 
 from __future__ import annotations
 
-from typing import Any, Callable, List, Optional, Sequence, Tuple, Union
+from typing import Any, Iterator, List, Optional, Tuple, Union
 
 import numpy as np
 from numpy.typing import NDArray
 
-from ._answers import ACCEPTED, CODED, DECODED, JOINED, LEVEL_PLACES, NAMES, NUMBER, PLACE, SERVED
+from ._answers import ACCEPTED, CODED, DECODED, JOINED, LEVEL_PLACES, NUMBER, PLACE, SERVED
 from ._answers import SURVEYED
-from ._indexes import serve_by
-from ._layout import Header, header_of, parts_until
-from ._lending import BytesLike, held_in, number, octets
+from ._lending import BytesLike, coefficients, number, octets
 from ._library import Answer, ask, call
-from ._limits import GREATEST_CODED, RECORD_BYTES_MORE, RECORD_BYTES_PER_COEFFICIENT
-from ._notes import told_bound
-from ._pictures import read_picture
-from ._pyramids import is_picture, taken_apart, workspace
-from ._stairs import choose_planes
-from ._values import FARTHEST, Decoded, Part, Pyramid, Survey
-from ._words import why_clash, why_foreign, why_mixed, why_not_asked, why_not_planes
-from ._words import why_not_read, why_range
-from ._words import why_size
+from ._values import Decoded, Part, Pyramid, Survey
+
+_WORK_PER_COEFFICIENT = 4
+_HEADER_NUMBERS = 5  # version, width, height, decompositions, planes
+
+
+def workspace(count: int) -> NDArray[np.uint32]:
+    """What coding and decoding need for so many coefficients, and reading and writing pictures."""
+    return np.empty(_WORK_PER_COEFFICIENT * count, np.uint32)
 
 
 def _room_for_record(count: int) -> NDArray[np.uint8]:
     """In which every record of so many coefficients has room."""
-    return np.empty(RECORD_BYTES_PER_COEFFICIENT * count + RECORD_BYTES_MORE, np.uint8)
+    return np.empty(6 * count + 640, np.uint8)
 
 
-def code(
-    pyramid: Union[Pyramid, NDArray[Any]],
-    decompositions: Optional[int] = None,
-    *,
-    levels: Optional[int] = None,
-) -> bytes:
-    """Makes the record of a pyramid, or of a picture: all of it, at full detail.
+def taken_apart(
+    pyramid: Union[Pyramid, NDArray[Any]], decompositions: Optional[int]
+) -> Tuple[NDArray[np.int32], int]:
+    """The coefficients to lend, and N."""
+    if isinstance(pyramid, Pyramid):
+        if decompositions is not None:
+            raise TypeError("decompositions must not be given with a Pyramid, which has its own")
+        return taken_apart(pyramid.coefficients, pyramid.decompositions)
+    lent = coefficients(pyramid)
+    if decompositions is None:
+        raise TypeError("decompositions must be given with an array of coefficients")
+    return lent, number("decompositions", decompositions)
 
-    pyramid         what `read_picture` or `decode` gave, or an array, rows by columns: 4 to 4096
-                    each, multiples of 2^(N+1). One of uint8 is a picture, as in `read_picture`;
-                    of any other integer type it is coefficients, and no magnitude is over 65535
-    decompositions  N, 1 to 8, where `pyramid` is an array; without it a picture gets as many as
-                    its sides allow, up to 5
-    levels          K, 1 to N + 1: a record of version 2, in which the levels from K on are one;
-                    without it one of version 1, with all N + 1
+
+def code(pyramid: Union[Pyramid, NDArray[Any]], decompositions: Optional[int] = None) -> bytes:
+    """Makes the record of a pyramid: all of it, at full detail.
+
+    pyramid         what `read_picture` or `decode` gave, or an array of any integer type, rows by
+                    columns: 4 to 512 each, multiples of 2^(N+1), and no magnitude over 65535
+    decompositions  N, 1 to 5, where `pyramid` is an array
 
     Refuses with 1 SIZE or 4 RANGE.
     """
-    if not isinstance(pyramid, Pyramid) and is_picture(pyramid):
-        return code(read_picture(pyramid, decompositions), levels=levels)
     lent, halvings = taken_apart(pyramid, decompositions)
     height, width = lent.shape
     out = _room_for_record(lent.size)
-
-    def why(refusal: int, index: int) -> str:
-        if NAMES[refusal] == "RANGE":
-            return why_range(lent, index, GREATEST_CODED)
-        return why_size(Header(width, height, halvings, 0), asked=asked)
-
-    asked = None if levels is None else number("levels", levels)
-    name = "afs_code" if asked is None else "afs_code_levels"
-    sizes = [width, height, halvings, *([] if asked is None else [asked])]
-    answer = call(name, lent, *sizes, out, workspace(lent.size), why=why)
+    answer = call("afs_code", lent, width, height, halvings, out, workspace(lent.size))
     return out[: answer[CODED["LENGTH"]]].tobytes()
 
 
-def serve(
-    record: BytesLike,
-    level: int = 1,
-    plane: int = 0,
-    *,
-    planes: Optional[Sequence[int]] = None,
-    error: Optional[int] = None,
-    index: Optional[BytesLike] = None,
-) -> bytes:
-    """Cuts a smaller record out of a record.
+def serve(record: BytesLike, level: int = 1, plane: int = 0) -> bytes:
+    """Cuts a smaller record out of a record, without decoding it.
 
     record  bytes, or anything that holds a row of them
-    level   the finest level that is kept, 1 to K, the record's `survey(record).levels`; 1 keeps
-            all
+    level   the finest level that is kept, 1 to N + 1; 1 keeps all
     plane   the lowest plane that is kept, 0 to the number of planes; 0 keeps all
-    planes  instead of both: a plane for each level, level 1 first, 0 to the number of planes,
-            which keeps nothing of its level
-    error   instead of these: how many grey values a pixel that is printed of it may be from the
-            recorded one, 0 to 255, if the record was made of a picture. Of all planes that will do
-            those of the fewest bytes are taken
-    index   what `index` made of this record: then its parts aren't walked over. Any other index
-            refuses with 16 INDEX, or names stretches of this record with the heads that it tells
 
-    A part that the record's end cuts off is left out; `survey` tells of it. Without `error` nothing
-    is decoded. Refuses with 1 SIZE, 6 HEAD, 7 VERSION, 8 PART, 9 PAD, 11 ASK or 12 LONGFORM; with
-    `error` also with 10 FIT, and raises ValueError where so many parts are missing that nothing
-    will do.
+    A part that the record's end cuts off is left out; `survey` tells of it. Refuses with 1 SIZE,
+    6 HEAD, 7 VERSION, 8 PART, 9 PAD, 11 ASK or 12 LONGFORM.
     """
-    for name, given in (("planes", planes), ("error", error)):
-        if given is not None and index is not None:
-            raise TypeError(f"{name} must not be given with index")
-        if given is not None and (level, plane) != (1, 0):
-            raise TypeError(f"{name} must not be given with level or plane")
-    if planes is not None and error is not None:
-        raise TypeError("error must not be given with planes")
-    if error is not None:
-        return _serve_within(record, error)
-    if planes is not None:
-        return _serve_planes(record, planes)
-    if index is not None:
-        return serve_by(record, level, plane, index)
     lent = octets("record", record)
-    asked = number("level", level), number("plane", plane)
-
-    def why(refusal: int, place: int) -> str:
-        held = lent.tobytes()
-        if NAMES[refusal] == "ASK":
-            return why_not_asked(*asked, header_of(held)[0])
-        return why_not_read(held, refusal, place)
-
     out = np.empty(lent.size, np.uint8)
-    answer = call("afs_serve", lent, *asked, out, why=why)
+    answer = call("afs_serve", lent, number("level", level), number("plane", plane), out)
     return out[: answer[SERVED["LENGTH"]]].tobytes()
-
-
-def _serve_planes(record: BytesLike, planes: Sequence[int]) -> bytes:
-    lent = octets("record", record)
-    asked = [number("each of planes", plane) for plane in planes]
-
-    def why(refusal: int, place: int) -> str:
-        held = lent.tobytes()
-        if NAMES[refusal] == "ASK":
-            return why_not_planes(asked, header_of(held)[0])
-        return why_not_read(held, refusal, place)
-
-    out = np.empty(lent.size, np.uint8)
-    answer = call("afs_serve_planes", lent, np.array(asked, np.uint64), out, why=why)
-    return out[: answer[SERVED["LENGTH"]]].tobytes()
-
-
-def _serve_within(record: BytesLike, error: int) -> bytes:
-    most = number("error", error)
-    if most > FARTHEST:
-        raise ValueError(f"error must be 0 to {FARTHEST}, not {most}")
-    held = held_in("record", record)
-    whole = decode(held)
-    planes = choose_planes(whole, parts(held), most)
-    served = _serve_planes(held, whole.reached if planes is None else planes)
-    bound = decode(served).pixel_bound
-    if bound > most:
-        said = "and nothing nearer can be served, as parts are missing"
-        raise ValueError(f"{told_bound(bound)}, {said}")
-    return served
 
 
 def join(first: BytesLike, second: BytesLike) -> bytes:
     """Makes one record with all parts of two, which must agree where both have a part.
 
-    It has whole parts alone: what a tail gave is gone in it, unless that part is whole in the other.
     Refuses as `survey` does, the first record before the second and with a place in its own bytes;
     then with 14 MIXED where the headers differ, or 15 CLASH where a part does, at its offset in the
     first.
     """
     lent = octets("first", first), octets("second", second)
-
-    def why(refusal: int, place: int) -> str:
-        one, other = (record.tobytes() for record in lent)
-        if NAMES[refusal] == "MIXED":
-            return why_mixed(one, other)
-        if NAMES[refusal] == "CLASH":
-            return why_clash(one, place)
-        if ask("afs_survey", lent[0])[NUMBER] != ACCEPTED:
-            return f"first: {why_not_read(one, refusal, place)}"
-        return f"second: {why_not_read(other, refusal, place)}"
-
     out = np.empty(lent[0].size + lent[1].size, np.uint8)
-    answer = call("afs_join", *lent, out, why=why)
+    answer = call("afs_join", *lent, out)
     return out[: answer[JOINED["LENGTH"]]].tobytes()
-
-
-def _why_not(lent: NDArray[np.uint8]) -> Callable[[int, int], str]:
-    return lambda refusal, place: why_not_read(lent.tobytes(), refusal, place)
 
 
 def _surveyed(answer: Answer) -> Survey:
@@ -184,12 +91,11 @@ def _surveyed(answer: Answer) -> Survey:
 
 
 def survey(record: BytesLike) -> Survey:
-    """Tells what a record holds: width, height, decompositions, planes, whole parts, tail, levels.
+    """Tells what a record holds: width, height, decompositions, planes, whole parts, tail.
 
     Bodies aren't decoded. Refuses with 1 SIZE, 6 HEAD, 7 VERSION, 8 PART, 9 PAD or 12 LONGFORM.
     """
-    lent = octets("record", record)
-    return _surveyed(call("afs_survey", lent, why=_why_not(lent)))
+    return _surveyed(call("afs_survey", octets("record", record)))
 
 
 def _size_to_lend(lent: NDArray[np.uint8]) -> Survey:
@@ -206,7 +112,7 @@ def _size_to_lend(lent: NDArray[np.uint8]) -> Survey:
 
 def _by_level(answer: Answer, first: int, told: Survey) -> Tuple[int, ...]:
     """The numbers of the levels that there are, level 1 first."""
-    return tuple(answer[first : first + min(told.levels, LEVEL_PLACES)])
+    return tuple(answer[first : first + min(told.decompositions + 1, LEVEL_PLACES)])
 
 
 def decode(record: BytesLike) -> Decoded:
@@ -224,7 +130,7 @@ def decode(record: BytesLike) -> Decoded:
     lent = octets("record", record)
     told = _size_to_lend(lent)
     out = np.empty((told.height, told.width), np.int32)
-    answer = call("afs_decode", lent, out, workspace(out.size), why=_why_not(lent))
+    answer = call("afs_decode", lent, out, workspace(out.size))
     return Decoded(
         coefficients=out,
         decompositions=told.decompositions,
@@ -235,28 +141,29 @@ def decode(record: BytesLike) -> Decoded:
     )
 
 
-def check(record: BytesLike) -> Pyramid:
-    """Tells whether our coder wrote a record, and gives the pyramid that it is the record of.
+def _number_at(record: bytes, offset: int) -> Tuple[int, int]:
+    """A number of seven-bit groups, and the offset behind it."""
+    value = shift = 0
+    while True:
+        byte = record[offset]
+        offset += 1
+        value |= (byte & 0x7F) << shift
+        shift += 7
+        if byte < 0x80:
+            return value, offset
 
-    It is accepted exactly if some pyramid is coded to just these bytes, in either version, by the
-    number of planes that `code` gives it or by the earlier one. For an archive, before the pyramid
-    that a record was made of is deleted; `decode` asks only whether a record decodes. Refuses as
-    `decode` does, then with 17 FOREIGN: of a tail, a part that is missing, another number of planes,
-    or any bit that the coder would have written otherwise.
-    """
-    lent = octets("record", record)
-    told = _size_to_lend(lent)
-    out = np.empty((told.height, told.width), np.int32)
 
-    def why(refusal: int, place: int) -> str:
-        if NAMES[refusal] != "FOREIGN":
-            return why_not_read(lent.tobytes(), refusal, place)
-        decoded = decode(lent)
-        greatest = int(np.abs(decoded.coefficients.astype(np.int64)).max())
-        return why_foreign(told, decoded.tail, greatest)
-
-    call("afs_check", lent, out, workspace(out.size), why=why)
-    return Pyramid(out, told.decompositions)
+def _walk(record: bytes, parts_there: int) -> Iterator[Part]:
+    offset = 0
+    for _ in range(_HEADER_NUMBERS):
+        _, offset = _number_at(record, offset)
+    for _ in range(parts_there):
+        begins = offset
+        plane, offset = _number_at(record, offset)
+        level, offset = _number_at(record, offset)
+        bits, offset = _number_at(record, offset)
+        offset += (bits + 7) // 8
+        yield Part(plane, level, bits, begins, offset - begins)
 
 
 def parts(record: BytesLike) -> List[Part]:
@@ -264,5 +171,5 @@ def parts(record: BytesLike) -> List[Part]:
 
     Each has `plane`, `level`, `bits`, `offset` and `length`. Refuses as `survey` does.
     """
-    held = held_in("record", record)
-    return list(parts_until(held, len(held) - survey(held).tail))
+    held = octets("record", record).tobytes()
+    return list(_walk(held, survey(held).parts))

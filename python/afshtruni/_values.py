@@ -3,56 +3,31 @@
 from __future__ import annotations
 
 from dataclasses import dataclass
-from typing import Any, NamedTuple, Optional, Sequence, Tuple
+from typing import NamedTuple, Sequence, Tuple
 
 import numpy as np
 from numpy.typing import NDArray
 
-from ._answers import NEARNESS
-from ._library import call
-
-FARTHEST = 255
+_FARTHEST = 255
 
 
-def farthest_pixel(sizes: Tuple[int, int, int], reached: Sequence[int], halvings: int = 0) -> int:
-    """How far a pixel may be, by the law pixel-near, of a picture of this width and height with so
-    many decompositions, by the reached planes of a record's levels; halved so many times."""
-    told = np.array(reached, np.uint64)
-    return call("afs_nearness", *sizes, told.size, told, halvings, why=_why)[NEARNESS["MOST"]]
-
-
-def _why(_refusal: int, _place: int) -> str:
-    return "no such picture, or no such planes"
-
-
-def added_by(sizes: Tuple[int, int, int], reached: Sequence[int], level: int) -> int:
-    """What a record's level adds to it: all levels of the pyramid that belong to it."""
-    alone = [plane if at == level else 0 for at, plane in enumerate(reached, 1)]
-    return farthest_pixel(sizes, alone)
-
-
-def _as_array(held: NDArray[Any], dtype: Any, copy: Optional[bool]) -> NDArray[Any]:
-    """What numpy asks for; before its version 2 it doesn't tell whether to copy."""
-    if copy is None:
-        return np.asarray(held, dtype)
-    if copy is False and dtype is not None and np.dtype(dtype) != held.dtype:
-        raise ValueError(f"numbers of {held.dtype} can't be seen as {np.dtype(dtype)} uncopied")
-    return np.array(held, dtype, copy=copy)
+def farthest_pixel(reached: Sequence[int], halvings: int) -> int:
+    """The bound of the law pixel-near, by the reached planes of levels 1 to N + 1."""
+    *finer, coarsest = reached
+    added = sum(3 << plane for plane in finer[halvings:] if plane > 0)
+    return min((1 << coarsest) - 1 + added, _FARTHEST)
 
 
 @dataclass(frozen=True, eq=False)
 class Pyramid:
-    """The coefficients of a picture's wavelet transform; numpy takes it as the array of them.
+    """The coefficients of a picture's wavelet transform.
 
     coefficients    whole numbers, rows by columns, the coarse ones in the top left corner
-    decompositions  N, how many times the picture was halved for them, 1 to 8
+    decompositions  N, how many times the picture was halved for them, 1 to 5
     """
 
     coefficients: NDArray[np.int32]
     decompositions: int
-
-    def __array__(self, dtype: Any = None, copy: Optional[bool] = None) -> NDArray[Any]:
-        return _as_array(self.coefficients, dtype, copy)
 
 
 @dataclass(frozen=True, eq=False)
@@ -75,35 +50,22 @@ class Decoded(Pyramid):
     tail: int
 
     @property
-    def sizes(self) -> Tuple[int, int, int]:
-        """Width, height and decompositions."""
-        height, width = self.coefficients.shape
-        return width, height, self.decompositions
-
-    @property
-    def is_whole(self) -> bool:
-        """Whether every part was used, and nothing stands behind them."""
-        return not any(self.reached) and self.tail == 0
-
-    @property
     def pixel_bound(self) -> int:
         """How many grey values a pixel printed of this may be from the recorded one, at most.
 
         Proved as pixel-near, for records that were made of a picture and of which whole parts were
         left out or lost, or the end was cut off; not where a byte inside a part was changed.
         """
-        return farthest_pixel(self.sizes, self.reached)
+        return farthest_pixel(self.reached, 0)
 
     @property
     def pixel_bounds(self) -> Tuple[int, ...]:
         """The same for the picture itself, then for each halving of it that can be printed."""
-        halvings = range(self.decompositions)
-        return tuple(farthest_pixel(self.sizes, self.reached, s) for s in halvings)
+        return tuple(farthest_pixel(self.reached, s) for s in range(self.decompositions))
 
 
 class Survey(NamedTuple):
-    """What a record holds: its header, how many whole parts, the bytes of a cut one, and K, how
-    many levels its parts are of."""
+    """What a record holds: its header, how many whole parts, and the bytes of a cut one."""
 
     width: int
     height: int
@@ -111,7 +73,6 @@ class Survey(NamedTuple):
     planes: int
     parts: int
     tail: int
-    levels: int
 
 
 class Part(NamedTuple):
@@ -125,17 +86,8 @@ class Part(NamedTuple):
 
 
 class Picture(NamedTuple):
-    """A grey picture; numpy takes it as the array of its pixels.
-
-    pixels   rows by columns
-    clipped  how many of them were set to 0 or 255, as they had come out under 0 or over 255
-    note     what contradicts the bound that was told, else None: all of a record is there, and of a
-             picture no pixel comes out so, so the record was changed, or made of no picture
-    """
+    """A grey picture: pixels, rows by columns, and how many of them were set to 0 or 255, as they
+    had come out under 0 or over 255."""
 
     pixels: NDArray[np.uint8]
     clipped: int
-    note: Optional[str] = None
-
-    def __array__(self, dtype: Any = None, copy: Optional[bool] = None) -> NDArray[Any]:
-        return _as_array(self.pixels, dtype, copy)

@@ -8,7 +8,7 @@ from typing import Dict
 import pytest
 
 import afshtruni
-from afshtruni import _answers, _limits
+from afshtruni import _answers
 from conftest import TREE
 
 HEADER = (TREE / "host" / "afshtruni.h").read_text("ascii")
@@ -18,16 +18,11 @@ CONSTANTS: Dict[str, int] = {
 LAYOUTS = {
     "CODED": _answers.CODED,
     "SERVED": _answers.SERVED,
-    "NEARNESS": _answers.NEARNESS,
     "JOINED": _answers.JOINED,
-    "INDEXED": _answers.INDEXED,
-    "BY_INDEX": _answers.BY_INDEX,
     "SURVEYED": _answers.SURVEYED,
     "DECODED": _answers.DECODED,
-    "CHECKED": _answers.CHECKED,
     "GREY_READ": _answers.GREY_READ,
     "GREY_WRITTEN": _answers.GREY_WRITTEN,
-    "GREY_FRAMED": _answers.GREY_FRAMED,
 }
 
 
@@ -47,30 +42,11 @@ def test_a_decoded_answer_has_places_for_levels() -> None:
     assert CONSTANTS["DECODED_NUMBERS"] == _answers.DECODED["SKIPPED"] + places
 
 
-@pytest.mark.parametrize("name", ["LEAST_SIDE", "GREATEST_SIDE", "MOST_DECOMPOSITIONS"])
-def test_limits_are_the_headers(name: str) -> None:
-    assert getattr(_limits, name) == CONSTANTS[name]
-
-
-def _bound(name: str) -> "list[int]":
-    (line,) = re.findall(rf"^#define AFS_{name}_BOUND\(w, h\) \((.*)\)$", HEADER, re.MULTILINE)
-    return [int(number) for number in re.findall(r"\d+", line)]
-
-
-def test_room_is_the_headers() -> None:
-    assert _bound("CODE") == [_limits.RECORD_BYTES_PER_COEFFICIENT, _limits.RECORD_BYTES_MORE]
-    assert _bound("GREY") == [_limits.GREY_BYTES_MORE]
-
-
 def test_names_are_the_headers() -> None:
     ours = {name: number for number, name in _answers.NAMES.items()}
     single = {name: value for name, value in CONSTANTS.items() if "_" not in name}
     assert single.pop("ACCEPTED") == _answers.ACCEPTED
     assert single == ours
-
-
-def test_the_room_of_an_index_is_the_headers() -> None:
-    assert f"#define AFS_INDEX_BOUND {_answers.INDEX_BOUND}\n" in HEADER
 
 
 def test_every_number_has_a_cause() -> None:

@@ -19,7 +19,7 @@ def _told(refusal: Refusal) -> bytes:
 
 def test_refusals_are_those_of_the_tool(afs: Tool, record: bytes) -> None:
     for command, call in (("serve", afshtruni.serve), ("decode", afshtruni.decode)):
-        for wrong in (b"", b"\x04", record[:3], b"\x01\x80\x00" + record[2:], record + record[5:]):
+        for wrong in (b"", b"\x02", record[:3], b"\x01\x80\x00" + record[2:], record + record[5:]):
             with pytest.raises(Refusal) as raised:
                 call(wrong)
             assert afs(command, given=wrong).stderr.startswith(_told(raised.value))
@@ -64,7 +64,7 @@ def test_range_tells_the_index() -> None:
     assert (raised.value.name, raised.value.place) == ("RANGE", 0)
 
 
-@pytest.mark.parametrize("shape", [(0, 0), (0, 8), (4, 6), (4100, 4), (2, 2)])
+@pytest.mark.parametrize("shape", [(0, 0), (0, 8), (4, 6), (1024, 4), (2, 2)])
 def test_sizes(shape: "tuple[int, int]") -> None:
     for refused in (
         lambda: afshtruni.code(np.zeros(shape, np.int32), 1),
@@ -76,7 +76,7 @@ def test_sizes(shape: "tuple[int, int]") -> None:
         assert raised.value.name == "SIZE"
 
 
-@pytest.mark.parametrize("decompositions", [0, 6, 9, 2**32 + 1, 2**64 - 1])
+@pytest.mark.parametrize("decompositions", [0, 6, 2**32 + 1, 2**64 - 1])
 def test_decompositions(decompositions: int) -> None:
     pyramid = np.zeros((64, 64), np.int32)
     for call in (afshtruni.code, afshtruni.read_picture):

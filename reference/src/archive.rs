@@ -1,6 +1,6 @@
 //! The product's archive, libportal.a, linked under the feature `archive`.
 
-use crate::compare::{Call, LevelSizes, Memory, Returned, Sizes, Subject};
+use crate::compare::{Call, Memory, Returned, Sizes, Subject};
 
 // Takes no part in the program: it makes cargo notice a new archive.
 const _: &[u8] = include_bytes!(concat!(
@@ -27,21 +27,6 @@ extern "C" {
         answer_len: usize,
     ) -> u64;
 
-    fn afs_code_levels(
-        pyramid: *const i32,
-        pyramid_len: usize,
-        w: u64,
-        h: u64,
-        n: u64,
-        levels: u64,
-        out: *mut u8,
-        out_len: usize,
-        work: *mut u32,
-        work_len: usize,
-        answer: *mut u64,
-        answer_len: usize,
-    ) -> u64;
-
     fn afs_serve(
         record: *const u8,
         record_len: usize,
@@ -49,29 +34,6 @@ extern "C" {
         plane: u64,
         out: *mut u8,
         out_len: usize,
-        answer: *mut u64,
-        answer_len: usize,
-    ) -> u64;
-
-    fn afs_serve_planes(
-        record: *const u8,
-        record_len: usize,
-        planes: *const u64,
-        planes_len: usize,
-        out: *mut u8,
-        out_len: usize,
-        answer: *mut u64,
-        answer_len: usize,
-    ) -> u64;
-
-    fn afs_nearness(
-        w: u64,
-        h: u64,
-        n: u64,
-        levels: u64,
-        reached: *const u64,
-        reached_len: usize,
-        halvings: u64,
         answer: *mut u64,
         answer_len: usize,
     ) -> u64;
@@ -87,44 +49,11 @@ extern "C" {
         answer_len: usize,
     ) -> u64;
 
-    fn afs_check(
-        record: *const u8,
-        record_len: usize,
-        out: *mut i32,
-        out_len: usize,
-        work: *mut u32,
-        work_len: usize,
-        answer: *mut u64,
-        answer_len: usize,
-    ) -> u64;
-
     fn afs_join(
         first: *const u8,
         first_len: usize,
         second: *const u8,
         second_len: usize,
-        out: *mut u8,
-        out_len: usize,
-        answer: *mut u64,
-        answer_len: usize,
-    ) -> u64;
-
-    fn afs_index(
-        record: *const u8,
-        record_len: usize,
-        out: *mut u8,
-        out_len: usize,
-        answer: *mut u64,
-        answer_len: usize,
-    ) -> u64;
-
-    fn afs_serve_by(
-        record: *const u8,
-        record_len: usize,
-        index: *const u8,
-        index_len: usize,
-        level: u64,
-        plane: u64,
         out: *mut u8,
         out_len: usize,
         answer: *mut u64,
@@ -161,27 +90,6 @@ extern "C" {
         answer: *mut u64,
         answer_len: usize,
     ) -> u64;
-
-    fn afs_grey_widen(
-        file: *const u8,
-        file_len: usize,
-        n: u64,
-        out: *mut u8,
-        out_len: usize,
-        answer: *mut u64,
-        answer_len: usize,
-    ) -> u64;
-
-    fn afs_grey_cut(
-        file: *const u8,
-        file_len: usize,
-        width: u64,
-        height: u64,
-        out: *mut u8,
-        out_len: usize,
-        answer: *mut u64,
-        answer_len: usize,
-    ) -> u64;
 }
 
 /// The archive's calls.
@@ -210,75 +118,28 @@ impl Subject for Archive {
         // call, and the borrow checker keeps them apart, as the calls ask.
         Ok(unsafe {
             match call {
-                Call::Code(pyramid, Sizes { w, h, n, levels }) => match levels {
-                    None => exported!(afs_code, [pyramid], [w, h, n], [bytes, work, answer]),
-                    Some(k) => exported!(
-                        afs_code_levels,
-                        [pyramid],
-                        [w, h, n, k],
-                        [bytes, work, answer]
-                    ),
-                },
+                Call::Code(pyramid, Sizes { w, h, n }) => {
+                    exported!(afs_code, [pyramid], [w, h, n], [bytes, work, answer])
+                }
                 Call::Serve {
                     record,
                     level,
                     plane,
                 } => exported!(afs_serve, [record], [level, plane], [bytes, answer]),
-                Call::ServePlanes { record, planes } => {
-                    exported!(afs_serve_planes, [record, planes], [], [bytes, answer])
-                }
-                Call::Nearness {
-                    sizes: LevelSizes { w, h, n, levels },
-                    reached,
-                    halvings,
-                } => afs_nearness(
-                    w,
-                    h,
-                    n,
-                    levels,
-                    reached.as_ptr(),
-                    reached.len(),
-                    halvings,
-                    answer.as_mut_ptr(),
-                    answer.len(),
-                ),
                 Call::Decode(record) => {
                     exported!(afs_decode, [record], [], [coefficients, work, answer])
-                }
-                Call::Check(record) => {
-                    exported!(afs_check, [record], [], [coefficients, work, answer])
                 }
                 Call::Survey(record) => exported!(afs_survey, [record], [], [answer]),
                 Call::Join { first, second } => {
                     exported!(afs_join, [first, second], [], [bytes, answer])
                 }
-                Call::Index(record) => exported!(afs_index, [record], [], [bytes, answer]),
-                Call::ServeBy {
-                    record,
-                    index,
-                    level,
-                    plane,
-                } => exported!(
-                    afs_serve_by,
-                    [record, index],
-                    [level, plane],
-                    [bytes, answer]
-                ),
                 Call::GreySize(file) => exported!(afs_grey_size, [file], [], [answer]),
                 Call::GreyIn { file, n } => {
                     exported!(afs_grey_in, [file], [n], [coefficients, work, answer])
                 }
-                Call::GreyOut(pyramid, Sizes { w, h, n, .. }) => {
+                Call::GreyOut(pyramid, Sizes { w, h, n }) => {
                     exported!(afs_grey_out, [pyramid], [w, h, n], [bytes, work, answer])
                 }
-                Call::GreyWiden { file, n } => {
-                    exported!(afs_grey_widen, [file], [n], [bytes, answer])
-                }
-                Call::GreyCut {
-                    file,
-                    width,
-                    height,
-                } => exported!(afs_grey_cut, [file], [width, height], [bytes, answer]),
             }
         })
     }

@@ -5,7 +5,7 @@ use crate::layout::{head_bytes, Header, Packer, Written};
 use crate::lists::AllLists;
 use crate::passes::{run_part, Side};
 use crate::refusal::{Cause, Refusal};
-use crate::size::{planes_of, Plane, Shape, Sizes, LARGEST_MAGNITUDE};
+use crate::size::{planes_of, Plane, Shape, LARGEST_MAGNITUDE};
 use crate::slip::{Faithful, Slips};
 use std::convert::Infallible;
 use std::marker::PhantomData;
@@ -32,23 +32,6 @@ pub fn code(
     code_as::<Faithful>(pyramid, w, h, n, out, work)
 }
 
-/// The same in version 2, with so many part levels.
-pub fn code_levels(
-    pyramid: &[i32],
-    (w, h, n): (u64, u64, u64),
-    levels: u64,
-    out: &mut [u8],
-    work: &mut [u32],
-) -> CodeAnswer {
-    let sizes = Sizes {
-        w,
-        h,
-        n,
-        levels: Some(levels),
-    };
-    code_sized::<Faithful>(pyramid, sizes, out, work)
-}
-
 /// [`code`], with the errors that `S` names.
 pub fn code_as<S: Slips>(
     pyramid: &[i32],
@@ -58,36 +41,20 @@ pub fn code_as<S: Slips>(
     out: &mut [u8],
     work: &mut [u32],
 ) -> CodeAnswer {
-    let sizes = Sizes {
-        w,
-        h,
-        n,
-        levels: None,
-    };
-    code_sized::<S>(pyramid, sizes, out, work)
-}
-
-/// [`code_as`] in either version.
-pub fn code_sized<S: Slips>(
-    pyramid: &[i32],
-    sizes: Sizes,
-    out: &mut [u8],
-    work: &mut [u32],
-) -> CodeAnswer {
     let planes = planes_of(largest_of(pyramid));
-    code_in_planes::<S>(pyramid, sizes, planes, out, work)
+    code_in_planes::<S>(pyramid, (w, h, n), planes, out, work)
 }
 
-/// [`code_sized`] for a number of planes that is asked for: the coder's own, the
+/// [`code_as`] for a number of planes that is asked for: the coder's own, the
 /// earlier one, or more. Every magnitude must be below 2^planes.
 pub fn code_in_planes<S: Slips>(
     pyramid: &[i32],
-    sizes: Sizes,
+    (w, h, n): (u64, u64, u64),
     planes: u32,
     out: &mut [u8],
     work: &mut [u32],
 ) -> CodeAnswer {
-    let outcome = judge(pyramid, sizes, work)
+    let outcome = judge(pyramid, w, h, n, work)
         .and_then(|shape| write_record::<S>(pyramid, Header { shape, planes }, out, work));
     work.fill(0);
     match outcome {
@@ -107,8 +74,8 @@ pub fn code_in_planes<S: Slips>(
 }
 
 /// Everything that can be refused before there is a result: 1, 2, 3, 4.
-fn judge(pyramid: &[i32], sizes: Sizes, work: &[u32]) -> Result<Shape, Refusal> {
-    let shape = sizes.judge()?;
+fn judge(pyramid: &[i32], w: u64, h: u64, n: u64, work: &[u32]) -> Result<Shape, Refusal> {
+    let shape = Shape::judge(w, h, n)?;
     if pyramid.len() != shape.area() {
         return Err(Refusal::new(Cause::Length));
     }
@@ -138,7 +105,12 @@ fn write_record<S: Slips>(
     written.append(&header.bytes());
 
     let mut lists = AllLists::start(shape, work);
-    let mut teller = Teller::<S>::of(pyramid, shape);
+    let mut teller = Teller::<S> {
+        pyramid,
+        shape,
+        body: Packer::default(),
+        slips: PhantomData,
+    };
     for (plane, level) in header.parts_in_order() {
         teller.body.clear();
         match run_part::<S, _>(shape, &mut lists, plane, level, &mut teller) {
@@ -153,22 +125,11 @@ fn write_record<S: Slips>(
 }
 
 /// The coder's side of a pass: finds each answer in the pyramid, writes it.
-pub(crate) struct Teller<'p, S> {
+struct Teller<'p, S> {
     pyramid: &'p [i32],
     shape: Shape,
-    pub(crate) body: Packer,
+    body: Packer,
     slips: PhantomData<S>,
-}
-
-impl<'p, S> Teller<'p, S> {
-    pub(crate) fn of(pyramid: &'p [i32], shape: Shape) -> Self {
-        Teller {
-            pyramid,
-            shape,
-            body: Packer::default(),
-            slips: PhantomData,
-        }
-    }
 }
 
 impl<S: Slips> Side for Teller<'_, S> {
@@ -215,7 +176,7 @@ impl<S: Slips> Teller<'_, S> {
     }
 
     /// D: the offspring, and L of the same node.
-    pub(crate) fn d_is_significant(&self, node: Node, threshold: u32) -> bool {
+    fn d_is_significant(&self, node: Node, threshold: u32) -> bool {
         match node.offspring(self.shape) {
             Some(block) => {
                 self.any_is_significant(block, threshold)
@@ -226,7 +187,7 @@ impl<S: Slips> Teller<'_, S> {
     }
 
     /// L: D of each of the offspring.
-    pub(crate) fn l_is_significant(&self, node: Node, threshold: u32) -> bool {
+    fn l_is_significant(&self, node: Node, threshold: u32) -> bool {
         match node.offspring(self.shape) {
             Some(block) => self.any_d_is_significant(block, threshold),
             None => false,

@@ -239,7 +239,7 @@ impl Usable {
     /// coarser depends; so these two being usable says it.
     fn would_be(&self, plane: Plane, level: Level) -> bool {
         let is_top = plane.0 + 1 == self.header.planes;
-        let is_coarsest = level == self.header.shape.top();
+        let is_coarsest = level == self.header.shape.coarsest();
         (is_top || self.is_usable(Plane(plane.0 + 1), level))
             && (is_coarsest || self.is_usable(plane, Level(level.0 + 1)))
     }
@@ -259,10 +259,10 @@ impl Usable {
             .unwrap_or(self.header.planes)
     }
 
-    /// Level 1 first, 0 beyond level K.
+    /// Level 1 first, 0 beyond level N + 1.
     fn reached_planes(&self) -> [u64; MOST_LEVELS] {
         let mut reached = [0; MOST_LEVELS];
-        for level in self.header.shape.part_levels_downward() {
+        for level in self.header.shape.levels_downward() {
             reached[level.0 as usize - 1] = self.reached(level).into();
         }
         reached

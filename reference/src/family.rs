@@ -79,13 +79,6 @@ impl Block {
         [top, top + 1, bottom, bottom + 1]
     }
 
-    /// The first block of the members' offspring: it lies in the same level as
-    /// all the others.
-    #[inline]
-    pub fn next_generation(self, shape: Shape) -> Option<Block> {
-        self.corner.offspring(shape)
-    }
-
     /// Whether the members have offspring in turn, which is whether L of
     /// their parent has members. They are never in the LL band.
     #[inline]
@@ -121,6 +114,17 @@ impl Set {
             node,
             kind: Kind::B,
         }
+    }
+
+    /// Whether the set has a member in this level. D of a node with offspring
+    /// has members in every finer level, L in all of those but the first.
+    #[inline]
+    pub fn has_member_in(self, level: Level) -> bool {
+        let skipped = match self.kind {
+            Kind::A => 1,
+            Kind::B => 2,
+        };
+        level.0 + skipped <= self.node.level.0
     }
 
     /// The set as one number of the workspace: kind, level, row and column.

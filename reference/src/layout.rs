@@ -4,9 +4,8 @@
 use crate::refusal::{Cause, Refusal};
 use crate::size::{Level, Plane, Shape};
 
-/// The version whose parts are of every level, and the one that names K.
-pub const VERSION_1: u32 = 1;
-pub const VERSION_2: u32 = 2;
+/// The only version there is.
+pub const VERSION: u32 = 1;
 /// A number has at most this many bytes.
 pub const LONGEST_NUMBER: usize = 4;
 
@@ -64,26 +63,15 @@ pub struct Header {
 }
 
 impl Header {
-    /// Version, W, H, N, planes, and in version 2 K.
-    pub fn numbers(&self) -> Vec<u32> {
-        let version = match self.shape.merged() {
-            None => VERSION_1,
-            Some(_) => VERSION_2,
-        };
-        let mut numbers = vec![
-            version,
+    pub fn bytes(&self) -> Vec<u8> {
+        let mut bytes = Vec::new();
+        for number in [
+            VERSION,
             self.shape.width(),
             self.shape.height(),
             self.shape.decompositions(),
             self.planes,
-        ];
-        numbers.extend(self.shape.merged());
-        numbers
-    }
-
-    pub fn bytes(&self) -> Vec<u8> {
-        let mut bytes = Vec::new();
-        for number in self.numbers() {
+        ] {
             push_number(&mut bytes, number);
         }
         bytes
@@ -94,7 +82,7 @@ impl Header {
     pub fn parts_in_order(self) -> impl Iterator<Item = (Plane, Level)> {
         Plane::downward(self.planes).flat_map(move |plane| {
             self.shape
-                .part_levels_downward()
+                .levels_downward()
                 .map(move |level| (plane, level))
         })
     }

@@ -12,16 +12,14 @@
 //! * [`refusal`]: the numbers that a call may come back with
 //! * [`size`]: sizes, levels, planes
 //! * [`family`]: offspring, and the sets D and L
-//! * [`part_levels`], [`lists`], [`passes`]: the three lists of each part
-//!   level, and the passes
+//! * [`lists`], [`passes`]: the three lists of each level, and the passes
 //! * [`layout`]: numbers, header, parts, packed bits
 //! * [`reading`]: the walk over a record
 //! * [`lifting`]: from a picture's numbers to a pyramid and back
 //! * [`netpbm`]: grey files
-//! * [`bound`]: how far a printed pixel can be from the recorded one, and the
-//!   call that tells it
-//! * [`coder`], [`server`], [`decoder`], [`checker`], [`survey`], [`joiner`],
-//!   [`indexer`], [`grey`], [`framing`], [`partlist`]: the calls
+//! * [`bound`]: how far a printed pixel can be from the recorded one
+//! * [`coder`], [`server`], [`decoder`], [`survey`], [`joiner`], [`grey`],
+//!   [`partlist`]: the calls
 //! * [`portal`]: the same calls in the shape in which C sees them
 //!
 //! and for trying the product: [`generate`] makes pyramids and records,
@@ -31,22 +29,18 @@
 //! catch them.
 
 pub mod bound;
-pub mod checker;
 pub mod coder;
 pub mod compare;
 pub mod decoder;
 pub mod family;
-pub mod framing;
 pub mod generate;
 pub mod grey;
-pub mod indexer;
 pub mod joiner;
 pub mod layout;
 pub mod lifting;
 pub mod lists;
 pub mod netpbm;
 pub mod openjpeg;
-pub mod part_levels;
 pub mod partlist;
 pub mod passes;
 pub mod piped;
@@ -62,14 +56,10 @@ pub mod survey;
 #[cfg(feature = "archive")]
 pub mod archive;
 
-pub use bound::{nearness, LevelSizes, NearnessAnswer};
-pub use checker::{check, CheckAnswer};
-pub use coder::{code, code_levels, CodeAnswer};
+pub use coder::{code, CodeAnswer};
 pub use decoder::{decode, DecodeAnswer};
-pub use framing::{grey_cut, grey_widen, FrameAnswer};
 pub use grey::{grey_in, grey_out, grey_size, GreyInAnswer, GreyOutAnswer};
-pub use indexer::{index, serve_by, IndexAnswer};
 pub use joiner::{join, JoinAnswer};
 pub use partlist::partlist;
-pub use server::{serve, serve_planes, ServeAnswer};
+pub use server::{serve, ServeAnswer};
 pub use survey::{survey, SurveyAnswer};

@@ -1,7 +1,6 @@
-//! The lists of each part level, in that level's stretch of the workspace.
+//! The lists of each level, in that level's stretch of the workspace.
 
 use crate::family::{Node, Set};
-use crate::part_levels::PartLevels;
 use crate::size::{Level, Shape};
 
 /// A list in a lent stretch of the workspace. What the stretch holds beyond
@@ -52,7 +51,7 @@ impl<'w> List<'w> {
     }
 }
 
-/// LIP, LIS and LSP of one part level. LIP and LSP hold indices into the pyramid,
+/// LIP, LIS and LSP of one level. LIP and LSP hold indices into the pyramid,
 /// LIS packed sets.
 pub struct Lists<'w> {
     pub lip: List<'w>,
@@ -78,44 +77,34 @@ impl<'w> Lists<'w> {
     }
 }
 
-/// The lists of all part levels.
+/// The lists of all levels.
 pub struct AllLists<'w> {
-    levels: PartLevels,
     /// Level 1 first.
-    lists: Vec<Lists<'w>>,
-}
-
-/// What a part is made with: its level's lists, and those of the next finer
-/// level for what moves on.
-pub struct Lent<'l, 'w> {
-    pub levels: &'l PartLevels,
-    pub own: &'l mut Lists<'w>,
-    pub finer: Option<&'l mut Lists<'w>>,
+    levels: Vec<Lists<'w>>,
 }
 
 impl<'w> AllLists<'w> {
     /// The lists as they are before the first plane. The workspace has at
     /// least [`Shape::workspace`] numbers.
     pub fn start(shape: Shape, work: &'w mut [u32]) -> AllLists<'w> {
-        let mut lists = Vec::with_capacity(shape.top().0 as usize);
+        let mut levels = Vec::with_capacity(shape.coarsest().0 as usize);
         let mut rest = work;
-        for level in (1..=shape.top().0).map(Level) {
+        for level in (1..=shape.coarsest().0).map(Level) {
             let (stretch, beyond) = rest.split_at_mut(4 * shape.count(level));
-            lists.push(Lists::in_stretch(stretch));
+            levels.push(Lists::in_stretch(stretch));
             rest = beyond;
         }
-        let levels = PartLevels::of(shape);
-        let mut all = AllLists { levels, lists };
+        let mut all = AllLists { levels };
         all.enter_ll_band(shape);
         all
     }
 
-    /// LIP of the highest level holds the LL band row by row, LIS those of it
-    /// with offspring.
+    /// LIP of level N + 1 holds the LL band row by row, LIS those of it with
+    /// offspring.
     fn enter_ll_band(&mut self, shape: Shape) {
         let level = shape.coarsest();
         let (rows, columns) = shape.block(level);
-        let Lent { own, .. } = self.lend(shape.top());
+        let (own, _) = self.own_and_finer(level);
         for row in 0..rows {
             for column in 0..columns {
                 let node = Node { row, column, level };
@@ -127,12 +116,9 @@ impl<'w> AllLists<'w> {
         }
     }
 
-    pub fn lend<'l>(&'l mut self, level: Level) -> Lent<'l, 'w> {
-        let (finer, own) = self.lists.split_at_mut(level.0 as usize - 1);
-        Lent {
-            levels: &self.levels,
-            own: &mut own[0],
-            finer: finer.last_mut(),
-        }
+    /// A level's lists, and those of the next finer level for what moves on.
+    pub fn own_and_finer(&mut self, level: Level) -> (&mut Lists<'w>, Option<&mut Lists<'w>>) {
+        let (finer, own) = self.levels.split_at_mut(level.0 as usize - 1);
+        (&mut own[0], finer.last_mut())
     }
 }

@@ -59,7 +59,7 @@ pub fn file(width: u32, height: u32, pixels: &[u8]) -> Vec<u8> {
 }
 
 fn is_blank(byte: u8) -> bool {
-    matches!(byte, b' ' | b'\t' | b'\n' | 0x0B | 0x0C | b'\r')
+    matches!(byte, b' ' | b'\t' | b'\n' | b'\r')
 }
 
 /// The bytes with each comment left out up to its line end. A comment without

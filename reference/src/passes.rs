@@ -2,8 +2,7 @@
 //! the coder, with bits read where the coder writes them.
 
 use crate::family::{Kind, Node, Set};
-use crate::lists::{AllLists, Lent, Lists};
-use crate::part_levels::PartLevels;
+use crate::lists::{AllLists, Lists};
 use crate::size::{Level, Plane, Shape};
 use crate::slip::Slips;
 use std::marker::PhantomData;
@@ -33,10 +32,9 @@ pub fn run_part<S: Slips, T: Side>(
     level: Level,
     side: &mut T,
 ) -> Result<(), T::Stop> {
-    let Lent { levels, own, finer } = lists.lend(level);
+    let (own, finer) = lists.own_and_finer(level);
     let mut pass = Pass {
         shape,
-        levels,
         plane,
         level,
         own,
@@ -56,7 +54,6 @@ pub fn run_part<S: Slips, T: Side>(
 
 struct Pass<'p, 'w, S, T> {
     shape: Shape,
-    levels: &'p PartLevels,
     plane: Plane,
     level: Level,
     own: &'p mut Lists<'w>,
@@ -106,7 +103,7 @@ impl<S: Slips, T: Side> Pass<'_, '_, S, T> {
     /// Visits one set; says whether it keeps its place.
     #[inline]
     fn stays(&mut self, set: Set) -> Result<bool, T::Stop> {
-        if !self.levels.has_member(set, self.level) {
+        if !set.has_member_in(self.level) {
             self.move_on(set);
             return Ok(false);
         }

@@ -2,7 +2,7 @@
 //! calls that are written to it (`host/piped_calls.c` says in which form), so
 //! that a machine that can't link the archive can compare it all the same.
 
-use crate::compare::{Call, LevelSizes, Memory, Returned, Sizes, Subject};
+use crate::compare::{Call, Memory, Returned, Sizes, Subject};
 use std::cell::RefCell;
 use std::io::{self, Read, Write};
 use std::path::Path;
@@ -59,7 +59,6 @@ impl<W: Write, R: Read> Subject for Piped<W, R> {
         for input in Input::of(call) {
             match input {
                 Input::Bytes(_, bytes) => written.lend(bytes),
-                Input::Numbers(_, numbers) => written.lend(numbers),
                 Input::Pyramid(pyramid) => written.lend(pyramid),
             }
         }
@@ -80,7 +79,6 @@ impl<W: Write, R: Read> Subject for Piped<W, R> {
         for input in Input::of(call) {
             match input {
                 Input::Bytes(name, bytes) => told.check_same(name, bytes)?,
-                Input::Numbers(name, numbers) => told.check_same(name, numbers)?,
                 Input::Pyramid(pyramid) => told.check_same("the pyramid", pyramid)?,
             }
         }
@@ -96,7 +94,6 @@ impl<W: Write, R: Read> Subject for Piped<W, R> {
 /// What a call only reads.
 enum Input<'a> {
     Bytes(&'static str, &'a [u8]),
-    Numbers(&'static str, &'a [u64]),
     Pyramid(&'a [i32]),
 }
 
@@ -105,32 +102,14 @@ impl<'a> Input<'a> {
     fn of(call: Call<'a>) -> Vec<Input<'a>> {
         match call {
             Call::Code(pyramid, _) | Call::GreyOut(pyramid, _) => vec![Input::Pyramid(pyramid)],
-            Call::Serve { record, .. }
-            | Call::Decode(record)
-            | Call::Check(record)
-            | Call::Survey(record)
-            | Call::Index(record) => {
+            Call::Serve { record, .. } | Call::Decode(record) | Call::Survey(record) => {
                 vec![Input::Bytes("the record", record)]
             }
-            Call::ServePlanes { record, planes } => vec![
-                Input::Bytes("the record", record),
-                Input::Numbers("the planes", planes),
-            ],
-            Call::Nearness { reached, .. } => {
-                vec![Input::Numbers("the planes", reached)]
-            }
-            Call::ServeBy { record, index, .. } => vec![
-                Input::Bytes("the record", record),
-                Input::Bytes("the index", index),
-            ],
             Call::Join { first, second } => vec![
                 Input::Bytes("the first record", first),
                 Input::Bytes("the second record", second),
             ],
-            Call::GreySize(file)
-            | Call::GreyIn { file, .. }
-            | Call::GreyWiden { file, .. }
-            | Call::GreyCut { file, .. } => {
+            Call::GreySize(file) | Call::GreyIn { file, .. } => {
                 vec![Input::Bytes("the file", file)]
             }
         }
@@ -146,18 +125,9 @@ struct Uses {
 
 impl Uses {
     fn of(call: Call) -> Uses {
-        let copies = matches!(
-            call,
-            Call::Serve { .. }
-                | Call::ServePlanes { .. }
-                | Call::Join { .. }
-                | Call::Index(_)
-                | Call::ServeBy { .. }
-                | Call::GreyWiden { .. }
-                | Call::GreyCut { .. }
-        );
+        let copies = matches!(call, Call::Serve { .. } | Call::Join { .. });
         let bytes = copies || matches!(call, Call::Code(..) | Call::GreyOut(..));
-        let coefficients = matches!(call, Call::Decode(_) | Call::Check(_) | Call::GreyIn { .. });
+        let coefficients = matches!(call, Call::Decode(_) | Call::GreyIn { .. });
         Uses {
             bytes,
             coefficients,
@@ -179,28 +149,14 @@ impl Written {
     /// Its letter and its numbers.
     fn head(call: Call) -> Written {
         let (letter, numbers) = match call {
-            Call::Code(_, Sizes { w, h, n, levels }) => match levels {
-                None => (b'c', vec![w, h, n]),
-                Some(k) => (b'k', vec![w, h, n, k]),
-            },
+            Call::Code(_, Sizes { w, h, n }) => (b'c', vec![w, h, n]),
             Call::Serve { level, plane, .. } => (b's', vec![level, plane]),
-            Call::ServePlanes { .. } => (b'p', vec![]),
-            Call::Nearness {
-                sizes: LevelSizes { w, h, n, levels },
-                halvings,
-                ..
-            } => (b'n', vec![w, h, n, levels, halvings]),
             Call::Decode(_) => (b'd', vec![]),
-            Call::Check(_) => (b'a', vec![]),
             Call::Survey(_) => (b'v', vec![]),
             Call::Join { .. } => (b'j', vec![]),
-            Call::Index(_) => (b'x', vec![]),
-            Call::ServeBy { level, plane, .. } => (b'b', vec![level, plane]),
             Call::GreySize(_) => (b'g', vec![]),
             Call::GreyIn { n, .. } => (b'i', vec![n]),
-            Call::GreyOut(_, Sizes { w, h, n, .. }) => (b'o', vec![w, h, n]),
-            Call::GreyWiden { n, .. } => (b'w', vec![n]),
-            Call::GreyCut { width, height, .. } => (b'u', vec![width, height]),
+            Call::GreyOut(_, Sizes { w, h, n }) => (b'o', vec![w, h, n]),
         };
         let mut bytes = vec![letter];
         numbers.iter().for_each(|number| number.put(&mut bytes));

@@ -4,31 +4,22 @@
 //! check, with the slice, the output and the workspace all 0.
 
 use crate::refusal::Cause;
-use crate::size::MOST_LEVELS;
 
 /// Number, place, length.
 pub const CODE_ANSWER: usize = 3;
 /// Number, place, length, tail length.
 pub const SERVE_ANSWER: usize = 4;
-/// Number, place, how far a pixel may be.
-pub const NEARNESS_ANSWER: usize = 3;
-/// Number, place, tail length, the reached plane of each level, and of each the
-/// count of parts that are there and not usable.
-pub const DECODE_ANSWER: usize = 3 + 2 * MOST_LEVELS;
-/// Number, place.
-pub const CHECK_ANSWER: usize = 2;
+/// Number, place, tail length, six reached planes, six counts of parts that
+/// are there and not usable.
+pub const DECODE_ANSWER: usize = 15;
 /// Number, place, length.
 pub const JOIN_ANSWER: usize = 3;
-/// Number, place, length.
-pub const INDEX_ANSWER: usize = 3;
-/// Number, place, W, H, N, planes, whole parts, tail length, part levels.
-pub const SURVEY_ANSWER: usize = 9;
+/// Number, place, W, H, N, planes, whole parts, tail length.
+pub const SURVEY_ANSWER: usize = 8;
 /// Number, place, width, height.
 pub const GREY_IN_ANSWER: usize = 4;
 /// Number, place, length, pixels set to the nearer end.
 pub const GREY_OUT_ANSWER: usize = 4;
-/// Number, place, length, width, height.
-pub const FRAME_ANSWER: usize = 5;
 
 #[allow(clippy::too_many_arguments)]
 pub fn afs_code(
@@ -49,26 +40,6 @@ pub fn afs_code(
     put(answer, &[said.number, said.place, said.length])
 }
 
-#[allow(clippy::too_many_arguments)]
-pub fn afs_code_levels(
-    pyramid: &[i32],
-    w: u64,
-    h: u64,
-    n: u64,
-    levels: u64,
-    out: &mut [u8],
-    work: &mut [u32],
-    answer: &mut [u64],
-) -> u64 {
-    if answer.len() < CODE_ANSWER {
-        out.fill(0);
-        work.fill(0);
-        return no_room_for(answer);
-    }
-    let said = crate::code_levels(pyramid, (w, h, n), levels, out, work);
-    put(answer, &[said.number, said.place, said.length])
-}
-
 pub fn afs_serve(record: &[u8], level: u64, plane: u64, out: &mut [u8], answer: &mut [u64]) -> u64 {
     if answer.len() < SERVE_ANSWER {
         out.fill(0);
@@ -76,28 +47,6 @@ pub fn afs_serve(record: &[u8], level: u64, plane: u64, out: &mut [u8], answer: 
     }
     let said = crate::serve(record, level, plane, out);
     put(answer, &[said.number, said.place, said.length, said.tail])
-}
-
-pub fn afs_serve_planes(record: &[u8], planes: &[u64], out: &mut [u8], answer: &mut [u64]) -> u64 {
-    if answer.len() < SERVE_ANSWER {
-        out.fill(0);
-        return no_room_for(answer);
-    }
-    let said = crate::serve_planes(record, planes, out);
-    put(answer, &[said.number, said.place, said.length, said.tail])
-}
-
-pub fn afs_nearness(
-    sizes: crate::LevelSizes,
-    reached: &[u64],
-    halvings: u64,
-    answer: &mut [u64],
-) -> u64 {
-    if answer.len() < NEARNESS_ANSWER {
-        return no_room_for(answer);
-    }
-    let said = crate::nearness(sizes, reached, halvings);
-    put(answer, &[said.number, said.place, said.most])
 }
 
 pub fn afs_decode(record: &[u8], out: &mut [i32], work: &mut [u32], answer: &mut [u64]) -> u64 {
@@ -109,47 +58,12 @@ pub fn afs_decode(record: &[u8], out: &mut [i32], work: &mut [u32], answer: &mut
     put(answer, &crate::decode(record, out, work).numbers())
 }
 
-pub fn afs_check(record: &[u8], out: &mut [i32], work: &mut [u32], answer: &mut [u64]) -> u64 {
-    if answer.len() < CHECK_ANSWER {
-        out.fill(0);
-        work.fill(0);
-        return no_room_for(answer);
-    }
-    let said = crate::check(record, out, work);
-    put(answer, &[said.number, said.place])
-}
-
 pub fn afs_join(first: &[u8], second: &[u8], out: &mut [u8], answer: &mut [u64]) -> u64 {
     if answer.len() < JOIN_ANSWER {
         out.fill(0);
         return no_room_for(answer);
     }
     let said = crate::join(first, second, out);
-    put(answer, &[said.number, said.place, said.length])
-}
-
-pub fn afs_index(record: &[u8], out: &mut [u8], answer: &mut [u64]) -> u64 {
-    if answer.len() < INDEX_ANSWER {
-        out.fill(0);
-        return no_room_for(answer);
-    }
-    let said = crate::index(record, out);
-    put(answer, &[said.number, said.place, said.length])
-}
-
-pub fn afs_serve_by(
-    record: &[u8],
-    index: &[u8],
-    level: u64,
-    plane: u64,
-    out: &mut [u8],
-    answer: &mut [u64],
-) -> u64 {
-    if answer.len() < INDEX_ANSWER {
-        out.fill(0);
-        return no_room_for(answer);
-    }
-    let said = crate::serve_by(record, index, level, plane, out);
     put(answer, &[said.number, said.place, said.length])
 }
 
@@ -204,28 +118,6 @@ pub fn afs_grey_out(
         answer,
         &[said.number, said.place, said.length, said.clipped],
     )
-}
-
-pub fn afs_grey_widen(file: &[u8], n: u64, out: &mut [u8], answer: &mut [u64]) -> u64 {
-    if answer.len() < FRAME_ANSWER {
-        out.fill(0);
-        return no_room_for(answer);
-    }
-    put(answer, &crate::grey_widen(file, n, out).numbers())
-}
-
-pub fn afs_grey_cut(
-    file: &[u8],
-    width: u64,
-    height: u64,
-    out: &mut [u8],
-    answer: &mut [u64],
-) -> u64 {
-    if answer.len() < FRAME_ANSWER {
-        out.fill(0);
-        return no_room_for(answer);
-    }
-    put(answer, &crate::grey_cut(file, width, height, out).numbers())
 }
 
 fn put(answer: &mut [u64], numbers: &[u64]) -> u64 {

@@ -2,11 +2,9 @@
 //! decoding and the part list read by this one walk, so that all of them
 //! refuse alike.
 
-use crate::layout::{
-    body_length, padding_is_clear, read_number, Header, Number, VERSION_1, VERSION_2,
-};
+use crate::layout::{body_length, padding_is_clear, read_number, Header, Number, VERSION};
 use crate::refusal::{Cause, Refusal};
-use crate::size::{Level, Plane, Sizes, MOST_PLANES};
+use crate::size::{Level, Plane, Shape, MOST_PLANES};
 
 /// One whole part, held as portions of the caller's record.
 #[derive(Clone, Copy, Debug, PartialEq, Eq)]
@@ -60,29 +58,18 @@ pub struct Walk<'r> {
 
 impl<'r> Walk<'r> {
     /// Reads the header. The version comes first and is judged at once, as
-    /// what follows means nothing in another version; then the other numbers,
-    /// four or five, and only then whether they are legal.
+    /// what follows means nothing in another version; then the four other
+    /// numbers, and only then whether they are legal.
     pub fn begin(record: &'r [u8]) -> Result<Walk<'r>, Refusal> {
         let mut at = 0;
-        let version = header_number(record, &mut at)?;
-        if version != VERSION_1 && version != VERSION_2 {
+        if header_number(record, &mut at)? != VERSION {
             return Err(Refusal::new(Cause::Version));
         }
         let width = header_number(record, &mut at)?;
         let height = header_number(record, &mut at)?;
         let decompositions = header_number(record, &mut at)?;
         let planes = header_number(record, &mut at)?;
-        let levels = match version {
-            VERSION_2 => Some(header_number(record, &mut at)?),
-            _ => None,
-        };
-        let sizes = Sizes {
-            w: width.into(),
-            h: height.into(),
-            n: decompositions.into(),
-            levels: levels.map(u64::from),
-        };
-        let shape = sizes.judge()?;
+        let shape = Shape::judge(width.into(), height.into(), decompositions.into())?;
         if planes > MOST_PLANES {
             return Err(Refusal::new(Cause::Size));
         }
@@ -160,23 +147,6 @@ impl<'r> Walk<'r> {
         }))
     }
 
-    /// Plane, level and end of the part whose well-formed head stands at an
-    /// offset, whatever stands before it and be its body there or not.
-    pub fn head_at(&self, offset: usize) -> Option<(Plane, Level, usize)> {
-        let alone = Walk {
-            at: offset,
-            before: None,
-            ..*self
-        };
-        match alone.read_head() {
-            HeadRead::Whole(head) if alone.is_legal(&head) => {
-                let end = head.next + body_length(head.bits as usize);
-                Some((Plane(head.plane), Level(head.level), end))
-            }
-            _ => None,
-        }
-    }
-
     /// The three numbers in turn; the first that isn't a value decides, and
     /// no value is judged before all three are there.
     fn read_head(&self) -> HeadRead {
@@ -205,7 +175,7 @@ impl<'r> Walk<'r> {
     fn is_legal(&self, head: &Head) -> bool {
         let Header { shape, planes } = self.header;
         head.plane < planes
-            && (1..=shape.top().0).contains(&head.level)
+            && (1..=shape.coarsest().0).contains(&head.level)
             && head.bits as usize <= shape.workspace()
             && self.comes_after(Plane(head.plane), Level(head.level))
     }

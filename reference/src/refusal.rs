@@ -18,13 +18,11 @@ pub enum Cause {
     Grey = 13,
     Mixed = 14,
     Clash = 15,
-    Index = 16,
-    Foreign = 17,
 }
 
 /// A cause and the place reported with it: an index into the pyramid for
 /// [`Cause::Range`], an offset into the record for the causes 6, 8, 9, 10, 12
-/// and 15, one into the index for 16, 0 for all others.
+/// and 15, 0 for all others.
 #[derive(Clone, Copy, Debug, PartialEq, Eq)]
 pub struct Refusal {
     pub cause: Cause,

@@ -3,21 +3,20 @@
 use crate::refusal::{Cause, Refusal};
 
 /// The largest decomposition count N.
-pub const MOST_DECOMPOSITIONS: u32 = 8;
+pub const MOST_DECOMPOSITIONS: u32 = 5;
 /// The most levels a pyramid has, N + 1.
 pub const MOST_LEVELS: usize = MOST_DECOMPOSITIONS as usize + 1;
 /// The most planes a record may name.
 pub const MOST_PLANES: u32 = 17;
 /// The smallest and largest width or height.
-pub const SIDES: std::ops::RangeInclusive<u64> = 4..=4096;
+pub const SIDES: std::ops::RangeInclusive<u64> = 4..=512;
 /// The largest magnitude that is coded.
 pub const LARGEST_MAGNITUDE: u32 = 65_535;
 /// The largest magnitude that decoding writes, all of 17 planes; so also the
 /// largest that goes back to a picture.
 pub const LARGEST_DECODED: u32 = 131_071;
 
-/// A spatial level: N + 1 is the LL band, 1 the finest. Of a part it is a part
-/// level: those from K on are one, K.
+/// A spatial level: N + 1 is the LL band, 1 the finest.
 ///
 /// Levels and planes are both small numbers that count downward, and the
 /// published listings swap them; as two types they cannot be.
@@ -47,14 +46,12 @@ impl Plane {
     }
 }
 
-/// A legal W, H and N, and in version 2 a legal K. There is no other way to one
-/// than [`Shape::judge`] and [`Shape::with_levels`].
+/// A legal W, H and N. There is no other way to one than [`Shape::judge`].
 #[derive(Clone, Copy, Debug, PartialEq, Eq)]
 pub struct Shape {
     width: u32,
     height: u32,
     decompositions: u32,
-    merged: Option<u32>,
 }
 
 impl Shape {
@@ -69,35 +66,10 @@ impl Shape {
                 width: width as u32,
                 height: height as u32,
                 decompositions: decompositions as u32,
-                merged: None,
             })
         } else {
             Err(Refusal::new(Cause::Size))
         }
-    }
-
-    /// The same with K part levels, or SIZE.
-    pub fn with_levels(self, levels: u64) -> Result<Shape, Refusal> {
-        if !(1..=u64::from(self.coarsest().0)).contains(&levels) {
-            return Err(Refusal::new(Cause::Size));
-        }
-        Ok(Shape {
-            merged: Some(levels as u32),
-            ..self
-        })
-    }
-
-    /// The same with all of its levels, in version 1.
-    pub fn unmerged(self) -> Shape {
-        Shape {
-            merged: None,
-            ..self
-        }
-    }
-
-    /// K, where the version is 2.
-    pub fn merged(self) -> Option<u32> {
-        self.merged
     }
 
     pub fn width(self) -> u32 {
@@ -132,19 +104,9 @@ impl Shape {
         Level(self.decompositions + 1)
     }
 
-    /// All levels, coarsest first.
+    /// All levels, coarsest first, as the passes take them.
     pub fn levels_downward(self) -> impl Iterator<Item = Level> {
-        (1..=self.coarsest().0).rev().map(Level)
-    }
-
-    /// The highest part level: K, and N + 1 where the version is 1.
-    pub fn top(self) -> Level {
-        Level(self.merged.unwrap_or(self.coarsest().0))
-    }
-
-    /// All part levels, the highest first, as the passes take them.
-    pub fn part_levels_downward(self) -> impl Iterator<Item = Level> {
-        (1..=self.top().0).rev().map(Level)
+        (1..=self.decompositions + 1).rev().map(Level)
     }
 
     /// Rows and columns of the top left block which holds this level and all
@@ -154,13 +116,13 @@ impl Shape {
         (self.height >> halvings, self.width >> halvings)
     }
 
-    /// How many coefficients a part level has.
+    /// How many coefficients a level has.
     pub fn count(self, level: Level) -> usize {
         let cells = |level| {
             let (rows, columns) = self.block(level);
             rows as usize * columns as usize
         };
-        if level == self.top() {
+        if level == self.coarsest() {
             cells(level)
         } else {
             cells(level) - cells(Level(level.0 + 1))
@@ -175,34 +137,6 @@ impl Shape {
                 row < rows && column < columns
             })
             .expect("level 1's block is the whole pyramid")
-    }
-}
-
-/// W, H, N and K as a caller gives them; without a K it is version 1.
-#[derive(Clone, Copy, Debug, PartialEq, Eq)]
-pub struct Sizes {
-    pub w: u64,
-    pub h: u64,
-    pub n: u64,
-    pub levels: Option<u64>,
-}
-
-impl Sizes {
-    pub fn of(shape: Shape) -> Sizes {
-        Sizes {
-            w: shape.width().into(),
-            h: shape.height().into(),
-            n: shape.decompositions().into(),
-            levels: shape.merged().map(u64::from),
-        }
-    }
-
-    pub fn judge(self) -> Result<Shape, Refusal> {
-        let shape = Shape::judge(self.w, self.h, self.n)?;
-        match self.levels {
-            Some(levels) => shape.with_levels(levels),
-            None => Ok(shape),
-        }
     }
 }
 

@@ -4,7 +4,7 @@ use crate::reading::Walk;
 use crate::refusal::Refusal;
 
 /// Number and place of a refusal, or 0, 0 and what the header says, how many
-/// parts are whole, how long the tail is and how many part levels there are.
+/// parts are whole and how long the tail is.
 #[derive(Clone, Copy, Debug, Default, PartialEq, Eq)]
 pub struct SurveyAnswer {
     pub number: u64,
@@ -15,12 +15,11 @@ pub struct SurveyAnswer {
     pub planes: u64,
     pub parts: u64,
     pub tail: u64,
-    pub levels: u64,
 }
 
 impl SurveyAnswer {
     /// In the order of the exported call.
-    pub fn numbers(&self) -> [u64; 9] {
+    pub fn numbers(&self) -> [u64; 8] {
         [
             self.number,
             self.place,
@@ -30,7 +29,6 @@ impl SurveyAnswer {
             self.planes,
             self.parts,
             self.tail,
-            self.levels,
         ]
     }
 }
@@ -58,7 +56,6 @@ fn count_parts(record: &[u8]) -> Result<SurveyAnswer, Refusal> {
         planes: walk.header().planes.into(),
         parts,
         tail: walk.tail() as u64,
-        levels: shape.top().0.into(),
         ..SurveyAnswer::default()
     })
 }

@@ -4,15 +4,11 @@ ghost use Rattle.std.proofs.lemmas.List.Edits.{sets};
 ghost use Rattle.rules.specs.Document.Passes.{from};
 ghost use Rattle.rules.specs.Document.Numbers.{refusal_number, refusal_place, verdict_number, verdict_place};
 ghost use Rattle.rules.specs.Document.Calls.{level_places, code_places, serve_places, decode_places, code_numbers, serve_numbers, plane_in, count_in, decode_numbers};
-ghost use Rattle.checks.specs.Document.Checking.{check_places, check_numbers};
 ghost use Rattle.survey.specs.Surveyed.{survey_places, survey_numbers};
 ghost use Rattle.pictures.specs.Document.Calls.{grey_read_numbers, grey_written_numbers, grey_places};
-ghost use Rattle.pictures.specs.Document.Nearness.{near_numbers, near_places};
-ghost use Rattle.pictures.specs.Document.Widening.{framed_numbers, frame_places};
 ghost use Rattle.answers.specs.Report.{verdict_numbers, level_numbers, Reported};
 
-use checks::Checked;
-use pictures::{GreyFramed, GreyRead, GreyWritten, Near};
+use pictures::{GreyRead, GreyWritten};
 use rules::{Coded, Decoded, LEVEL_PLACES, Plane, Refusal, Served, Verdict};
 use survey::Survey;
 
@@ -35,8 +31,6 @@ fn refusal_number(refusal: Refusal) -> u64
         Refusal::Grey => 13,
         Refusal::Mixed => 14,
         Refusal::Clash(_) => 15,
-        Refusal::Index(_) => 16,
-        Refusal::Foreign => 17,
     }
 }
 
@@ -51,7 +45,6 @@ fn refusal_place(refusal: Refusal) -> u64
         Refusal::Fit(place) => place as u64,
         Refusal::LongForm(place) => place as u64,
         Refusal::Clash(place) => place as u64,
-        Refusal::Index(place) => place as u64,
         Refusal::Size => 0,
         Refusal::Length => 0,
         Refusal::Work => 0,
@@ -60,7 +53,6 @@ fn refusal_place(refusal: Refusal) -> u64
         Refusal::Ask => 0,
         Refusal::Grey => 0,
         Refusal::Mixed => 0,
-        Refusal::Foreign => 0,
     }
 }
 
@@ -84,7 +76,7 @@ pub fn place(verdict: Verdict) -> u64
 
 // All 0, but for number and place in front.
 fn report_verdict(verdict: Verdict, answer: &mut [u64]) -> u64
-    requires { check_places ≤ length answer.old }
+    requires { code_places ≤ length answer.old }
     ensures { Reported (verdict_numbers verdict) answer.old result answer.new }
 {
     memory::zero_u64(answer);
@@ -102,14 +94,6 @@ pub fn report_coded(coded: Coded, answer: &mut [u64]) -> u64
     let n = report_verdict(v, answer);
     answer[2] = coded.length as u64;
     n
-}
-
-pub fn report_checked(checked: Checked, answer: &mut [u64]) -> u64
-    requires { check_places ≤ length answer.old }
-    ensures { Reported (check_numbers checked) answer.old result answer.new }
-{
-    let v = checked.verdict;
-    report_verdict(v, answer)
 }
 
 pub fn report_served(served: Served, answer: &mut [u64]) -> u64
@@ -184,7 +168,6 @@ pub fn report_surveyed(surveyed: Survey, answer: &mut [u64]) -> u64
     answer[5] = header.planes as u64;
     answer[6] = surveyed.parts as u64;
     answer[7] = surveyed.tail as u64;
-    answer[8] = surveyed.levels as u64;
     n
 }
 
@@ -199,16 +182,6 @@ pub fn report_grey_read(read: GreyRead, answer: &mut [u64]) -> u64
     n
 }
 
-pub fn report_near(near: Near, answer: &mut [u64]) -> u64
-    requires { near_places ≤ length answer.old }
-    ensures { Reported (near_numbers near) answer.old result answer.new }
-{
-    let v = near.verdict;
-    let n = report_verdict(v, answer);
-    answer[2] = near.most as u64;
-    n
-}
-
 pub fn report_grey_written(written: GreyWritten, answer: &mut [u64]) -> u64
     requires { grey_places ≤ length answer.old }
     ensures { Reported (grey_written_numbers written) answer.old result answer.new }
@@ -217,17 +190,5 @@ pub fn report_grey_written(written: GreyWritten, answer: &mut [u64]) -> u64
     let n = report_verdict(v, answer);
     answer[2] = written.length as u64;
     answer[3] = written.clipped as u64;
-    n
-}
-
-pub fn report_grey_framed(framed: GreyFramed, answer: &mut [u64]) -> u64
-    requires { frame_places ≤ length answer.old }
-    ensures { Reported (framed_numbers framed) answer.old result answer.new }
-{
-    let v = framed.verdict;
-    let n = report_verdict(v, answer);
-    answer[2] = framed.length as u64;
-    answer[3] = framed.w as u64;
-    answer[4] = framed.h as u64;
     n
 }

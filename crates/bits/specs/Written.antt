@@ -66,7 +66,7 @@ write_bits_from out t (b ∷ bits) =
     write_bits_from (set_bit out t b) (t + 1) bits ∙ sym (write_from_tail (set_bit out t b) (t + 1) b bits 0 (length bits))
 
 -- One byte: its bits are added from the highest to the lowest.
-pub set_again : (out : List ℕ) (k x : ℕ) (f : ℕ → ℕ) → set (set out k x) k (f (get_or (set out k x) k 0)) ≡ set out k (f x)
+set_again : (out : List ℕ) (k x : ℕ) (f : ℕ → ℕ) → set (set out k x) k (f (get_or (set out k x) k 0)) ≡ set out k (f x)
 set_again [] k x f = refl
 set_again (y ∷ out) zero x f = refl
 set_again (y ∷ out) (suc k) x f = ap (λ l. y ∷ l) (set_again out k x f)

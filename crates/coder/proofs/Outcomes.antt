@@ -21,10 +21,10 @@ use Rattle.rules.specs.declared.Verdict.{Verdict}
 use Rattle.rules.specs.declared.Verdict.TheVariants.{Accepted, Refused}
 use Rattle.rules.specs.Document.Notation.{zeros}
 use Rattle.rules.specs.Document.Pyramid.{legal_size, area, most_magnitude}
-use Rattle.rules.specs.Document.Layout.{record_with, record_of}
+use Rattle.rules.specs.Document.Layout.{record_of}
 use Rattle.rules.specs.Document.Calls.{Result, refused, unless, work_for, first_over, fitted, coding, code_out, code_answer, Coding}
 use Rattle.rules.specs.Laws.Bytes.Output.{filled_sets}
-use Rattle.coder.specs.Writing.{Answered, judged_input, Given, Kept, Stored, RecordStored, RecordAnswered}
+use Rattle.coder.specs.Writing.{Answered, judged_input, Given, Stored}
 
 -- Stores keep the length.
 pub stored_length : {out : List ℕ} {at : ℕ} {bytes : List ℕ} {end : ℕ} {out' : List ℕ} → Stored out at bytes end out'
@@ -142,38 +142,30 @@ module _ (pyramid : List ℤ) (z : Size) where
       → work' ≡ zeros (length since) → length since ≡ length work → Coding pyramid z out work answer out' work'
   code_answered since a c l = record { answers = a.answers; writes = a.writes; clears = c ∙ ap zeros l }
 
--- The length decides.
-module _ (bytes out : List ℕ) {end : ℕ} {out' : List ℕ} (h : Stored (zeros (length out)) 0 bytes end out') where
-  room : length out' ≡ length out
-  room = stored_room out h
+  -- code_fitted: the length decides.
+  module _ (out : List ℕ) {end : ℕ} {out' : List ℕ} (h : Stored (zeros (length out)) 0 (record_of z pyramid) end out') where
+    room : length out' ≡ length out
+    room = stored_room out h
 
-  fitted_refused : {answer : Coded} {out'' : List ℕ} → length out' < end → Answered (refused refusal.Room) out' answer out''
-      → Answered (fitted bytes (length out)) out answer out''
-  unfolding fitted unless
-  fitted_refused l a =
-      let t : leb (length bytes) (length out) ≡ false = lt-leb (length bytes) (length out) (omega (arith, h.place, room)) in
-      rw t
-      (record {
-        answers = a.answers;
-        writes = a.writes ∙ ap (λ n. code_out n (refused refusal.Room)) room;
-      })
+    pub fitted_refused : {answer : Coded} {out'' : List ℕ} → length out' < end → Answered (refused refusal.Room) out' answer out''
+        → Answered (fitted (record_of z pyramid) (length out)) out answer out''
+    unfolding fitted unless
+    fitted_refused l a =
+        let t : leb (length (record_of z pyramid)) (length out) ≡ false =
+        lt-leb (length (record_of z pyramid)) (length out) (omega (arith, h.place, room)) in
+        rw t
+        (record {
+          answers = a.answers;
+          writes = a.writes ∙ ap (λ n. code_out n (refused refusal.Room)) room;
+        })
 
-  fitted_accepted : end ≤ length out'
-      → Answered (fitted bytes (length out)) out (record { verdict = Accepted; length = end }) out'
-  unfolding fitted unless code_answer code_out
-  fitted_accepted l =
-      let m : length bytes ≤ length out = omega (arith, h.place, room) in
-      rw (le-leb _ _ m)
-      (record {
-        answers = ap (λ n. record { verdict = Accepted; length = n }) (h.place ∙ zero-add (length bytes));
-        writes = h.stores ∙ filled_sets (length out) bytes m;
-      })
-
--- code_held
-module _ {z : Size} {planes : ℕ} {work : List ℕ} (g : Kept z work) {out : List ℕ} {end : ℕ} {out' : List ℕ} (h : RecordStored z planes work out end out') where
-  pub held_refused : {answer : Coded} {out'' : List ℕ} → length out' < end → Answered (refused refusal.Room) out' answer out''
-      → RecordAnswered z planes work out answer out''
-  held_refused l a = record { told = λ v w. fitted_refused (record_with z planes v) out (h.stored v w) l a }
-
-  pub held_accepted : end ≤ length out' → RecordAnswered z planes work out (record { verdict = Accepted; length = end }) out'
-  held_accepted l = record { told = λ v w. fitted_accepted (record_with z planes v) out (h.stored v w) l }
+    pub fitted_accepted : end ≤ length out'
+        → Answered (fitted (record_of z pyramid) (length out)) out (record { verdict = Accepted; length = end }) out'
+    unfolding fitted unless code_answer code_out
+    fitted_accepted l =
+        let m : length (record_of z pyramid) ≤ length out = omega (arith, h.place, room) in
+        rw (le-leb _ _ m)
+        (record {
+          answers = ap (λ n. record { verdict = Accepted; length = n }) (h.place ∙ zero-add (length (record_of z pyramid)));
+          writes = h.stores ∙ filled_sets (length out) (record_of z pyramid) m;
+        })

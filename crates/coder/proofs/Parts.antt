@@ -51,14 +51,7 @@ module _ (z : Size) (n : Plane) (k : Level) (work : List ℕ) (p : Progress) (ou
   few : (v : List ℤ) → (length (course_c v z n k work p.counts).side ≤ part_most) × (n.0 < 128) × (k.0 < 128)
   few v =
       let o : OfLevel (levels z) (named n k) = record { from1 = due.coarser; up_to = due.level } in
-      omega (
-        arith,
-        bits_few v z l (named n k) (state_of z work p.counts) o due.going.sound,
-        (legal z l).few,
-        (legal z l).few_levels,
-        due.plane,
-        due.level,
-      )
+      omega (arith, bits_few v z l (named n k) (state_of z work p.counts) o due.going.sound, (legal z l).few, due.plane)
 
   module _ (passed : Passed) (work' out' : List ℕ) (h : PartCoded z n k work p.counts out at passed work' out') where
     pub part_forward : (from to : ℕ) → from ≡ at.at → to ≡ passed.at.at → from ≤ to

@@ -90,7 +90,6 @@ module _ (pyramid : List ℤ) (z : Size) where
     unfolding onward
     going_onward {m} {x} g p o a =
         let few = (legal z l).few in
-        let top = (legal z l).few_levels in
         record {
           sound = coded_sound (trees_lawful z (legal z l)) g.sound o _ _;
           clear = λ j h. get_d_sets_behind x.out x.place (bytes_of pyramid z p x.lists) j 0 h ∙ g.clear j (omega arith);

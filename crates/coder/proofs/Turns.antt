@@ -86,8 +86,7 @@ module _ (z : Size) where
       record {
         plane = a;
         level = omega arith;
-        left = rw e (left_all (parts_of_plane n.0 (levels z)) h
-            (going_fewer (levels z) (omega (arith, (legal z h.legal).few, (legal z h.legal).few_levels)) g));
+        left = rw e (left_all (parts_of_plane n.0 (levels z)) h (going_fewer (levels z) (omega (arith, (legal z h.legal).few)) g));
       }
 
   module _ {n : Plane} {work₀ : List ℕ} {x₀ : Stage} where
@@ -141,7 +140,7 @@ module _ (z : Size) where
         let e : planes - done ≡ suc n = omega arith in
         let h : _ = l.left.holding in
         let g = going_plane h.pyramid z h.legal {m = level_places * n} n (levels z) (omega (arith, l.few)) (omega arith) x
-        (going_fewer (levels z + level_places * n) (omega (arith, (legal z h.legal).few, (legal z h.legal).few_levels)) l.left.going) in
+        (going_fewer (levels z + level_places * n) (omega (arith, (legal z h.legal).few)) l.left.going) in
         record {
           few = l.few;
           left = left_less l.left (parts_of_plane n (levels z)) (part_names (levels z) n) (level_places * n) (ap (part_names (levels z)) e) g r;

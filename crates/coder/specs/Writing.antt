@@ -1,5 +1,5 @@
 -- The stages of writing a record, and what each function of the coder makes of them: its contracts.
-use Rattle.std.specs.Prelude.{◌≡◌, List, [], ◌∷◌, Bool, true, cond, ℕ, ◌+◌, ◌*◌, ◌^◌, ◌≤◌, ◌<◌, leb, eqb, length, get_or, ℤ, pos}
+use Rattle.std.specs.Prelude.{◌≡◌, List, [], ◌∷◌, Bool, true, cond, ℕ, ◌+◌, ◌*◌, ◌^◌, ◌≤◌, ◌<◌, leb, eqb, length, get_or, ℤ}
 use Rattle.std.proofs.lemmas.List.Edits.{sets}
 use Rattle.rules.specs.declared.Size.{Size}
 use Rattle.rules.specs.declared.Plane.{Plane}
@@ -8,20 +8,17 @@ use Rattle.rules.specs.declared.Coded.{Coded}
 use Rattle.rules.specs.declared.Refusal.TheVariants as refusal
 use Rattle.rules.specs.declared.Verdict.{Verdict}
 use Rattle.rules.specs.declared.Verdict.TheVariants.{Accepted, Refused}
-use Rattle.rules.specs.Document.Notation.{flat, zeros}
-use Rattle.rules.specs.Document.Pyramid.{legal_size, area, depths, levels, most_magnitude, magnitude, negative, most_planes}
-use Rattle.rules.specs.Document.Passes.{Course, State, after, PartName, part_names, coded}
-use Rattle.rules.specs.Document.Layout.{part_bytes, coded_parts, record_with}
-use Rattle.rules.specs.Document.Calls.{Result, work_for, first_over, fitted, code_out, code_answer}
+use Rattle.rules.specs.Document.Notation.{flat}
+use Rattle.rules.specs.Document.Pyramid.{legal_size, area, levels, most_magnitude, magnitude, negative, most_planes}
+use Rattle.rules.specs.Document.Passes.{Course, State, after, PartName, coded}
+use Rattle.rules.specs.Document.Layout.{part_bytes, coded_parts}
+use Rattle.rules.specs.Document.Calls.{Result, work_for, first_over, code_out, code_answer}
 use Rattle.trees.specs.Family.{coefficient_of, trees}
-use Rattle.trees.specs.Run.{tree_start}
 use Rattle.trees.specs.Sound.{TreeSound}
-use Rattle.coefficients.specs.Words.{worded}
-use Rattle.stretches.specs.Workspace.{word_of, Holds}
-use Rattle.largest.specs.Filling.{Fillable}
+use Rattle.stretches.specs.Workspace.{Holds}
 use Rattle.lists.specs.declared.Role.TheVariants.{Codes}
 use Rattle.parts.specs.declared.Counts.{Counts}
-use Rattle.parts.specs.Standing.{state_of, Agree, Marks}
+use Rattle.parts.specs.Standing.{state_of, Marks}
 use Rattle.record.specs.Write.{place_most}
 use Rattle.coder.specs.declared.Progress.{Progress}
 
@@ -48,15 +45,6 @@ pub record Given (pyramid : List ℤ) (z : Size) (work : List ℕ) : Type 0 wher
   pub room : work_for z ≤ length work
   pub range : first_over most_magnitude pyramid ≡ length pyramid
 
--- The words of a pyramid stand in the workspace, by depths, none too large for its measure to be kept.
-abbrev pub HoldsWords : Size → List ℤ → List ℕ → Type 0
-HoldsWords z v work = (x : ℕ) → x < area z → word_of z (depths z) work x ≡ worded (get_or v (coefficient_of z x) (pos 0))
-
-pub record Kept (z : Size) (work : List ℕ) : Type 0 where
-  pub fillable : Fillable z work
-  pub pyramid : List ℤ
-  pub words : HoldsWords z pyramid work
-
 -- A workspace that holds a pyramid, and lists with LIP's entries marked.
 pub record Holding (z : Size) (work : List ℕ) (counts : Counts) : Type 0 where
   pub legal : legal_size z ≡ true
@@ -67,7 +55,7 @@ pub record Holding (z : Size) (work : List ℕ) (counts : Counts) : Type 0 where
 
 -- No header and no part has more bytes; no part begins behind this place.
 abbrev pub header_most : ℕ
-header_most = 24
+header_most = 20
 
 abbrev pub bytes_most : ℕ
 bytes_most = 2 ^ 32
@@ -134,20 +122,3 @@ pub record Reached (z : Size) (ps : List PartName) (work : List ℕ) (x : Stage)
 pub record Stored (out : List ℕ) (at : ℕ) (bytes : List ℕ) (end : ℕ) (out' : List ℕ) : Type 0 where
   pub place : end ≡ at + length bytes
   pub stores : out' ≡ sets out at bytes
-
--- The lists are at their start, and every pyramid whose words stood there by depths is held by levels.
-pub record HeldStarted (z : Size) (work : List ℕ) (counts : Counts) (work' : List ℕ) : Type 0 where
-  pub same : length work' ≡ length work
-  pub lists : Agree (state_of z work' counts) (tree_start z)
-  pub holds : (v : List ℤ) → HoldsWords z v work → Holds z v work'
-  pub marks : Marks Codes z work' counts
-
--- The parts of a pyramid, and its record, whatever pyramid it is whose words the workspace holds.
-pub record PartsStored (z : Size) (planes : ℕ) (work out : List ℕ) (place end : ℕ) (out' : List ℕ) : Type 0 where
-  pub stored : (v : List ℤ) → HoldsWords z v work → Stored out place (bytes_of_parts v z (part_names (levels z) planes) (tree_start z)) end out'
-
-pub record RecordStored (z : Size) (planes : ℕ) (work out : List ℕ) (end : ℕ) (out' : List ℕ) : Type 0 where
-  pub stored : (v : List ℤ) → HoldsWords z v work → Stored (zeros (length out)) 0 (record_with z planes v) end out'
-
-pub record RecordAnswered (z : Size) (planes : ℕ) (work out : List ℕ) (answer : Coded) (out' : List ℕ) : Type 0 where
-  pub told : (v : List ℤ) → HoldsWords z v work → Answered (fitted (record_with z planes v) (length out)) out answer out'

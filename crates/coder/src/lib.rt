@@ -1,14 +1,15 @@
 // The coder: from a lent pyramid to its record, written from the front of the output on. What would fall past the end of the output is left
 // out while the length goes on counting; at the end the length decides.
 ghost use Rattle.std.specs.Prelude.{◌≡◌, [], ◌∷◌, ◌*◌, ◌≤◌, ◌<◌, length, nat_abs};
-ghost use Rattle.rules.specs.Document.Notation.{greatest};
+ghost use Rattle.rules.specs.Document.Notation.{greatest, zeros};
 ghost use Rattle.rules.specs.Document.Pyramid.{levels, most_planes, planes_of};
 ghost use Rattle.rules.specs.Document.Passes.{parts_of_plane, part_names};
 ghost use Rattle.rules.specs.Document.Layout.{record_of};
 ghost use Rattle.rules.specs.Document.Calls.{level_places, refused, fitted, coding, Coding};
+ghost use Rattle.trees.specs.Run.{tree_start};
 ghost use Rattle.parts.specs.Standing.{named};
-ghost use Rattle.coder.specs.Writing.{Answered, judged_input, Given, Kept, Holding, header_most};
-ghost use Rattle.coder.specs.Writing.{stage_of, Clear, Going, Due, Reached, HeldStarted, PartsStored, RecordStored, RecordAnswered};
+ghost use Rattle.coder.specs.Writing.{Answered, judged_input, Given, Holding, header_most};
+ghost use Rattle.coder.specs.Writing.{stage_of, Clear, Going, Due, Reached, bytes_of_parts, Stored};
 
 use bits::BitPosition;
 use lists::Role;
@@ -26,7 +27,7 @@ struct Progress {
 }
 
 // Refused: output all 0.
-pub fn refuse(refusal: Refusal, out: &mut [u8]) -> Coded
+fn refuse(refusal: Refusal, out: &mut [u8]) -> Coded
     ensures { Answered (refused refusal) out.old result out.new }
 {
     memory::zero_u8(out);
@@ -110,7 +111,7 @@ fn write_plane(
         result work.new out.new }
 {
     let mut reached = progress;
-    let mut left = shape::levels(z);
+    let mut left = z.n + 1;
     while 0 < left {
         reached = write_part(z, plane, Level(left), out, work, reached);
         left -= 1;
@@ -140,43 +141,42 @@ fn write_planes(
     reached
 }
 
-// A pyramid that the workspace holds by depths: its maxima filled, both brought to the cut by levels, and the lists at their start.
-pub fn start_held(z: Size, work: &mut [u32]) -> Counts
-    requires { Kept z work.old }
-    ensures { HeldStarted z work.old result work.new }
+// All parts of an input that is in order, from a place on from which the output is 0. Answers the place after them.
+fn write_parts(
+    pyramid: &[i32],
+    z: Size,
+    planes: usize,
+    out: &mut [u8],
+    work: &mut [u32],
+    place: usize,
+) -> usize
+    requires { Given pyramid.now z work.old × (planes ≤ most_planes) × Clear out.old place × (place ≤ header_most) }
+    ensures { Stored out.old place (bytes_of_parts pyramid.now z (part_names (levels z) planes) (tree_start z)) result out.new }
 {
+    placing::copy_in(pyramid, z, work);
     largest::fill(z, work);
-    merging::merge(z, work);
-    parts::start(Role::Codes, z, work)
-}
-
-// All parts of such a pyramid, from a place on from which the output is 0. Answers the place after them.
-fn write_parts(z: Size, planes: usize, out: &mut [u8], work: &mut [u32], place: usize) -> usize
-    requires { Kept z work.old × (planes ≤ most_planes) × Clear out.old place × (place ≤ header_most) }
-    ensures { PartsStored z planes work.old out.old place result out.new }
-{
-    let counts = start_held(z, work);
+    let counts = parts::start(Role::Codes, z, work);
     let end = write_planes(z, planes, out, work, Progress { counts, place });
     end.place
 }
 
-// The whole record of a pyramid that the workspace holds by depths, with as many planes as are asked for, as much of it as there is room for. Answers
-// its length.
-pub fn write_held(z: Size, planes: usize, out: &mut [u8], work: &mut [u32]) -> usize
-    requires { Kept z work.old × (planes ≤ most_planes) }
-    ensures { RecordStored z planes work.old out.old result out.new }
+// The whole record of an input that is in order, as much of it as there is room for. Answers its length.
+fn write_record(pyramid: &[i32], z: Size, out: &mut [u8], work: &mut [u32]) -> usize
+    requires { Given pyramid.now z work.old }
+    ensures { Stored (zeros (length out.old)) 0 (record_of z pyramid.now) result out.new }
 {
     memory::zero_u8(out);
+    let planes = planes_in(pyramid);
     let place = write::header(z, planes, out);
-    write_parts(z, planes, out, work, place)
+    write_parts(pyramid, z, planes, out, work, place)
 }
 
-// The same, answered: only room can be wanting.
-pub fn code_held(z: Size, planes: usize, out: &mut [u8], work: &mut [u32]) -> Coded
-    requires { Kept z work.old × (planes ≤ most_planes) }
-    ensures { RecordAnswered z planes work.old out.old result out.new }
+// Coding an input that is in order: only room can be wanting.
+fn code_fitted(pyramid: &[i32], z: Size, out: &mut [u8], work: &mut [u32]) -> Coded
+    requires { Given pyramid.now z work.old }
+    ensures { Answered (fitted (record_of z pyramid.now) (length out.old)) out.old result out.new }
 {
-    let length = write_held(z, planes, out, work);
+    let length = write_record(pyramid, z, out, work);
     if out.len() < length {
         return refuse(Refusal::Room, out);
     }
@@ -184,16 +184,6 @@ pub fn code_held(z: Size, planes: usize, out: &mut [u8], work: &mut [u32]) -> Co
         verdict: Verdict::Accepted,
         length,
     }
-}
-
-// Coding an input that is in order.
-fn code_fitted(pyramid: &[i32], z: Size, out: &mut [u8], work: &mut [u32]) -> Coded
-    requires { Given pyramid.now z work.old }
-    ensures { Answered (fitted (record_of z pyramid.now) (length out.old)) out.old result out.new }
-{
-    let planes = planes_in(pyramid);
-    placing::copy_in(pyramid, z, work);
-    code_held(z, planes, out, work)
 }
 
 // The outcome, with the workspace as the passes leave it.

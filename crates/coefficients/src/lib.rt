@@ -1,7 +1,7 @@
 // Leaves over document 01's pyramid, what its coefficients are: sign and magnitude, as a value and as a word; the largest of them, the count of planes.
-ghost use Rattle.std.specs.Prelude.{◌≡◌, cond, ◌+◌, ◌*◌, ◌^◌, ◌≤◌, ◌<◌, max, get_or, pos, nat_abs};
+ghost use Rattle.std.specs.Prelude.{◌≡◌, cond, ◌+◌, ◌*◌, ◌^◌, ◌<◌, max, get_or, pos, nat_abs};
 ghost use Rattle.rules.specs.Document.Notation.{greatest};
-ghost use Rattle.rules.specs.Document.Pyramid.{magnitude, below0, most_magnitude, earlier_planes_of, planes_of};
+ghost use Rattle.rules.specs.Document.Pyramid.{magnitude, below0, planes_of};
 ghost use Rattle.rules.specs.Document.Passes.{signed};
 ghost use Rattle.rules.specs.Document.Calls.{first_over};
 ghost use Rattle.coefficients.specs.Words.{word_of, worded, value_of};
@@ -94,8 +94,8 @@ pub fn refined_word(w: u32, bit: bool, plane: Plane) -> u32
     w + ((bit as u32) << n)
 }
 
-// The first index whose magnitude is over a limit; the pyramid's length if there is none. One after the other.
-fn search_over(pyramid: &[i32], most: u32) -> usize
+// The first index whose magnitude is over a limit; the pyramid's length if there is none.
+pub fn first_over(pyramid: &[i32], most: u32) -> usize
     ensures { result ≡ first_over most pyramid.now }
 {
     let mut q = 0;
@@ -106,16 +106,6 @@ fn search_over(pyramid: &[i32], most: u32) -> usize
         q += 1;
     }
     q
-}
-
-// The same: nearly always there is none, and that is seen without a branch for each.
-pub fn first_over(pyramid: &[i32], most: u32) -> usize
-    ensures { result ≡ first_over most pyramid.now }
-{
-    if largest_magnitude(pyramid) <= most {
-        return pyramid.len();
-    }
-    search_over(pyramid, most)
 }
 
 pub fn larger(a: u32, b: u32) -> u32
@@ -141,15 +131,4 @@ pub fn planes_of(m: u32) -> usize
     ensures { result ≡ planes_of m }
 {
     (32 - u32::leading_zeros(m)) as usize
-}
-
-// How many it had by the count that was used before document 02's W5, which rounds up.
-pub fn earlier_planes_of(m: u32) -> usize
-    requires { m ≤ most_magnitude }
-    ensures { result ≡ earlier_planes_of m }
-{
-    if m == 0 {
-        return 0;
-    }
-    planes_of(m - 1) + 1
 }

@@ -21,7 +21,7 @@ use Rattle.rules.specs.Document.Numbers.{read_header, read_parts}
 use Rattle.rules.specs.Document.Calls.{Result, refused, accepted, unless, work_for, on_header, Picture, decoded_parts, decoding, decode_out, decode_answer, Decoding}
 use Rattle.rules.specs.Laws.Family.Sizes.{area_bound}
 use Rattle.rules.specs.Laws.Reading.Stands.{HeaderStands, read_header_stands, header_legal}
-use Rattle.decoder.specs.Walking.{Answered, Refusing, Accepting, Opened}
+use Rattle.decoder.specs.Walking.{Answered, Refusing, Accepting, Lent}
 
 -- A result is answered as what it is; the memory may have changed since the call, and kept its length.
 module _ (x : Result Picture) (out between : List ℤ) (work since : List ℕ) (a : length between ≡ length out) (b : length since ≡ length work) where
@@ -60,8 +60,8 @@ module _ (s : List ℕ) (y : HeaderRead) (e : y ≡ read_header s) (h : Header) 
   pub size_legal : legal_size h.size ≡ true
   size_legal = header_legal whole_header
 
-  pub header_opened : (work : List ℕ) → work_for h.size ≤ length work → Opened h s work
-  header_opened work l = record { read = sym e ∙ f; room = l }
+  pub header_lent : (out : List ℤ) (work : List ℕ) → length out ≡ area h.size → work_for h.size ≤ length work → Lent h s out work
+  header_lent out work a l = record { read = sym e ∙ f; whole = a; room = l }
 
 -- What decoding comes to, by what was read of the header: y is what was found.
 module _ (s : List ℕ) (room work : ℕ) (y : HeaderRead) (e : y ≡ read_header s) where

@@ -12,23 +12,20 @@ use Rattle.rules.specs.declared.Header.{Header}
 use Rattle.rules.specs.declared.Part.{Part}
 use Rattle.rules.specs.declared.PartRead.{PartRead}
 use Rattle.rules.specs.declared.PartRead.TheVariants as part
-use Rattle.rules.specs.Document.Pyramid.{area, depths, levels}
+use Rattle.rules.specs.Document.Pyramid.{area}
 use Rattle.rules.specs.Document.Passes.{State, start, from}
 use Rattle.rules.specs.Document.Calls.{Progress, going, unfit, decode_parts, tail_onward}
 use Rattle.rules.specs.Promises.Vocabulary.{Legal}
-use Rattle.rules.specs.Laws.Family.Sizes.{legal}
 use Rattle.rules.specs.Laws.Counting.Sums.{All, all_then, from_length, from_all}
 use Rattle.trees.specs.Family.{trees, coefficient_of, coefficient_out}
 use Rattle.trees.specs.Run.{number_of, coefficient_number, number_area}
 use Rattle.trees.specs.Decoding.{Laid, Same, onward_of, decode_parts_of, tail_onward_of, laid_out, decoded_trees}
 use Rattle.coefficients.specs.Words.{value_of, value_zero}
-use Rattle.stretches.specs.Workspace.{word_in, drawn_in, drawn_of, drawn_length, drawn_at}
-use Rattle.merging.specs.Moving.{WordsMerged, WordsSplit}
-use Rattle.placing.specs.Placing.{Roomy, Cleared, LaidOut}
-use Rattle.decoder.specs.Walking.{names, begin, walked, tail_walked, Blank, LaidIn}
+use Rattle.stretches.specs.Workspace.{word_in, drawn_in, drawn_length}
+use Rattle.decoder.specs.Walking.{names, begin, walked, tail_walked}
 
 -- The values drawn stand row by row.
-abbrev LaysOut : Size → List ℕ → List ℤ → Type 0
+abbrev pub LaysOut : Size → List ℕ → List ℤ → Type 0
 LaysOut z work out = (q : ℕ) → q < area z → get_or out q (pos 0) ≡ get_or (drawn_in z work) (number_of z q) (pos 0)
 
 -- What is drawn: a value for each coefficient, all 0 at first.
@@ -39,27 +36,11 @@ blanks f (x ∷ xs) a = ap₂ ◌∷◌ a.0 (blanks f xs a.1)
 
 module _ (z : Size) (work : List ℕ) where
   pub drawn_blank : ((x : ℕ) → x < area z → word_in z work x ≡ 0) → drawn_in z work ≡ replicate (area z) (pos 0)
-  unfolding drawn_of
+  unfolding drawn_in
   drawn_blank e =
       blanks (λ x. value_of (word_in z work x)) (from 0 (area z))
       (all_then _ _ (from 0 (area z)) (λ x i. ap value_of (e x (omega arith)) ∙ value_zero) (from_all 0 (area z)))
       ∙ ap (λ (n : ℕ). replicate n (pos 0)) (from_length 0 (area z))
-
--- blank and lay_out: the cut by levels before and behind that by depths.
-module _ {z : Size} {work work₁ : List ℕ} (R : Roomy z work) where
-  pub blanked : {work₂ : List ℕ} → Cleared z work work₁ → WordsMerged z work₁ work₂ → Blank z work work₂
-  blanked C M = record { same = M.same ∙ C.same; words = λ x h. M.words x h ∙ C.words x h }
-
-  pub laid_in : {out out' : List ℤ} {work₂ : List ℕ} → WordsSplit z work work₁ → LaidOut z work₁ out work₂ out' → LaidIn z work out work₂ out'
-  laid_in {out} {out'} {work₂} S L =
-      record {
-        same = L.same ∙ S.same;
-        whole = L.whole;
-        values = λ q h.
-            let x : ℕ = number_of z q in
-            let i : x < area z = number_area z (legal z R.legal) q h in
-            L.values q h ∙ drawn_at z (depths z) work₁ x i ∙ ap value_of (S.words x i) ∙ sym (drawn_at z (levels z) work x i);
-      }
 
 -- A pyramid is laid out in one way only.
 module _ (z : Size) (Z : Legal z) (work : List ℕ) (v : List ℤ) (l : Laid (coefficient_of z) v (drawn_in z work)) where
@@ -67,7 +48,7 @@ module _ (z : Size) (Z : Legal z) (work : List ℕ) (v : List ℤ) (l : Laid (co
   laid_length = by (dec_lt (length v) (area z)) (dec_lt (area z) (length v))
     where
       n : length (drawn_in z work) ≡ area z
-      n = drawn_length z (levels z) work
+      n = drawn_length z work
 
       by : Dec (length v < area z) → Dec (area z < length v) → length v ≡ area z
       by (yes h) d =
@@ -75,7 +56,7 @@ module _ (z : Size) (Z : Legal z) (work : List ℕ) (v : List ℤ) (l : Laid (co
       by (no h) (yes d) = absurd (omega (arith, n, (l.inside (area z)).1 (omega (arith, coefficient_out z Z (area z) (omega arith)))))
       by (no h) (no d) = omega arith
 
-  pub laid_same : (out : List ℤ) → length out ≡ area z → LaysOut z work out → v ≡ out
+  laid_same : (out : List ℤ) → length out ≡ area z → LaysOut z work out → v ≡ out
   laid_same out m e =
       ext_get_or (pos 0) v out (laid_length ∙ sym m)
       (λ q h. let i : q < area z = omega (arith, laid_length) in laid_out z Z v (drawn_in z work) l q i ∙ sym (e q i))
@@ -128,3 +109,7 @@ module _ (h : Header) (s : List ℕ) where
         cases : (g : Progress) → defined ≡ g → Same (coefficient_of h.size) g (going st (drawn_in h.size work)) → Defined work
         cases (going su v) i m = record { lists = su; pyramid = v; goes = i; laid = m.1 }
         cases (unfit b) i m = absurd m
+
+    pub defined_out : (work : List ℕ) (d : Defined work) (out : List ℤ) → length out ≡ area h.size → LaysOut h.size work out
+        → defined ≡ going d.lists out
+    defined_out work d out m e = d.goes ∙ ap (going d.lists) (laid_same h.size Z work d.pyramid d.laid out m e)

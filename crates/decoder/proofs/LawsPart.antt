@@ -1,11 +1,9 @@
 -- One part: what decoding it or walking over it makes of the walk, and that this is what the definition makes of the same lists.
-use mathlib.Core.Path.{◌≡◌, refl, ap, ap₂, sym, ◌∙◌, subst, fun_ext}
+use mathlib.Core.Path.{◌≡◌, refl, ap, sym, ◌∙◌, subst}
 use mathlib.Core.List.{List}
 use mathlib.Core.Bool.{Bool, true, false}
 use Prim.Native.Nat.{ℕ, ◌+◌, ◌-◌, ◌≤◌, ◌<◌}
 use native.Mathlib.Omega.{arith}
-use native.Mathlib.Nat.{zero-add}
-use lib.IntN.{ℤ}
 use lib.ListN.{length, set, drop, length-take, length-drop, get_or-eq_default}
 use borrow.Author.Tests.{le-leb, lt-leb, eq-eqb, ne_eqb}
 use Rattle.rules.specs.declared.Size.{Size}
@@ -16,7 +14,6 @@ use Rattle.rules.specs.declared.Header.{Header}
 use Rattle.rules.specs.declared.Part.{Part}
 use Rattle.rules.specs.declared.PartRead.{PartRead}
 use Rattle.rules.specs.declared.PartRead.TheVariants as part
-use Rattle.bits.specs.declared.BitPosition.{BitPosition}
 use Rattle.parts.specs.declared.Counts.{Counts}
 use Rattle.parts.specs.declared.Passed.{Passed}
 use Rattle.decoder.specs.declared.Walk.{Walk}
@@ -24,55 +21,31 @@ use Rattle.decoder.specs.declared.Found.{Found}
 use Rattle.decoder.specs.declared.Found.TheVariants as found
 use Rattle.decoder.specs.declared.Turn.{Turn}
 use Rattle.rules.specs.Document.Pyramid.{legal_size, levels}
-use Rattle.rules.specs.Document.Passes.{PartName, State, Course, Reader, after, decoded}
-use Rattle.rules.specs.Document.Layout.{bytes_for, bit_at, body_of, bits_there, name_of}
+use Rattle.rules.specs.Document.Passes.{PartName, Course, Reader}
+use Rattle.rules.specs.Document.Layout.{bytes_for, body_of, bits_there, name_of}
 use Rattle.rules.specs.Promises.Vocabulary.{LegalHead, bits_from}
 use Rattle.rules.specs.Laws.Reading.Stands.{PartStands}
 use Rattle.rules.specs.Laws.Reading.CutPart.{CutStands, whole_there_lem, cut_there}
 use Rattle.rules.specs.Laws.Bytes.BodyBack.{first_length, body_bit, bit_past}
 use Rattle.rules.specs.Laws.Reading.OneWalk.{usable_now}
-use Rattle.trees.specs.Family.{trees}
 use Rattle.record.specs.Named.{named}
 use Rattle.record.specs.Walk.{next_of, next_stands, next_cut}
 use Rattle.stretches.specs.Workspace.{drawn_in, Words}
-use Rattle.rules.specs.Laws.Family.Sizes.{area_bound}
-use Rattle.parts.specs.Standing.{state_of, ReadyToDecode, Quiet, Between, course_d, PartDecoded}
+use Rattle.parts.specs.Standing.{state_of, ReadyToDecode, Quiet, PartDecoded}
 use Rattle.rules.specs.Document.Calls.{level_places}
 use Rattle.reached.specs.Planes.{reached_at, size_levels}
-use Rattle.decoder.specs.Walking.{fitting, gone, one_part_more, cut_gone, course_on, used_on, met_on, cut_on, met_part, drawn_cut, met_cut, Past, Drawing}
-use Rattle.decoder.specs.Walking.{PartDrawn, Taking, growth, Taken, Ended, Standing, Turned}
+use Rattle.decoder.specs.Walking.{fitting, gone, one_part_more, cut_gone, course_on, used_on, met_on, cut_on, met_part, drawn_cut, met_cut, Past, Drawing, Drawn}
+use Rattle.decoder.specs.Walking.{Taking, growth, Taken, Ended, Standing, Turned}
 
--- a part, decoded from the front of its body as far as its bits are there
-abbrev front : BitPosition
-front = record { at = 0 }
-
-course_front : (body : List ℕ) (there : ℕ) (z : Size) (p : PartName) (st : State) (v : List ℤ)
-    → decoded (trees z) p (λ i. bit_at body (0 + i)) (there - 0) st v ≡ decoded (trees z) p (bit_at body) there st v
-course_front body there z p st v = ap₂ (λ (bit : ℕ → Bool) (u : ℕ). decoded (trees z) p bit u st v) (fun_ext (λ i. ap (bit_at body) (zero-add i))) (omega arith)
-
+-- a part, decoded as far as its bits are there
 pub drawn_body : (s : List ℕ) (z : Size) (p : Part) (counts : Counts) (work : List ℕ) {body : List ℕ} {there : ℕ} {r : Passed} {work' : List ℕ}
-    → body ≡ body_of s p → there ≡ bits_there s p → PartDecoded body front (record { at = there }) z p.plane p.level work counts r work'
-    → PartDrawn s z p counts work r work'
-unfolding name_of
-drawn_body s z p counts work {body} {there} {r} b t d =
-    let same : course_d body front (record { at = there }) z p.plane p.level work counts ≡ course_on s z p (state_of z work counts) (drawn_in z work) =
-    ap (λ (x : List ℕ). course_d x front (record { at = there }) z p.plane p.level work counts) b
-    ∙ ap (λ (x : ℕ). course_d (body_of s p) front (record { at = x }) z p.plane p.level work counts) t
-    ∙ course_front (body_of s p) (bits_there s p) z (name_of p) _ _ in
-    record {
-      lists =
-          record { lists = λ k. d.lists.lists k ∙ ap (λ (x : Course Reader). after p.level.0 x (state_of z work counts) k) same };
-      same = d.same;
-      taken = omega (arith, d.taken, ap (λ (x : Course Reader). x.side.taken) same);
-      draws = d.draws ∙ ap (λ (x : Course Reader). x.side.pyramid) same;
-      grows = d.grows;
-    }
+    → body ≡ body_of s p → there ≡ bits_there s p → PartDecoded body (record { at = there }) z p.plane p.level work counts r work'
+    → Drawn s z p counts work r work'
+drawn_body s z p counts work b t d = rw (sym b, sym t) d
 
 pub drawing_ready : (s : List ℕ) (z : Size) (p : Part) (counts : Counts) (work : List ℕ) {body : List ℕ} {there : ℕ} → Drawing s z p counts work
     → body ≡ body_of s p → there ≡ bits_there s p → ReadyToDecode z p.plane p.level work counts × Quiet body (record { at = there })
-    × Between z front (record { at = there })
-drawing_ready s z p counts work D b t =
-    (D.decoding, rw (b, t) D.quiet, record { place = omega (arith, area_bound z D.decoding.ready.legal); before = omega arith })
+drawing_ready s z p counts work D b t = (D.decoding, rw (b, t) D.quiet)
 
 -- Bits that aren't there are 0: padding of a whole part, all behind the end of one that is cut.
 whole_quiet : (h : Header) (s : List ℕ) (before : PartName) (place : ℕ) (p : Part) → PartStands h s before place p
@@ -97,7 +70,7 @@ cut_quiet h s before place p t =
     }
 
 -- one that is cut
-module _ (s : List ℕ) (z : Size) (p : Part) (w : Walk) (work : List ℕ) (r : Passed) (work' : List ℕ) (d : PartDrawn s z p w.counts work r work')
+module _ (s : List ℕ) (z : Size) (p : Part) (w : Walk) (work : List ℕ) (r : Passed) (work' : List ℕ) (d : Drawn s z p w.counts work r work')
     (there : ℕ) (t : there ≡ bits_there s p) where
   abbrev cut_course_lem : Course Reader
   cut_course_lem = course_on s z p (state_of z work w.counts) (drawn_in z work)
@@ -112,28 +85,16 @@ module _ (s : List ℕ) (z : Size) (p : Part) (w : Walk) (work : List ℕ) (r : 
   pub cut_fits : there ≤ r.at.at → Cuts found.Tail
   unfolding cut_gone name_of
   cut_fits l =
-      record {
-        finds = rw (le-leb (bits_there s p) cut_course_lem.side.taken (omega (arith, cut_asked)));
-        stays = refl;
-        draws = d.draws;
-        same = d.same;
-        grows = d.grows;
-      }
+      record { finds = rw (le-leb (bits_there s p) cut_course_lem.side.taken (omega (arith, cut_asked))); stays = refl; draws = d.draws; same = d.same }
 
   pub cut_unfit : r.at.at < there → Cuts (found.Refused (refusal.Fit p.place))
   unfolding cut_gone name_of
   cut_unfit l =
-      record {
-        finds = rw (lt-leb (bits_there s p) cut_course_lem.side.taken (omega (arith, cut_asked)));
-        stays = refl;
-        draws = d.draws;
-        same = d.same;
-        grows = d.grows;
-      }
+      record { finds = rw (lt-leb (bits_there s p) cut_course_lem.side.taken (omega (arith, cut_asked))); stays = refl; draws = d.draws; same = d.same }
 
 -- a usable part, decoded
 module _ (s : List ℕ) (z : Size) (p : Part) (old : List Plane) (skipped : List ℕ) (counts : Counts) (work : List ℕ)
-    (r : Passed) (work' : List ℕ) (d : PartDrawn s z p counts work r work')
+    (r : Passed) (work' : List ℕ) (d : Drawn s z p counts work r work')
     (reached : List Plane) (q : reached ≡ set old (p.level.0 - 1) p.plane) (next : Walk) (past : Past p reached skipped r.counts next) where
   course : Course Reader
   course = course_on s z p (state_of z work counts) (drawn_in z work)
@@ -203,9 +164,7 @@ module _ (s : List ℕ) (z : Size) (p : Part) (w : Walk) (work : List ℕ) (b : 
 
   pub cut_left : b ≡ false → Ended z (met_cut s z p w work) w work (record { found = found.Tail; walk = w }) work
   unfolding cut_on
-  cut_left t =
-      rw (sym e ∙ t)
-      (record { finds = refl; stays = refl; draws = refl; same = refl; grows = λ n h. words_more z n (n + growth) work (omega arith) h })
+  cut_left t = rw (sym e ∙ t) (record { finds = refl; stays = refl; draws = refl; same = refl })
 
 -- what was read: y is what was found of the record
 module _ (h : Header) (s : List ℕ) (w : Walk) (work : List ℕ) (y : PartRead) (e : y ≡ next_of h s w.cursor) where
@@ -230,7 +189,7 @@ module _ (h : Header) (s : List ℕ) (w : Walk) (work : List ℕ) (y : PartRead)
           within = within;
           quiet = quiet;
         };
-        places = t.places;
+        six = t.six;
         few = t.few (p.level.0 - 1);
       }
 

@@ -5,7 +5,7 @@ use mathlib.Core.Bool.{Bool, true, false, cond}
 use Prim.Native.Nat.{ℕ, ◌-◌, ◌≤◌, ◌<◌, ◌^◌}
 use native.Mathlib.Omega.{arith}
 use native.Mathlib.Decide.{dec_le}
-use lib.ListN.{length, set, length-append, length-map}
+use lib.ListN.{length, set, replicate, length-replicate, length-append, length-map}
 use lib.IntN.{ℤ}
 use Rattle.rules.specs.declared.Plane.{Plane}
 use Rattle.rules.specs.declared.Refusal.{Refusal}
@@ -15,11 +15,9 @@ use Rattle.rules.specs.declared.Part.{Part}
 use Rattle.rules.specs.declared.PartRead.{PartRead}
 use Rattle.rules.specs.declared.PartRead.TheVariants as part
 use Rattle.rules.specs.declared.Decoded.{Decoded}
-use Rattle.rules.specs.declared.Verdict.TheVariants as verdict
 use Rattle.decoder.specs.declared.Walk.{Walk}
 use Rattle.decoder.specs.declared.Found.TheVariants as found
 use Rattle.decoder.specs.declared.Turn.{Turn}
-use Rattle.decoder.specs.declared.Drawn.{Drawn}
 use Rattle.rules.specs.Document.Pyramid.{area}
 use Rattle.rules.specs.Document.Passes.{PartName, State}
 use Rattle.rules.specs.Document.Layout.{name_of, usable, reached}
@@ -39,40 +37,36 @@ use Rattle.record.specs.declared.walk.Cursor.{Cursor}
 use Rattle.record.specs.Named.{named}
 use Rattle.record.specs.Walk.{next_of, past_of, left, Stands, stands_first, next_stands, next_falls, stands_past, next_cut, stands_behind}
 use Rattle.record.specs.Walk.{stands_tail, stands_cut, stands_fault}
-use Rattle.trees.specs.Family.{trees, coefficient_of}
+use Rattle.trees.specs.Family.{trees}
 use Rattle.trees.specs.Run.{tree_start}
-use Rattle.trees.specs.Decoding.{Laid, onward_of, decode_parts_of, tail_onward_of}
+use Rattle.trees.specs.Decoding.{onward_of, decode_parts_of, tail_onward_of}
 use Rattle.trees.specs.Sound.{TreeSound, TreeProgress, tree_start_sound, tree_onward_sound}
-use Rattle.stretches.specs.Workspace.{word_in, drawn_in, Words}
-use Rattle.placing.specs.Placing.{Roomy}
+use Rattle.stretches.specs.Workspace.{word_in, drawn_in}
+use Rattle.placing.specs.Placing.{Roomy, LaidOut, Cleared}
 use Rattle.parts.specs.Standing.{state_of, agree_same}
-use Rattle.decoder.specs.Walking.{Outcome, gone, one_part_more, used_on, met_on, cut_on, met_part, met_cut, Taken, Ended, Standing, Still, Turned, Begun, Blank}
-use Rattle.decoder.specs.Walking.{LaidIn}
-use Rattle.decoder.specs.Walking.{Opened, Walking, RecordDrawn, Answered, Refusing, Accepting}
+use Rattle.decoder.specs.Walking.{Outcome, gone, one_part_more, used_on, met_on, cut_on, met_part, met_cut, Taken, Ended, Standing, Still, Turned, Begun}
+use Rattle.decoder.specs.Walking.{Lent, Walking, Answered, Refusing, Accepting}
 use Rattle.decoder.specs.Walking.{order, names, begin, walked, tail_walked}
 use Rattle.reached.specs.Skips.{skipped_by, skipped_by_none, skipped_by_all, skipped_by_most, skipped_by_used, skipped_by_over}
-use Rattle.reached.specs.Planes.{reached_at, usable_now_same, size_levels, reached_planes_places, reached_at_planes, reached_planes_used, reached_planes_over}
+use Rattle.reached.specs.Planes.{reached_at, usable_now_same, size_levels, six_planes, reached_at_planes, reached_planes_used, reached_planes_over}
 use Rattle.decoder.proofs.LawsPart.{words_more}
 use Rattle.decoder.proofs.LawsAnswer.{answered_refused, answered_accepted}
-use Rattle.decoder.proofs.LawsLaid.{drawn_blank, laid_same, walked_append, walked_unfit, tail_unfit, Defined, defined_unfit, defined_going}
+use Rattle.decoder.proofs.LawsLaid.{LaysOut, drawn_blank, walked_append, walked_unfit, tail_unfit, Defined, defined_unfit, defined_going, defined_out}
 use Rattle.decoder.proofs.LawsOutcome.{taken_alike, met_part_lem, met_refused, met_no_tail, ended_alike, Goes, cut_tail, cut_refused, cut_no_part}
 
 -- what is accepted where no part is left
-pub record Ends (h : Header) (s : List ℕ) (w : Walk) (work : List ℕ) : Type 0 where
-  pub pyramid : List ℤ
-  pub accepts : decoded_parts h s (read_parts h s)
-      ≡ accepted (record { pyramid = pyramid; tail = length s - w.cursor.place; reached = w.reached; skipped = w.skipped })
-  pub laid : Laid (coefficient_of h.size) pyramid (drawn_in h.size work)
+abbrev at_end : List ℕ → List ℤ → Walk → Result Picture
+at_end s out w = accepted (record { pyramid = out; tail = length s - w.cursor.place; reached = w.reached; skipped = w.skipped })
 
 -- What a header that was read says of the memory lent.
-module _ (h : Header) (s : List ℕ) (work : List ℕ) (l : Opened h s work) where
+module _ (h : Header) (s : List ℕ) (out : List ℤ) (work : List ℕ) (l : Lent h s out work) where
   lent_header : HeaderStands s h
   lent_header = read_header_stands s h l.read
 
   pub lent_roomy : (work' : List ℕ) → length work' ≡ length work → Roomy h.size work'
   lent_roomy work' e = record { legal = header_legal lent_header; room = omega (arith, l.room) }
 
-  module _ (blank : List ℕ) (c : Blank h.size work blank) where
+  module _ (blank : List ℕ) (c : Cleared h.size work blank) where
     module _ (w : Walk) (opened : List ℕ) (b : Begun h blank w opened) where
       pub walking_first : Walking h s w opened
       unfolding decode_parts_of
@@ -98,9 +92,11 @@ module _ (h : Header) (s : List ℕ) (work : List ℕ) (l : Opened h s work) whe
                 };
           }
 
-      -- What is drawn from there on is drawn of the workspace as it was lent.
-      pub begun_drawn : (r : Drawn) (work' : List ℕ) → RecordDrawn h s opened r work' → RecordDrawn h s work r work'
-      begun_drawn r work' t = record { same = t.same ∙ b.same ∙ c.same; refuses = t.refuses; draws = t.draws }
+      -- What is answered for the workspace as the walk begins is answered for it as it was lent.
+      pub begun_answered : (x : Result Picture) (answer : Decoded) (out' : List ℤ) (work' : List ℕ)
+          → Answered x out opened answer out' work' → Answered x out work answer out' work'
+      begun_answered x answer out' work' t =
+          record { answers = t.answers; writes = t.writes; clears = t.clears ∙ ap zeros (b.same ∙ c.same) }
 
 module _ (h : Header) (s : List ℕ) (w : Walk) (work : List ℕ) (W : Walking h s w work) where
   whole_header : HeaderStands s h
@@ -109,6 +105,9 @@ module _ (h : Header) (s : List ℕ) (w : Walk) (work : List ℕ) (W : Walking h
   sized : Legal h.size
   sized = legal h.size (header_legal whole_header)
 
+  pub walking_roomy : (work' : List ℕ) → length work' ≡ length work → Roomy h.size work'
+  walking_roomy work' e = record { legal = header_legal whole_header; room = omega (arith, W.room) }
+
   -- A turn can be made.
   pub walking_standing : Standing h s w work
   walking_standing =
@@ -116,7 +115,7 @@ module _ (h : Header) (s : List ℕ) (w : Walk) (work : List ℕ) (W : Walking h
         legal = header_legal whole_header;
         planes = header_planes whole_header;
         room = W.room;
-        places = ap length W.reaches ∙ reached_planes_places h (map name_of W.seen);
+        six = ap length W.reaches ∙ six_planes h (map name_of W.seen);
         few = λ i.
             omega (
               arith,
@@ -138,21 +137,15 @@ module _ (h : Header) (s : List ℕ) (w : Walk) (work : List ℕ) (W : Walking h
 
     walking_ended : (st : State) (work' : List ℕ)
         → tail_walked h s x (going W.lists (drawn_in h.size work)) ≡ going st (drawn_in h.size work')
-        → Ends h s w work'
+        → (out : List ℤ) → length out ≡ area h.size → LaysOut h.size work' out → decoded_parts h s (read_parts h s) ≡ at_end s out w
     unfolding decoded_parts pictured on_ending
-    walking_ended st work' e =
-        let D = ended_defined st work' e in
-        let g = D.goes in
+    walking_ended st work' e out n lays =
+        let g = defined_out h s sized W.seen x work' (ended_defined st work' e) out n lays in
         let k : skipped_counts h (map name_of W.seen) ≡ w.skipped
         = sym (W.skips ∙ ap (λ (y : Reading). skipped_by h (map name_of y.parts) (map name_of W.seen)) all ∙ skipped_by_all h (map name_of W.seen)) in
-        record {
-          pyramid = D.pyramid;
-          accepts =
-              rw (all, behind-seen, rw all at g)
-              (ap₂ (λ (y : List Plane) (z : List ℕ). accepted (record { pyramid = D.pyramid; tail = length s - w.cursor.place; reached = y; skipped = z }))
-              (sym W.reaches) k);
-          laid = D.laid;
-        }
+        rw (all, behind-seen, rw all at g)
+        (ap₂ (λ (y : List Plane) (z : List ℕ). accepted (record { pyramid = out; tail = length s - w.cursor.place; reached = y; skipped = z }))
+        (sym W.reaches) k)
 
     walking_misfit : (at : ℕ) → tail_walked h s x (going W.lists (drawn_in h.size work)) ≡ unfit at
         → decoded_parts h s (read_parts h s) ≡ refused (refusal.Fit at)
@@ -161,11 +154,12 @@ module _ (h : Header) (s : List ℕ) (w : Walk) (work : List ℕ) (W : Walking h
         let g = defined_unfit h s sized W.seen x at (ap (tail_walked h s x) W.decodes ∙ e) in
         rw (all, behind-seen, rw all at g)
 
-  walking_tail : next_of h s w.cursor ≡ part.Tail → Ends h s w work
+  walking_tail : next_of h s w.cursor ≡ part.Tail → (out : List ℤ) → length out ≡ area h.size
+      → LaysOut h.size work out → decoded_parts h s (read_parts h s) ≡ at_end s out w
   unfolding tail_onward_of
-  walking_tail e =
+  walking_tail e out n lays =
       walking_ended part.Tail (stands_behind h s w.cursor part.Tail (sym e) W.seen W.stands)
-      (stands_tail h s w.cursor part.Tail (sym e) W.seen W.stands refl) W.lists work refl
+      (stands_tail h s w.cursor part.Tail (sym e) W.seen W.stands refl) W.lists work refl out n lays
 
   fault_defined : (v : Refusal) → Defined h s sized W.seen (part.Refused v) work
   unfolding tail_onward_of
@@ -220,10 +214,11 @@ module _ (h : Header) (s : List ℕ) (w : Walk) (work : List ℕ) (W : Walking h
       met_cut_lem =
           ended_alike s h.size p w.reached (state_of h.size work w.counts) W.lists (drawn_in h.size work) W.agrees w work r work' T
 
-      walking_cut : r.found ≡ found.Tail → Ends h s w work'
-      walking_cut f =
+      walking_cut : r.found ≡ found.Tail → (out : List ℤ) → length out ≡ area h.size → LaysOut h.size work' out
+          → decoded_parts h s (read_parts h s) ≡ at_end s out w
+      walking_cut f out n lays =
           let g : Goes _ _ = cut_tail h s (names h s) p w.reached W.lists (drawn_in h.size work) cut_test (sym met_cut_lem.finds ∙ f) in
-          walking_ended (part.Cut p) cut_behind cut_all g.lists work' (g.goes ∙ ap (going g.lists) (sym met_cut_lem.draws))
+          walking_ended (part.Cut p) cut_behind cut_all g.lists work' (g.goes ∙ ap (going g.lists) (sym met_cut_lem.draws)) out n lays
 
       walking_cut_unfit : (v : Refusal) → r.found ≡ found.Refused v → decoded_parts h s (read_parts h s) ≡ refused v
       walking_cut_unfit v f =
@@ -323,13 +318,13 @@ module _ (h : Header) (s : List ℕ) (w : Walk) (work : List ℕ) (W : Walking h
     unfolding name_of
     name_falls =
         let a : After (named w.cursor.before) (name_of p) = follows_after (named w.cursor.before) (name_of p) whole.legal.in_order in
-        let places : p.level.0 ≤ level_places = omega (arith, whole.legal.named.up_to, size_levels h.size (header_legal whole_header)) in
-        cases a places (dec_le w.cursor.before.plane.0 p.plane.0)
+        let six : p.level.0 ≤ level_places = omega (arith, whole.legal.named.up_to, size_levels h.size (header_legal whole_header)) in
+        cases a six (dec_le w.cursor.before.plane.0 p.plane.0)
       where
         cases : After (named w.cursor.before) (name_of p) → p.level.0 ≤ level_places → Dec (w.cursor.before.plane.0 ≤ p.plane.0)
             → order (name_of p) < order (named w.cursor.before)
-        cases a places (yes l) = omega (arith, a.downward, a.in_plane l)
-        cases a places (no l) = omega arith
+        cases a six (yes l) = omega (arith, a.downward, a.in_plane l)
+        cases a six (no l) = omega arith
 
     -- The part was taken.
     module _ (r : Turn) (work' : List ℕ) (T : Taken h.size p (met_part s h.size p w work) work r work') where
@@ -404,19 +399,12 @@ module _ (h : Header) (s : List ℕ) (w : Walk) (work : List ℕ) (W : Walking h
     turn_still f =
         turned (λ p e t. absurd (walking_no_tail p e r work' t f)) (λ p e t. t.stays) (λ e t. t.stays) (λ v e t. let i = t.finds in clash (cc))
 
-    turn_tail : r.found ≡ found.Tail → Ends h s r.walk work'
-    turn_tail f =
-        subst (λ (x : Walk). Ends h s x work') (sym (turn_still f))
-        (turned (λ p e t. absurd (walking_no_tail p e r work' t f)) (λ p e t. walking_cut p e r work' t f)
-        (λ e t. subst (Ends h s w) (sym t.lists) (walking_tail e)) (λ v e t. let i = t.finds in clash (cc)))
-
-    -- a turn that ends the walk leaves words as small as they were, or draws one part more
-    turn_words : r.found ≡ found.Tail → Words h.size (2 ^ 29) work'
-    turn_words f =
-        turned (λ p e t. absurd (walking_no_tail p e r work' t f))
-        (λ p e t. words_more h.size _ (2 ^ 29) work' (omega arith) (t.grows _ W.words))
-        (λ e t. subst (Words h.size (2 ^ 29)) (sym t.lists) (words_more h.size _ (2 ^ 29) work (omega arith) W.words))
-        (λ v e t. let i = t.finds in clash (cc))
+    turn_tail : r.found ≡ found.Tail → (out : List ℤ) → length out ≡ area h.size → LaysOut h.size work' out
+        → decoded_parts h s (read_parts h s) ≡ at_end s out r.walk
+    turn_tail f out n lays =
+        turned (λ p e t. absurd (walking_no_tail p e r work' t f)) (λ p e t. walking_cut p e r work' t f out n lays)
+        (λ e t. walking_tail e out n (subst (λ (x : List ℕ). LaysOut h.size x out) t.lists lays)) (λ v e t. let i = t.finds in clash (cc))
+        ∙ ap (at_end s out) (sym (turn_still f))
 
     pub turn_within : r.found ≡ found.Tail → r.walk.cursor.place ≤ length s
     turn_within f = subst (λ (x : Walk). x.cursor.place ≤ length s) (sym (turn_still f)) W.stands.within
@@ -426,43 +414,24 @@ module _ (h : Header) (s : List ℕ) (w : Walk) (work : List ℕ) (W : Walking h
         turned (λ p e t. walking_unfit p e r work' t v f) (λ p e t. walking_cut_unfit p e r work' t v f) (λ e t. let i = t.finds in clash (cc))
         (λ u e t. let i : r.found ≡ found.Refused u = t.finds in let same : u ≡ v = cc in walking_fault u e ∙ ap refused same)
 
--- The walk's last turn, for whoever lent the workspace.
-module _ (h : Header) (s : List ℕ) (work : List ℕ)
-    (w : Walk) (work₁ : List ℕ) (W : Walking h s w work₁) (k : length work₁ ≡ length work)
-    (r : Turn) (work₂ : List ℕ) (T : Turned h s w work₁ (next_of h s w.cursor) r work₂) (n : length work₂ ≡ length work₁) where
-  pub turn_draws : r.found ≡ found.Tail
-      → RecordDrawn h s work (record { verdict = verdict.Accepted; tail = length s - r.walk.cursor.place; walk = r.walk }) work₂
-  turn_draws f =
-      let E = turn_tail h s w work₁ W r work₂ T f in
-      record {
-        same = n ∙ k;
-        refuses = λ v e. clash (cc);
-        draws = λ e. record { pyramid = E.pyramid; accepts = E.accepts; laid = E.laid; words = turn_words h s w work₁ W r work₂ T f };
-      }
-
-  pub turn_refuses : (v : Refusal) → r.found ≡ found.Refused v
-      → RecordDrawn h s work (record { verdict = verdict.Refused v; tail = 0; walk = r.walk }) work₂
-  turn_refuses v f =
-      record {
-        same = n ∙ k;
-        refuses = λ u e. let same : v ≡ u = cc in turn_refused h s w work₁ W r work₂ T v f ∙ ap refused same;
-        draws = λ e. clash (cc);
-      }
-
--- What is drawn is laid out, or refused.
-module _ (h : Header) (s : List ℕ) (out : List ℤ) (work : List ℕ) (O : Opened h s work) (a : length out ≡ area h.size)
-    (d : Drawn) (drawn : List ℕ) (D : RecordDrawn h s work d drawn) (answer : Decoded) (out' : List ℤ) (work' : List ℕ) where
-  pub drawn_accepted : (laid : List ℕ) → d.verdict ≡ verdict.Accepted → LaidIn h.size drawn out laid out'
-      → Accepting d.tail d.walk.reached d.walk.skipped laid answer work' → Answered (decoded_parts h s (read_parts h s)) out work answer out' work'
-  drawn_accepted laid e l t =
-      let A = D.draws e in
-      let Z = legal h.size (header_legal (read_header_stands s h O.read)) in
-      let same : A.pyramid ≡ out' = laid_same h.size Z drawn A.pyramid A.laid out' (l.whole ∙ a) l.values in
-      answered_accepted (decoded_parts h s (read_parts h s)) out out' work laid l.whole (l.same ∙ D.same) _ _ _ answer work'
-      (A.accepts
-      ∙ ap (λ (v : List ℤ). accepted (record { pyramid = v; tail = d.tail; reached = d.walk.reached; skipped = d.walk.skipped })) same) t
-
-  pub drawn_refused : (v : Refusal) → d.verdict ≡ verdict.Refused v → Refusing v out drawn answer out' work'
+-- The walk's last turn, for whoever lent `out` and `work`.
+module _ (h : Header) (s : List ℕ) (out : List ℤ) (work : List ℕ)
+    (w : Walk) (out₁ : List ℤ) (work₁ : List ℕ) (W : Walking h s w work₁) (j : length out₁ ≡ length out) (k : length work₁ ≡ length work)
+    (r : Turn) (work₂ : List ℕ) (T : Turned h s w work₁ (next_of h s w.cursor) r work₂) (n : length work₂ ≡ length work₁)
+    (answer : Decoded) (out' : List ℤ) (work' : List ℕ) where
+  pub turn_accepts : (work₃ : List ℕ) → r.found ≡ found.Tail → length out₁ ≡ area h.size → LaidOut h.size work₂ out₁ work₃ out'
+      → Accepting (length s - r.walk.cursor.place) r.walk.reached r.walk.skipped work₃ answer work'
       → Answered (decoded_parts h s (read_parts h s)) out work answer out' work'
-  drawn_refused v e t =
-      answered_refused (decoded_parts h s (read_parts h s)) out out work drawn refl D.same v answer out' work' (D.refuses v e) t
+  turn_accepts work₃ f a l t =
+      answered_accepted (decoded_parts h s (read_parts h s)) out out' work work₃ (l.whole ∙ j) (l.same ∙ n ∙ k) _ _ _ answer work'
+      (turn_tail h s w work₁ W r work₂ T f out' (l.whole ∙ a) l.values) t
+
+  pub turn_refuses : (v : Refusal) → r.found ≡ found.Refused v → Refusing v out₁ work₂ answer out' work'
+      → Answered (decoded_parts h s (read_parts h s)) out work answer out' work'
+  turn_refuses v f t =
+      answered_refused (decoded_parts h s (read_parts h s)) out out₁ work work₂ j (n ∙ k) v answer out' work'
+      (turn_refused h s w work₁ W r work₂ T v f) t
+
+-- Zeroing keeps a length.
+pub cleared : {X : Type 0} (x : X) (then after : List X) (n : ℕ) → after ≡ replicate (length then) x → length then ≡ n → length after ≡ n
+cleared x then after n e l = ap length e ∙ length-replicate (length then) x ∙ l

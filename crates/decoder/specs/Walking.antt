@@ -1,6 +1,6 @@
 -- The walk over a record's parts: what a part makes of the lists, the values drawn, the planes reached and the counts of skipped parts, and the
 -- contracts of the walk's turns. Lists and values go by tree numbers, until the pyramid is laid out at the end.
-use Rattle.std.specs.Prelude.{◌≡◌, List, [], map, true, cond, ℕ, suc, ◌+◌, ◌-◌, ◌*◌, ◌≤◌, ◌<◌, ◌^◌, leb, eqb, length, get_or, set, replicate, ℤ, pos}
+use Rattle.std.specs.Prelude.{◌≡◌, List, [], map, true, cond, ℕ, suc, ◌+◌, ◌-◌, ◌*◌, ◌≤◌, ◌<◌, ◌^◌, leb, eqb, length, set, replicate, ℤ, pos}
 use Rattle.rules.specs.declared.Size.{Size}
 use Rattle.rules.specs.declared.Plane.{Plane}
 use Rattle.rules.specs.declared.Refusal.{Refusal}
@@ -18,25 +18,24 @@ use Rattle.decoder.specs.declared.Walk.{Walk}
 use Rattle.decoder.specs.declared.Found.{Found}
 use Rattle.decoder.specs.declared.Found.TheVariants as found
 use Rattle.decoder.specs.declared.Turn.{Turn}
-use Rattle.decoder.specs.declared.Drawn.{Drawn}
 use Rattle.rules.specs.Document.Notation.{zeros}
 use Rattle.rules.specs.Document.Pyramid.{legal_size, area, most_planes}
 use Rattle.rules.specs.Document.Passes.{PartName, State, Course, Reader, after, decoded}
 use Rattle.rules.specs.Document.Layout.{bytes_for, bit_at, body_of, bits_there, name_of}
 use Rattle.rules.specs.Document.Numbers.{read_header, read_parts}
-use Rattle.rules.specs.Document.Calls.{work_for, level_places, Result, refused, accepted, Progress, going, Picture, reached_planes, decode_out, decode_answer}
-use Rattle.rules.specs.Document.Calls.{count_in, decoded_parts}
+use Rattle.rules.specs.Document.Calls.{work_for, level_places, Result, Progress, going, Picture, reached_planes, decode_out, decode_answer}
+use Rattle.rules.specs.Document.Calls.{count_in}
 use Rattle.rules.specs.Laws.Reading.OneWalk.{usable_now}
-use Rattle.trees.specs.Family.{trees, coefficient_of}
-use Rattle.trees.specs.Run.{number_of, tree_start}
-use Rattle.trees.specs.Decoding.{Laid, decode_parts_of, tail_onward_of}
+use Rattle.trees.specs.Family.{trees}
+use Rattle.trees.specs.Run.{tree_start}
+use Rattle.trees.specs.Decoding.{decode_parts_of, tail_onward_of}
 use Rattle.trees.specs.Sound.{TreeSound}
 use Rattle.stretches.specs.Workspace.{word_in, drawn_in, Words}
 use Rattle.record.specs.Named.{named}
 use Rattle.record.specs.Walk.{first_of, past_of, Stands}
 use Rattle.reached.specs.Planes.{reached_at}
 use Rattle.reached.specs.Skips.{skipped_by}
-use Rattle.parts.specs.Standing.{state_of, Agree, ReadyToDecode, Quiet}
+use Rattle.parts.specs.Standing.{state_of, Agree, ReadyToDecode, Quiet, PartDecoded}
 
 -- What becomes of a whole part: what is found, and the lists, the values drawn, the planes reached and the counts of skipped parts after it.
 pub record Outcome : Type 0 where
@@ -120,17 +119,13 @@ pub record Drawing (s : List ℕ) (z : Size) (p : Part) (counts : Counts) (work 
   pub within : p.body ≤ length s
   pub quiet : Quiet (body_of s p) (record { at = bits_there s p })
 
-pub record PartDrawn (s : List ℕ) (z : Size) (p : Part) (counts : Counts) (work : List ℕ) (r : Passed) (work' : List ℕ) : Type 0 where
-  pub lists : Agree (state_of z work' r.counts) (after p.level.0 (course_on s z p (state_of z work counts) (drawn_in z work)) (state_of z work counts))
-  pub same : length work' ≡ length work
-  pub taken : r.at.at ≡ (course_on s z p (state_of z work counts) (drawn_in z work)).side.taken
-  pub draws : drawn_in z work' ≡ (course_on s z p (state_of z work counts) (drawn_in z work)).side.pyramid
-  pub grows : (b : ℕ) → Words z b work → Words z (b + 2 * 2 ^ most_planes) work'
+abbrev pub Drawn : List ℕ → Size → Part → Counts → List ℕ → Passed → List ℕ → Type 0
+Drawn s z p counts work r work' = PartDecoded (body_of s p) (record { at = bits_there s p }) z p.plane p.level work counts r work'
 
 -- what a part asks for
 pub record Taking (s : List ℕ) (z : Size) (p : Part) (w : Walk) (work : List ℕ) : Type 0 where
   pub drawing : Drawing s z p w.counts work
-  pub places : length w.reached ≡ level_places
+  pub six : length w.reached ≡ level_places
   pub few : count_in w.skipped (p.level.0 - 1) < 2 ^ 32
 
 -- A part adds less to a word.
@@ -151,14 +146,13 @@ pub record Ended (z : Size) (o : Cut) (w : Walk) (work : List ℕ) (r : Turn) (w
   pub stays : r.walk ≡ w
   pub draws : drawn_in z work' ≡ o.drawn
   pub same : length work' ≡ length work
-  pub grows : (b : ℕ) → Words z b work → Words z (b + growth) work'
 
 -- what a turn of the walk asks for
 pub record Standing (h : Header) (s : List ℕ) (w : Walk) (work : List ℕ) : Type 0 where
   pub legal : legal_size h.size ≡ true
   pub planes : h.planes ≤ most_planes
   pub room : work_for h.size ≤ length work
-  pub places : length w.reached ≡ level_places
+  pub six : length w.reached ≡ level_places
   pub few : (i : ℕ) → count_in w.skipped i < 2 ^ 32
   pub sound : TreeSound h.size (state_of h.size work w.counts)
   pub words : Words h.size (2 ^ 29) work
@@ -184,9 +178,10 @@ pub record Begun (h : Header) (work : List ℕ) (r : Walk) (work' : List ℕ) : 
   pub words : (x : ℕ) → x < area h.size → word_in h.size work' x ≡ word_in h.size work x
   pub same : length work' ≡ length work
 
--- what drawing the parts asks for: a header that was read and workspace enough
-pub record Opened (h : Header) (s : List ℕ) (work : List ℕ) : Type 0 where
+-- what decoding the parts asks for: a header that was read, a pyramid of its size and workspace enough
+pub record Lent (h : Header) (s : List ℕ) (out : List ℤ) (work : List ℕ) : Type 0 where
   pub read : read_header s ≡ header.Header h
+  pub whole : length out ≡ area h.size
   pub room : work_for h.size ≤ length work
 
 -- Names fall from part to part, and so does this number of a name: the parts are few, and each makes words grow little.
@@ -225,19 +220,6 @@ pub record Walking (h : Header) (s : List ℕ) (w : Walk) (work : List ℕ) : Ty
   pub few : length seen + order (named w.cursor.before) ≤ orders
   pub words : Words h.size (bound (named w.cursor.before)) work
 
--- What the walk comes to: it is refused as decoding is, or the workspace holds what is accepted, by tree numbers.
-pub record Accepts (h : Header) (s : List ℕ) (r : Drawn) (work' : List ℕ) : Type 0 where
-  pub pyramid : List ℤ
-  pub accepts : decoded_parts h s (read_parts h s)
-      ≡ accepted (record { pyramid = pyramid; tail = r.tail; reached = r.walk.reached; skipped = r.walk.skipped })
-  pub laid : Laid (coefficient_of h.size) pyramid (drawn_in h.size work')
-  pub words : Words h.size (2 ^ 29) work'
-
-pub record RecordDrawn (h : Header) (s : List ℕ) (work : List ℕ) (r : Drawn) (work' : List ℕ) : Type 0 where
-  pub same : length work' ≡ length work
-  pub refuses : (f : Refusal) → r.verdict ≡ verdict.Refused f → decoded_parts h s (read_parts h s) ≡ refused f
-  pub draws : r.verdict ≡ verdict.Accepted → Accepts h s r work'
-
 -- what is answered, and left in the memory lent, for a result
 pub record Answered (x : Result Picture) (out : List ℤ) (work : List ℕ) (answer : Decoded) (out' : List ℤ) (work' : List ℕ) : Type 0 where
   pub answers : answer ≡ decode_answer x
@@ -253,13 +235,3 @@ pub record Refusing (r : Refusal) (out : List ℤ) (work : List ℕ) (answer : D
 pub record Accepting (tail : ℕ) (reached : List Plane) (skipped : List ℕ) (work : List ℕ) (answer : Decoded) (work' : List ℕ) : Type 0 where
   pub answers : answer ≡ record { verdict = verdict.Accepted; tail = tail; reached = reached; skipped = skipped }
   pub clears : work' ≡ zeros (length work)
-
--- The workspace in the cut by levels: every word 0; and the values that stand there laid out row by row.
-pub record Blank (z : Size) (work work' : List ℕ) : Type 0 where
-  pub same : length work' ≡ length work
-  pub words : (x : ℕ) → x < area z → word_in z work' x ≡ 0
-
-pub record LaidIn (z : Size) (work : List ℕ) (out : List ℤ) (work' : List ℕ) (out' : List ℤ) : Type 0 where
-  pub same : length work' ≡ length work
-  pub whole : length out' ≡ length out
-  pub values : (q : ℕ) → q < area z → get_or out' q (pos 0) ≡ get_or (drawn_in z work) (number_of z q) (pos 0)

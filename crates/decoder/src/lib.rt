@@ -6,9 +6,9 @@ ghost use Rattle.rules.specs.Document.Numbers.{read_parts};
 ghost use Rattle.rules.specs.Document.Calls.{Decoding, decoded_parts};
 ghost use Rattle.record.specs.Walk.{next_of};
 ghost use Rattle.placing.specs.Placing.{Roomy};
-ghost use Rattle.decoder.specs.Walking.{Begun, Past, Drawing, PartDrawn, Taking, Taken, decoded_part, met_part, Ended, drawn_cut, met_cut};
+ghost use Rattle.decoder.specs.Walking.{Begun, Past, Drawing, Drawn, Taking, Taken, decoded_part, met_part, Ended, drawn_cut, met_cut};
 ghost use Rattle.decoder.specs.Walking.{Standing, Turned, Walking};
-ghost use Rattle.decoder.specs.Walking.{Opened, RecordDrawn, Answered, Refusing, Accepting, Blank, LaidIn};
+ghost use Rattle.decoder.specs.Walking.{Lent, Answered, Refusing, Accepting};
 
 use bits::BitPosition;
 use lists::Role;
@@ -41,32 +41,6 @@ pub enum Found {
 pub struct Turn {
     pub found: Found,
     pub walk: Walk,
-}
-
-// What became of the walk: the verdict, the length of the tail, and where the walk ended.
-#[derive(Drop)]
-pub struct Drawn {
-    pub verdict: Verdict,
-    pub tail: usize,
-    pub walk: Walk,
-}
-
-// Every word of the cut by levels is 0.
-fn blank(z: Size, work: &mut [u32])
-    requires { Roomy z work.old }
-    ensures { Blank z work.old work.new }
-{
-    placing::clear(z, work);
-    merging::merge_words(z, work);
-}
-
-// The values drawn, row by row: from the cut by levels to that by depths, and out of it.
-fn lay_out(z: Size, work: &mut [u32], out: &mut [i32])
-    requires { Roomy z work.old × (length out.old ≡ area z) }
-    ensures { LaidIn z work.old out.old work.new out.new }
-{
-    merging::split_words(z, work);
-    placing::lay_out(z, work, out);
 }
 
 // Before the first part.
@@ -103,7 +77,7 @@ fn walk_past(
 // A part is decoded as far as its bits are there: a whole one to its end.
 fn draw(bytes: &[u8], z: Size, p: Part, counts: Counts, work: &mut [u32]) -> Passed
     requires { Drawing bytes.now z p counts work.old }
-    ensures { PartDrawn bytes.now z p counts work.old result work.new }
+    ensures { Drawn bytes.now z p counts work.old result work.new }
 {
     let plane = p.plane;
     let level = p.level;
@@ -111,8 +85,7 @@ fn draw(bytes: &[u8], z: Size, p: Part, counts: Counts, work: &mut [u32]) -> Pas
         at: read::bits_there(bytes, p),
     };
     let body = read::there(bytes, p);
-    let front = BitPosition { at: 0 };
-    parts::decode_part(body, front, until, z, plane, level, work, counts)
+    parts::decode_part(body, until, z, plane, level, work, counts)
 }
 
 // A usable part is decoded; its bits have to be just those that its pass asks for.
@@ -251,9 +224,10 @@ fn accept(tail: usize, walk: Walk, work: &mut [u32]) -> Decoded
 }
 
 // All parts from where a walk stands. The first fault decides.
-fn walk_all(bytes: &[u8], h: Header, first: Walk, work: &mut [u32]) -> Drawn
-    requires { Walking h bytes.now first work.old }
-    ensures { RecordDrawn h bytes.now work.old result work.new }
+fn walk_all(bytes: &[u8], h: Header, first: Walk, out: &mut [i32], work: &mut [u32]) -> Decoded
+    requires { Walking h bytes.now first work.old × (length out.old ≡ area h.size) }
+    ensures { Answered (decoded_parts h bytes.now (read_parts h bytes.now))
+        out.old work.old result out.new work.new }
 {
     let mut walk = first;
     loop {
@@ -264,48 +238,25 @@ fn walk_all(bytes: &[u8], h: Header, first: Walk, work: &mut [u32]) -> Drawn
             Found::Part => {}
             Found::Tail => {
                 let tail = bytes.len() - walk.cursor.place;
-                return Drawn {
-                    verdict: Verdict::Accepted,
-                    tail,
-                    walk,
-                };
+                placing::lay_out(h.size, work, out);
+                return accept(tail, walk, work);
             }
             Found::Refused(r) => {
-                return Drawn {
-                    verdict: Verdict::Refused(r),
-                    tail: 0,
-                    walk,
-                };
+                return refuse(r, out, work);
             }
         }
     }
 }
 
-// All parts, from the header's end on, drawn in the workspace: at first every coefficient is 0. What is drawn stands in the cut by levels.
-pub fn draw_record(bytes: &[u8], h: Header, work: &mut [u32]) -> Drawn
-    requires { Opened h bytes.now work.old }
-    ensures { RecordDrawn h bytes.now work.old result work.new }
-{
-    blank(h.size, work);
-    let first = first_walk(h, work);
-    walk_all(bytes, h, first, work)
-}
-
-// All parts, laid out.
+// All parts, from the header's end on: at first every coefficient is 0.
 fn decode_parts(bytes: &[u8], h: Header, out: &mut [i32], work: &mut [u32]) -> Decoded
-    requires { Opened h bytes.now work.old × (length out.old ≡ area h.size) }
+    requires { Lent h bytes.now out.old work.old }
     ensures { Answered (decoded_parts h bytes.now (read_parts h bytes.now))
         out.old work.old result out.new work.new }
 {
-    let drawn = draw_record(bytes, h, work);
-    let verdict = drawn.verdict;
-    match verdict {
-        Verdict::Refused(r) => refuse(r, out, work),
-        Verdict::Accepted => {
-            lay_out(h.size, work, out);
-            accept(drawn.tail, drawn.walk, work)
-        }
-    }
+    placing::clear(h.size, work);
+    let first = first_walk(h, work);
+    walk_all(bytes, h, first, out, work)
 }
 
 // From any bytes to a pyramid or a refusal.

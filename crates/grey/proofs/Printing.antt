@@ -2,11 +2,12 @@
 use mathlib.Core.Path.{◌≡◌, refl, ap, ap₂, sym, ◌∙◌}
 use mathlib.Core.Bool.{Bool, true, false}
 use mathlib.Core.List.{List, [], ◌∷◌, map}
-use Prim.Native.Nat.{ℕ, zero, suc, ◌+◌, ◌≤◌, ◌<◌}
+use Prim.Native.Nat.{ℕ, zero, suc, ◌+◌, ◌-◌, ◌≤◌, ◌<◌}
 use native.Mathlib.Omega.{arith}
+use native.Mathlib.Decide.{dec_le}
 use lib.Dec.{leb}
-use lib.ListN.{length, get_or, take, length-map}
-use lib.Seq.{sets, ext_get_or, get_or-take, length-take-le}
+use lib.ListN.{length, get_or, take, length-map, length-append, length-replicate}
+use lib.Seq.{sets, ext_get_or, get_or-take, length-take-le, length-sets}
 use lib.IntN.{ℤ, pos}
 use borrow.Author.Tests.{leb-true, leb-false, le-leb, lt-leb}
 use Rattle.rules.specs.declared.Size.{Size}
@@ -15,11 +16,12 @@ use Rattle.rules.specs.declared.Refusal.TheVariants as refusal
 use Rattle.rules.specs.declared.Verdict.{Verdict}
 use Rattle.rules.specs.declared.Verdict.TheVariants.{Accepted, Refused}
 use Rattle.rules.specs.Document.Notation.{zeros}
-use Rattle.rules.specs.Document.Pyramid.{area, row, column}
+use Rattle.rules.specs.Document.Pyramid.{legal_size, area, row, column}
 use Rattle.rules.specs.Document.Calls.{Result, refused, accepted, unless, filled}
 use Rattle.rules.specs.Laws.Family.Sizes.{legal}
 use Rattle.rules.specs.Promises.Vocabulary.{Legal}
 use Rattle.rules.specs.Laws.Rounding.Planes.{under_first}
+use Rattle.rules.specs.Laws.Bytes.Output.{clipped, clipped_nothing, clipped_append, clipped_fits}
 use Rattle.rules.specs.Laws.Offspring.Level.{column_lt, row_lt}
 use Rattle.rules.specs.Laws.Offspring.Block.{index_place}
 use Rattle.pictures.specs.declared.GreyWritten.{GreyWritten}
@@ -28,7 +30,6 @@ use Rattle.pictures.specs.Document.Netpbm.{grey_lines, grey_file}
 use Rattle.pictures.specs.Document.Calls.{clip, clipped_in, most_decoded, GreyPrint, print_of, printed, grey_out, grey_out_out, grey_out_answer, GreyOut}
 use Rattle.pictures.specs.Laws.Tones.{toned}
 use Rattle.pictures.specs.Laws.Grids.{list_at, picture_length}
-use Rattle.netpbm.specs.Wrote.{lines_length, file_length, file_bytes}
 use Rattle.lifting.specs.Pictures.{TonesOf, NumbersOf, Joining}
 use Rattle.grey.specs.Pixels.{numbers_in}
 use Rattle.grey.specs.Outcomes.{judged_out, RefusedOut, Fits, Printing, PixelsPrinted, Prints}
@@ -72,26 +73,36 @@ joined_numbers {z} f pyramid work same joins =
     ∙ sym (list_at z (back z z.n g) q h))
 
 -- Header and pixels, one behind the other.
+print_length : (z : Size) (numbers : List ℤ) → length numbers ≡ area z → length (print_of z numbers).file ≡ length (grey_lines z) + area z
+unfolding print_of grey_file
+print_length z numbers whole =
+    length-append (grey_lines z) (map clip numbers) ∙ ap (λ n. length (grey_lines z) + n) (length-map numbers clip ∙ whole)
+
 module _ (z : Size) (room : ℕ) (numbers : List ℤ) (whole : length numbers ≡ area z) where
   abbrev print : GreyPrint
   print = print_of z numbers
 
-  print_length : length print.file ≡ length (grey_lines z) + area z
-  unfolding print_of
-  print_length = file_length z (map clip numbers) ∙ ap (λ n. length (grey_lines z) + n) (length-map numbers clip ∙ whole)
-
   pub printed_short : room < length (grey_lines z) + area z → printed print room ≡ refused refusal.Room
   unfolding printed unless
-  printed_short l = rw (lt-leb (length print.file) room (omega (arith, print_length)))
+  printed_short l = rw (lt-leb (length print.file) room (omega (arith, print_length z numbers whole)))
 
   pub printed_fits : length (grey_lines z) + area z ≤ room → printed print room ≡ accepted print
   unfolding printed unless
-  printed_fits l = rw (le-leb (length print.file) room (omega (arith, print_length)))
+  printed_fits l = rw (le-leb (length print.file) room (omega (arith, print_length z numbers whole)))
 
   pub printed_bytes : length (grey_lines z) + area z ≤ room
       → sets (sets (zeros room) 0 (grey_lines z)) (length (grey_lines z)) (map clip numbers) ≡ filled room print.file
-  unfolding print_of
-  printed_bytes l = file_bytes z (map clip numbers) room (omega (arith, length-map numbers clip, whole))
+  unfolding print_of grey_file
+  printed_bytes l =
+      ap (λ s. sets (sets s 0 (grey_lines z)) (length (grey_lines z)) (map clip numbers)) (sym (clipped_nothing room))
+      ∙ ap (λ s. sets s (length (grey_lines z)) (map clip numbers)) (clipped_append room [] (grey_lines z))
+      ∙ clipped_append room (grey_lines z) (map clip numbers)
+      ∙ clipped_fits room print.file (omega (arith, print_length z numbers whole))
+
+-- The lines leave an output as long as it was.
+lines_length : (z : Size) (out : List ℕ) {lines : List ℕ} → lines ≡ sets (zeros (length out)) 0 (grey_lines z) → length lines ≡ length out
+lines_length z out e =
+    ap length e ∙ length-sets (zeros (length out)) 0 (grey_lines z) ∙ length-replicate (length out) 0
 
 refused_lent : {r : Refusal} {lines out work : List ℕ} {answer : GreyWritten} {out' work' : List ℕ} → length lines ≡ length out
     → RefusedOut r lines work answer out' work' → RefusedOut r out work answer out' work'
@@ -127,7 +138,7 @@ module _ (pyramid : List ℤ) (z : Size) (out work : List ℕ) where
       let whole : length numbers ≡ area z = picture_length z pyramid in
       let fits : length (grey_lines z) + area z ≤ length out = omega (arith, a) in
       let e : result ≡ accepted (print_of z numbers) = printed_fits z (length out) numbers whole fits in
-      let long : at + area z ≡ length (grey_file z (map clip numbers)) = ap (λ n. n + area z) a ∙ sym (print_length z (length out) numbers whole) in
+      let long : at + area z ≡ length (grey_file z (map clip numbers)) = ap (λ n. n + area z) a ∙ sym (print_length z numbers whole) in
       record {
         answers = d.answers ∙ (λ i. record { verdict = Accepted; length = long i; clipped = clipped_in numbers }) ∙ sym (ap grey_out_answer e);
         writes =
@@ -167,6 +178,20 @@ module _ (pyramid : List ℤ) (z : Size) (work : List ℕ) where
           writes = d.writes ∙ sym (ap (grey_out_out (length out)) (ruled_grey_out h));
           clears = d.clears;
         }
+
+-- A legal side has fewer than five digits.
+pub sides_short : (z : Size) → legal_size z ≡ true → (z.w < 10000) × (z.h < 10000)
+sides_short z e = let Z = legal z e in (omega (arith, Z.width.most), omega (arith, Z.height.most))
+
+pub room_none : (room at count : ℕ) → room < at → false ≡ leb (at + count) room
+room_none room at count l = sym (lt-leb (at + count) room (omega arith))
+
+pub room_left : (room at count : ℕ) → at ≤ room → leb count (room - at) ≡ leb (at + count) room
+room_left room at count l = by (dec_le count (room - at))
+  where
+    by : Dec (count ≤ room - at) → leb count (room - at) ≡ leb (at + count) room
+    by (yes h) = le-leb count (room - at) h ∙ sym (le-leb (at + count) room (omega arith))
+    by (no h) = lt-leb count (room - at) (omega arith) ∙ sym (lt-leb (at + count) room (omega arith))
 
 -- What was stored and counted, of the picture.
 pub pixels_printed : {pyramid : List ℤ} {z : Size} {at : ℕ} {out work : List ℕ} {numbers : List ℤ} {count : ℕ} {out' work' : List ℕ}

@@ -3,13 +3,13 @@ use mathlib.Core.Path.{◌≡◌, refl, ap, ap₂, sym, ◌∙◌, subst}
 use mathlib.Core.Bool.{Bool, true, false, true≢false}
 use mathlib.Core.List.{List}
 use Prim.Native.Nat.{ℕ, ◌+◌, ◌-◌, ◌*◌, ◌≤◌, ◌<◌}
-use native.Mathlib.Nat.{mul_comm}
+use native.Mathlib.Nat.{mul_comm, min-eq_left}
 use native.Mathlib.Omega.{arith}
 use lib.Arith.{digits_lt}
-use lib.ListN.{length, get_or, take, drop}
+use lib.ListN.{length, get_or, take, drop, length-drop}
 use lib.Seq.{ext_get_or, get_or-take, get_or-drop}
 use lib.IntN.{ℤ, pos}
-use Rattle.rules.specs.declared.Merged.TheVariants.{Never}
+use borrow.Author.Tests.{le-leb, lt-leb}
 use Rattle.rules.specs.declared.Size.{Size}
 use Rattle.rules.specs.declared.Refusal.{Refusal}
 use Rattle.rules.specs.declared.Refusal.TheVariants as refusal
@@ -25,12 +25,11 @@ use Rattle.pictures.specs.declared.Grey.{Grey}
 use Rattle.pictures.specs.declared.Grey.TheVariants.{Picture, NotGrey}
 use Rattle.pictures.specs.declared.GreyRead.{GreyRead}
 use Rattle.pictures.specs.Document.Lifting.{Grid, forward, grey_of, pyramid_of}
-use Rattle.pictures.specs.Document.Netpbm.{picture, read_grey, read_file, greatest_told, told}
+use Rattle.pictures.specs.Document.Netpbm.{GreyHeader, not_grey, picture, pixels_there, taken, read_grey, read_file, greatest_told, told}
 use Rattle.pictures.specs.Document.Calls.{GreyPyramid, on_picture, lifted, grey_in, grey_in_out, grey_in_answer, GreyIn, grey_size, GreySize}
 use Rattle.pictures.specs.Laws.Tones.{bias, toned, sub_least}
 use Rattle.pictures.specs.Laws.Grids.{list_at, pyramid_length}
-use Rattle.netpbm.specs.Told.{Tells}
-use Rattle.netpbm.specs.Found.{told_none, Found, told_picture, told_small}
+use Rattle.netpbm.specs.Told.{Tells, no_header_lem, too_short, all_there}
 use Rattle.lifting.specs.Pictures.{TonesOf, NumbersOf, Splitting}
 use Rattle.grey.specs.Pixels.{Loaded}
 use Rattle.grey.specs.Outcomes.{judged_in, RefusedIn, Fits, Lifting, Lifted}
@@ -76,9 +75,41 @@ module _ (file : List ℕ) (at : ℕ) (z : Size) where
         ∙ lifts g loaded_tones (row z q) (column z q) (row_lt z Z q h) (column_lt z Z q)
         ∙ sym (list_at z (forward z z.n g) q h))
 
+-- What is told of a file.
+pub told_none : (file : List ℕ) (x : GreyHeader) → Tells file x NotGrey → taken x ≡ not_grey
+unfolding taken pixels_there
+told_none file x no_header_lem = refl
+told_none file x (too_short {w = w} {h = h} {at = at} a l) = rw (lt-leb (w * h) (length (drop at file)) (omega (arith, length-drop at file)))
+
+pub record Found (file : List ℕ) (a b at : ℕ) (x : GreyHeader) : Type 0 where
+  pub width : ℕ
+  pub height : ℕ
+  pub tells_width : a ≡ told width
+  pub tells_height : b ≡ told height
+  pub within : at ≤ length file
+  pub there : width * height ≤ length file - at
+  pub takes : taken x ≡ picture width height (take (width * height) (drop at file))
+
+pub told_picture : (file : List ℕ) (x : GreyHeader) (a b at : ℕ) → Tells file x (Picture a b at) → Found file a b at x
+unfolding taken pixels_there
+told_picture file x a b at (all_there {w = w} {h = h} i l) =
+    record {
+      width = w;
+      height = h;
+      tells_width = refl;
+      tells_height = refl;
+      within = i;
+      there = l;
+      takes = rw (le-leb (w * h) (length (drop at file)) (omega (arith, length-drop at file)));
+    }
+
 -- A side that is told is the side, where it is legal.
 abbrev sized : ℕ → ℕ → ℕ → Size
-sized w h n = record { w = w; h = h; n = n; merged = Never }
+sized w h n = record { w = w; h = h; n = n }
+
+told_small : (v : ℕ) → v ≤ greatest_told → told v ≡ v
+unfolding told
+told_small v l = min-eq_left l
 
 sized_told : (w h n : ℕ) → w ≤ greatest_told → h ≤ greatest_told → sized (told w) (told h) n ≡ sized w h n
 sized_told w h n a b = rw (told_small w a, told_small h b)

@@ -1,7 +1,9 @@
 // Grey pictures: from a binary grey file to a pyramid, from a pyramid to a file, and how large the picture in a file is.
-ghost use Rattle.std.specs.Prelude.{◌≡◌, map, true, ◌+◌, ◌≤◌, ◌<◌, length};
+ghost use Rattle.std.specs.Prelude.{◌≡◌, map, true, ◌+◌, ◌≤◌, ◌<◌, leb, length};
 ghost use Rattle.std.proofs.lemmas.List.Edits.{sets};
+ghost use Rattle.rules.specs.Document.Notation.{zeros};
 ghost use Rattle.rules.specs.Document.Pyramid.{legal_size, area};
+ghost use Rattle.pictures.specs.Document.Netpbm.{grey_lines};
 ghost use Rattle.pictures.specs.Laws.Tones.{toned};
 ghost use Rattle.pictures.specs.Document.Calls.{clip, outside, clipped_in};
 ghost use Rattle.pictures.specs.Document.Calls.{GreyIn, GreyOut, GreySize};
@@ -9,7 +11,7 @@ ghost use Rattle.grey.specs.Pixels.{Loaded, counted, numbers_in};
 ghost use Rattle.grey.specs.Outcomes.{judged_in, judged_out, RefusedIn, RefusedOut, Lifting, Lifted, Printing, PixelsPrinted, Prints};
 
 use pictures::{Grey, GreyRead, GreyWritten};
-use rules::{Merged, Refusal, Size, Verdict};
+use rules::{Refusal, Size, Verdict};
 
 // A number v stands in the workspace as v + 2^28.
 const BIAS: u32 = 268435456;
@@ -163,17 +165,21 @@ pub fn grey_in(file: &[u8], n: usize, out: &mut [i32], work: &mut [u32]) -> Grey
     let Grey::Picture(w, h, at) = netpbm::read_grey(file) else {
         return refuse_in(Refusal::Grey, out, work);
     };
-    let z = Size {
-        w,
-        h,
-        n,
-        merged: Merged::Never,
-    };
+    let z = Size { w, h, n };
     let verdict = judged_in(z, out.len(), work.len());
     match verdict {
         Verdict::Refused(refusal) => refuse_in(refusal, out, work),
         Verdict::Accepted => lift(file, at, z, out, work),
     }
+}
+
+// The lines in front of the pixels, in an output that is 0 behind them. Answers how many bytes they are.
+fn write_lines(z: Size, out: &mut [u8]) -> usize
+    requires { legal_size z ≡ true }
+    ensures { (result ≡ length (grey_lines z)) × (out.new ≡ sets (zeros (length out.old)) 0 (grey_lines z)) }
+{
+    memory::zero_u8(out);
+    netpbm::write_header(z, out)
 }
 
 // The pixels that a pyramid gives, behind these lines.
@@ -197,13 +203,20 @@ fn print_pixels(
     }
 }
 
+// The sum is not formed: nothing bounds the two.
+fn has_room(room: usize, at: usize, count: usize) -> bool
+    ensures { result ≡ leb (at + count) room }
+{
+    if room < at { false } else { count <= room - at }
+}
+
 // The file of the picture that a pyramid gives, where there is room for it.
 fn print(pyramid: &[i32], z: Size, out: &mut [u8], work: &mut [u32]) -> GreyWritten
     requires { Printing pyramid.now z work.old }
     ensures { Prints pyramid.now z out.old work.old result out.new work.new }
 {
-    let at = netpbm::write_lines(z, out);
-    if netpbm::has_room(out.len(), at, z.w * z.h) {
+    let at = write_lines(z, out);
+    if has_room(out.len(), at, z.w * z.h) {
         print_pixels(pyramid, z, at, out, work)
     } else {
         refuse_out(Refusal::Room, out, work)

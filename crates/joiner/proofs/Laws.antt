@@ -20,14 +20,14 @@ use Rattle.rules.specs.declared.Header.{Header}
 use Rattle.rules.specs.declared.Part.{Part}
 use Rattle.rules.specs.declared.PartRead.{PartRead}
 use Rattle.rules.specs.declared.PartRead.TheVariants as part
-use Rattle.rules.specs.Document.Notation.{any, flat, zeros, same_bytes}
+use Rattle.rules.specs.Document.Notation.{any, flat, zeros}
 use Rattle.rules.specs.Document.Pyramid.{legal_size}
 use Rattle.rules.specs.Document.Passes.{PartName, parts_of_plane, part_names}
 use Rattle.rules.specs.Document.Layout.{whole_of, name_of, same_name}
 use Rattle.rules.specs.Document.Numbers.{top_level, Reading, read_part}
 use Rattle.rules.specs.Document.Calls.{Result, refused, accepted, unless, on_header, on_ending, fitted, code_out, code_answer}
-use Rattle.rules.specs.Laws.Counting.Sums.{all_then, flat_same, map_all}
-use Rattle.rules.specs.Promises.Vocabulary.{All, at}
+use Rattle.rules.specs.Laws.Counting.Sums.{All, all_then, flat_same, map_all}
+use Rattle.rules.specs.Promises.Vocabulary.{at}
 use Rattle.rules.specs.Laws.Reading.Parts.{After, InOrder, same_name_lem, name_same, order_after}
 use Rattle.rules.specs.Laws.Counting.Booleans.{not_test}
 use Rattle.rules.specs.Laws.Family.Sizes.{legal}
@@ -38,12 +38,10 @@ use Rattle.rules.specs.Laws.Bytes.Output.{clipped, clipped_nothing, clipped_leng
 use Rattle.rules.specs.declared.Plane.{Plane}
 use Rattle.rules.specs.declared.Level.{Level}
 use Rattle.record.specs.Named.{name_by, named}
-use Rattle.rules.specs.Laws.Bytes.Same.{same_bytes_lem, bytes_same}
-use Rattle.joins.specs.Document.Joining.{part_named, or_else, joined_part, joined_bytes, clashes, unless_clash, on_record, joining, Joining}
+use Rattle.joins.specs.Document.Joining.{same_bytes, part_named, or_else, joined_part, joined_bytes, clashes, unless_clash, on_record, joining, Joining}
 use Rattle.joins.specs.Laws.ByName.{Among, none, this, other, after_other, among_all, named_none, all_names, first, all_in_order, parts_among}
 use Rattle.joins.specs.Laws.Gathered.{or_first}
-use Rattle.joins.specs.Promises.Vocabulary.{Readable, Agrees}
-use Rattle.joins.specs.Laws.Joined.{readable_within, agrees_clear, same_header, on_record_readable, joining_read}
+use Rattle.joins.specs.Laws.Joined.{Readable, readable_within, Agrees, agrees_clear, same_bytes_lem, bytes_same, same_header, on_record_readable, joining_read}
 use Rattle.joins.specs.Laws.JoinRefusals.{clash_behind}
 use Rattle.survey.specs.declared.Survey.{Survey}
 use Rattle.survey.specs.Surveyed.{survey_of}
@@ -405,12 +403,15 @@ module _ (a b : List ℕ) (h : Header) (room : ℕ) (plane : Plane) (level : ℕ
   level_last l = let e : level ≡ 0 = omega arith in subst (λ k. Ahead a b h room (names_from (top_level h) plane.0 k) j out) e v
 
 pub few_levels : {a b : List ℕ} {h : Header} {room : ℕ} {ns : List PartName} {j : Joint} {out : List ℕ} → Ahead a b h room ns j out
-    → h.size.n < 2 ^ 32
+    → h.size.n + 1 < 2 ^ 64
 few_levels {h = h} v = omega (arith, (legal h.size v.legal).few)
 
-pub level_first : (a b : List ℕ) (h : Header) (room : ℕ) (plane : Plane) (top : ℕ) (j : Joint) (out : List ℕ) → top ≡ top_level h
-    → Ahead a b h room (names_from (top_level h) plane.0 (top_level h)) j out → Ahead a b h room (names_from (top_level h) plane.0 top) j out
-level_first a b h room plane top j out e v = subst (λ k. Ahead a b h room (names_from (top_level h) plane.0 k) j out) (sym e) v
+pub level_first : (a b : List ℕ) (h : Header) (room : ℕ) (plane : Plane) (j : Joint) (out : List ℕ)
+    → Ahead a b h room (names_from (top_level h) plane.0 (top_level h)) j out
+    → Ahead a b h room (names_from (top_level h) plane.0 (h.size.n + 1)) j out
+level_first a b h room plane j out v =
+    let e : top_level h ≡ h.size.n + 1 = omega arith in
+    subst (λ k. Ahead a b h room (names_from (top_level h) plane.0 k) j out) e v
 
 -- All planes.
 plane_names : (top n : ℕ) → 0 < n → part_names top n ≡ names_from top (n - 1) top
@@ -448,8 +449,8 @@ module _ (a b : List ℕ) (h g : Header) (r : BothRead a b h g) (t : Bool) (k : 
     front : take h.end a ≡ take g.end b
     front = k.0 (not-false t e)
 
-    one_head_lem : g ≡ h
-    one_head_lem = sym (same_header r.one r.two front)
+    one_head : g ≡ h
+    one_head = sym (same_header r.one r.two front)
 
     standing : (s : List ℕ) → Readable s h → Standing h s (all_names h) (first_of h)
     standing s q =
@@ -461,9 +462,9 @@ module _ (a b : List ℕ) (h g : Header) (r : BothRead a b h g) (t : Bool) (k : 
         (fitted (take h.end a ++ flat (joined_part a (left h a (first_of h)) b (left h b (first_of h))) (all_names h)) room)
     unfolding joined_bytes unless
     comes_to_join room =
-        let second : Readable b h = subst (Readable b) one_head_lem r.two in
+        let second : Readable b h = subst (Readable b) one_head r.two in
         joining_read r.one second room
-        ∙ rw (bytes_same (take h.end a) (take h.end b) (front ∙ ap (λ (x : Header). take x.end b) one_head_lem))
+        ∙ rw (bytes_same (take h.end a) (take h.end b) (front ∙ ap (λ (x : Header). take x.end b) one_head))
         (ap₂ (λ (x y : Reading).
         unless_clash a x.parts b y.parts (fitted (take h.end a ++ flat (joined_part a x.parts b y.parts) (all_names h)) room))
         (read_parts_from h a (readable_within r.one)) (read_parts_from h b (readable_within second)))
@@ -482,7 +483,7 @@ module _ (a b : List ℕ) (h g : Header) (r : BothRead a b h g) (t : Bool) (k : 
           legal = header_legal (read_header_stands a h r.one.read);
           small = small;
           one = standing a r.one;
-          two = standing b (subst (Readable b) one_head_lem r.two);
+          two = standing b (subst (Readable b) one_head r.two);
           earlier = first h;
           in_order = all_in_order h;
           bytes = take h.end a;

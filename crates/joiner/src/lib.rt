@@ -158,7 +158,8 @@ fn one_plane(
     requires { BeforePlane first.now second.now h plane joint out.old }
     ensures { AfterPlane first.now second.now h plane.0 out.old result out.new }
 {
-    let mut level = shape::levels(h.size);
+    let size = h.size;
+    let mut level = size.n + 1;
     let mut now = joint;
     while 0 < level {
         let step = turn(first, second, h, now, plane, Level(level), out);

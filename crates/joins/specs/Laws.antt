@@ -1,11 +1,11 @@
--- What follows from the definitions of Document, and proves what Promises states.
+-- What follows from the definitions of Document.
+pub mod JoiningCases
 pub mod ByName
 pub mod Gathered
 pub mod Joined
 pub mod Algebra
 pub mod JoinedSelections
+pub mod JoinCauses
 pub mod JoinRefusals
 pub mod JoinDetermined
 pub mod JoinRoom
-pub mod Regrouped
-pub mod JoinMemory

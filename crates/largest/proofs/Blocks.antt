@@ -52,8 +52,8 @@ next_d {n} {s₀} {b} {s} {s'} d p q e m l h = record { apart = apart_next d.apa
         ∙ ap₂ max (p ∙ near_same n s₀ s b d.apart h) (q ∙ far_same n s₀ s b d.apart))
     by j k (no i) = set_elsewhere m j i ∙ d.made j (omega arith)
 
-pub all_d_lem : {n : ℕ} {s : List ℕ} {b count : ℕ} {s' : List ℕ} → SomeD n s b s' → b ≤ count → count ≤ b → SomeD n s count s'
-all_d_lem {b = b} {count = count} d h l = let e : b ≡ count = omega arith in rw e at d
+pub all_d : {n : ℕ} {s : List ℕ} {b count : ℕ} {s' : List ℕ} → SomeD n s b s' → b ≤ count → count ≤ b → SomeD n s count s'
+all_d {b = b} {count = count} d h l = let e : b ≡ count = omega arith in rw e at d
 
 -- L
 pub none_l : {n : ℕ} {s : List ℕ} → SomeL n s 0 s
@@ -105,5 +105,5 @@ next_l {n} {s₀} {c} {s} {s'} {l} {w} d e u i m r h =
     small b k (yes x) = rw (← x) (omega (arith, there))
     small b k (no x) = omega (arith, set_elsewhere m b x, d.small b k)
 
-pub all_l_lem : {n : ℕ} {s : List ℕ} {c count : ℕ} {s' : List ℕ} → SomeL n s c s' → c ≤ count → count ≤ c → SomeL n s count s'
-all_l_lem {c = c} {count = count} d h l = let e : c ≡ count = omega arith in rw e at d
+pub all_l : {n : ℕ} {s : List ℕ} {c count : ℕ} {s' : List ℕ} → SomeL n s c s' → c ≤ count → count ≤ c → SomeL n s count s'
+all_l {c = c} {count = count} d h l = let e : c ≡ count = omega arith in rw e at d

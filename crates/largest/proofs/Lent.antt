@@ -1,6 +1,4 @@
 -- A level's stretch lent, with the next finer level's behind it: its numbers in the workspace, and what filling it makes of the workspace.
-use Rattle.rules.specs.Laws.Family.Sizes.{size_of}
-use Rattle.rules.specs.Document.Pyramid.{depths}
 use mathlib.Core.Path.{◌≡◌, sym, ap, ap₂, ◌∙◌}
 use mathlib.Core.List.{List}
 use Prim.Native.Nat.{ℕ, ◌+◌, ◌-◌, ◌*◌, ◌/◌, ◌≤◌, ◌<◌, max}
@@ -12,11 +10,11 @@ use borrow.Rule.Slice.PartMut.{mid_of, put_mid, mid_len, same_len_mid}
 use Rattle.rules.specs.declared.Size.{Size}
 use Rattle.rules.specs.Document.Calls.{work_for}
 use Rattle.rules.specs.Promises.Vocabulary.{Legal}
-use Rattle.rules.specs.Laws.Family.Sizes.{legal, span, depth_start, level_end, depth_size, depth_size_fine, start_of_fine, span_quarter}
+use Rattle.rules.specs.Laws.Family.Sizes.{legal, span, level_start, level_end, level_size, level_size_fine, level_start_fine, span_quarter}
 use Rattle.trees.specs.Measure.{four_most, four_same}
 use Rattle.stretches.specs.Seg.{seg, seg_at, seg_seg}
-use Rattle.stretches.specs.Cut.{maxima_from, maxima_in, stretch_at, largest_d, largest_l}
-use Rattle.stretches.specs.Workspace.{word_of, maximum_of}
+use Rattle.stretches.specs.Cut.{maxima_from, maxima_in, stretch_of, largest_d, largest_l}
+use Rattle.stretches.specs.Workspace.{word_in, maximum_in}
 use Rattle.stretches.specs.Levels.{words_from, blocks_from, next_size, next_start, word_place_lem, maximum_place, put_own, put_inside, put_before, put_behind}
 use Rattle.largest.specs.Blocks.{word_measure, near, far, four, Apart, SomeD, SomeL}
 use Rattle.largest.specs.Filling.{measure_in}
@@ -40,31 +38,31 @@ module _ (z : Size) (Z : Legal z) where
   pub quarter : (k : ℕ) → k ≤ z.n → span z k ≡ 4 * span z (k + 1)
   quarter k h = span_quarter z Z k h ∙ ap (λ (x : ℕ). 4 * span z x) (sym (add-one k))
 
-  pub node_block : (k x : ℕ) → 1 ≤ k → k ≤ z.n → span z (k + 1) ≤ x → x < span z k → x - span z (k + 1) < depth_size z k / 4
-  node_block k x some most hx lx = let q : span z k ≡ 4 * span z (k + 1) = quarter k most in omega (arith, depth_size_fine z Z k some most)
+  pub node_block : (k x : ℕ) → 1 ≤ k → k ≤ z.n → span z (k + 1) ≤ x → x < span z k → x - span z (k + 1) < level_size z k / 4
+  node_block k x some most hx lx = let q : span z k ≡ 4 * span z (k + 1) = quarter k most in omega (arith, level_size_fine z Z k some most)
 
   pub fours_block : (k x : ℕ) → 1 ≤ k → k + 1 ≤ z.n → span z (k + 2) ≤ x → x < span z (k + 1)
-      → (x - span z (k + 2) < depth_size z k / 16) × (span z (k + 1) ≡ 4 * span z (k + 2))
+      → (x - span z (k + 2) < level_size z k / 16) × (span z (k + 1) ≡ 4 * span z (k + 2))
   fours_block k x some most hx lx =
       let i : span z (k + 1 + 1) ≡ span z (k + 2) = ap (span z) (omega arith) in
       let q : span z k ≡ 4 * span z (k + 1) = quarter k (omega arith) in
       let r : span z (k + 1) ≡ 4 * span z (k + 1 + 1) = quarter (k + 1) most in
-      let m : depth_size z k ≡ 3 * span z k = depth_size_fine z Z k some (omega arith) in
+      let m : level_size z k ≡ 3 * span z k = level_size_fine z Z k some (omega arith) in
       (omega arith, omega arith)
 
-  size-zero : depth_size z 0 ≡ 0
-  unfolding size_of level_end
-  size-zero = omega (arith, start_of_fine z (depths z) 0 (omega arith))
+  size-zero : level_size z 0 ≡ 0
+  unfolding level_size level_end
+  size-zero = omega (arith, level_start_fine z 0 (omega arith))
 
-  pub pair_finest : (k : ℕ) → 1 ≤ k → k < 2 → depth_size z (k - 1) ≡ 0
-  pair_finest k h l = let e : k - 1 ≡ 0 = omega arith in ap (depth_size z) e ∙ size-zero
+  pub pair_finest : (k : ℕ) → 1 ≤ k → k < 2 → level_size z (k - 1) ≡ 0
+  pair_finest k h l = let e : k - 1 ≡ 0 = omega arith in ap (level_size z) e ∙ size-zero
 
-  pub maximum_nowhere : (work : List ℕ) (k b : ℕ) → depth_size z k ≡ 0 → maximum_of z (depths z) work k b ≡ 0
-  unfolding maximum_of maxima_in seg
+  pub maximum_nowhere : (work : List ℕ) (k b : ℕ) → level_size z k ≡ 0 → maximum_in z work k b ≡ 0
+  unfolding maximum_in maxima_in seg
   maximum_nowhere work k b e = rw e
 
 -- The stretch of level k lent as `work[from..to]`, with more behind it, and its maxima filled.
-module _ (z : Size) (k : ℕ) (work : List ℕ) (P : Placed z k work) (from to n : ℕ) (ef : from ≡ 4 * depth_start z k) (en : n ≡ depth_size z k)
+module _ (z : Size) (k : ℕ) (work : List ℕ) (P : Placed z k work) (from to n : ℕ) (ef : from ≡ 4 * level_start z k) (en : n ≡ level_size z k)
     (et : from + 4 * n ≤ to) (er : to ≤ work_for z) (ys : List ℕ) (A : Apart n (mid_of from (to - from) work) ys) where
   abbrev back : List ℕ
   back = put_mid from (to - from) work ys
@@ -75,7 +73,7 @@ module _ (z : Size) (k : ℕ) (work : List ℕ) (P : Placed z k work) (from to n
   pub only_maxima : OnlyMaxima z k work back
   unfolding blocks_from seg
   only_maxima =
-      let e : maxima_from n ≡ maxima_from (depth_size z k) = ap maxima_from en in
+      let e : maxima_from n ≡ maxima_from (level_size z k) = ap maxima_from en in
       record {
         long = same_len_mid from (to - from) work ys A.long;
         before = λ i h. put_elsewhere from to work ys (omega arith) (omega (arith, P.room)) as_long i (λ b. A.before (i - from) (omega arith));
@@ -83,19 +81,19 @@ module _ (z : Size) (k : ℕ) (work : List ℕ) (P : Placed z k work) (from to n
       }
 
   -- the maxima of the stretch, in what is lent
-  maximum_lent : (w : List ℕ) (b : ℕ) → maximum_of z (depths z) w k b ≡ get_or (maxima_in n (seg from (to - from) w)) b 0
-  unfolding maximum_of maxima_in maxima_from stretch_at
+  maximum_lent : (w : List ℕ) (b : ℕ) → maximum_in z w k b ≡ get_or (maxima_in n (seg from (to - from) w)) b 0
+  unfolding maximum_in maxima_in maxima_from stretch_of
   maximum_lent w b =
       let from-maxima : ℕ = n + n + n + 3 * n / 4 in
       ap₂ (λ (m o : ℕ). get_or (seg (m + m + m + 3 * m / 4) (m / 4) (seg o (4 * m) w)) b 0) (sym en) (sym ef)
       ∙ ap (λ s. get_or s b 0)
       (seg_seg from (4 * n) from-maxima (n / 4) w (omega arith) ∙ sym (seg_seg from (to - from) from-maxima (n / 4) w (omega arith)))
 
-  maximum_before : (b : ℕ) → maximum_of z (depths z) work k b ≡ get_or (maxima_in n (mid_of from (to - from) work)) b 0
+  maximum_before : (b : ℕ) → maximum_in z work k b ≡ get_or (maxima_in n (mid_of from (to - from) work)) b 0
   unfolding seg
   maximum_before b = maximum_lent work b
 
-  maximum_after : (b : ℕ) → maximum_of z (depths z) back k b ≡ get_or (maxima_in n ys) b 0
+  maximum_after : (b : ℕ) → maximum_in z back k b ≡ get_or (maxima_in n ys) b 0
   maximum_after b = maximum_lent back b ∙ ap (λ s. get_or (maxima_in n s) b 0) (put_own from to work ys (omega (arith, P.room)) as_long)
 
   lent : (i : ℕ) → i < to - from → get_or (mid_of from (to - from) work) i 0 ≡ get_or work (from + i) 0
@@ -107,49 +105,45 @@ module _ (z : Size) (k : ℕ) (work : List ℕ) (P : Placed z k work) (from to n
     abbrev block : ℕ
     block = x - span z (k + 1)
 
-    block_under : (block < n / 4) × (depth_start z k + 4 * block ≡ 4 * x)
+    block_under : (block < n / 4) × (level_start z k + 4 * block ≡ 4 * x)
     block_under =
-        let Z : Legal z = legal z P.legal in (
-          omega (arith, node_block z Z k x P.some P.most hx lx),
-          omega (arith, quarter z Z k P.most, start_of_fine z (depths z) k (omega (arith, P.most))),
-        )
+        let Z : Legal z = legal z P.legal in
+        (omega (arith, node_block z Z k x P.some P.most hx lx), omega (arith, quarter z Z k P.most, level_start_fine z k P.most))
 
     measure_there : (f : ℕ) → f < 4 → word_measure (get_or (mid_of from (to - from) work) (4 * block + f) 0) ≡ measure_in z work (4 * x + f)
     unfolding measure_in
     measure_there f h =
         let i : ℕ = 4 * block + f in
         let u = block_under in
-        let p : word_of z (depths z) work (depth_start z k + i) ≡ get_or work (words_from z (depths z) k + i) 0 =
-        word_place_lem z (legal z P.legal) (depths z) (omega arith) (omega arith) work k i P.some (omega (arith, P.most)) (omega arith) in
+        let p : word_in z work (level_start z k + i) ≡ get_or work (words_from z k + i) 0 =
+        word_place_lem z (legal z P.legal) work k i P.some (omega (arith, P.most)) (omega arith) in
         ap (λ (w : ℕ). word_measure w)
-        (lent i (omega arith) ∙ ap (λ (o : ℕ). get_or work (o + i) 0) ef ∙ sym p ∙ ap (word_of z (depths z) work) (omega arith))
+        (lent i (omega arith) ∙ ap (λ (o : ℕ). get_or work (o + i) 0) ef ∙ sym p ∙ ap (word_in z work) (omega arith))
 
     near_there : near (mid_of from (to - from) work) block ≡ four_most (measure_in z work) x
     unfolding near
     near_there = four_same (λ i. word_measure (get_or (mid_of from (to - from) work) i 0)) (measure_in z work) block x measure_there
 
     -- L in the next finer level
-    far_there : to ≡ from + 4 * n + 4 * depth_size z (k - 1)
-        → far n (mid_of from (to - from) work) block ≡ largest_l (maximum_of z (depths z) work (k - 1) (4 * block))
+    far_there : to ≡ from + 4 * n + 4 * level_size z (k - 1) → far n (mid_of from (to - from) work) block ≡ largest_l (maximum_in z work (k - 1) (4 * block))
     unfolding far blocks_from maxima_from
     far_there e = ap largest_l (by (dec_le 2 k))
       where
         Z : Legal z
         Z = legal z P.legal
 
-        by : Dec (2 ≤ k) → get_or (mid_of from (to - from) work) (19 * n + 4 * block) 0 ≡ maximum_of z (depths z) work (k - 1) (4 * block)
+        by : Dec (2 ≤ k) → get_or (mid_of from (to - from) work) (19 * n + 4 * block) 0 ≡ maximum_in z work (k - 1) (4 * block)
         by (no i) =
-            let u : depth_size z (k - 1) ≡ 0 = pair_finest z Z k P.some (omega arith) in
+            let u : level_size z (k - 1) ≡ 0 = pair_finest z Z k P.some (omega arith) in
             get_or-eq_default (mid_of from (to - from) work) 0 (omega (arith, mid_len from to work (omega (arith, P.room))))
             ∙ sym (maximum_nowhere z Z work (k - 1) (4 * block) u)
         by (yes i) =
-            let u : depth_size z (k - 1) ≡ 4 * n =
-            next_size z Z (depths z) (omega arith) (omega arith) k i (omega (arith, P.most)) ∙ ap (λ (m : ℕ). 4 * m) (sym en) in
+            let u : level_size z (k - 1) ≡ 4 * n = next_size z Z k i P.most ∙ ap (λ (m : ℕ). 4 * m) (sym en) in
             lent (19 * n + 4 * block) (omega (arith, block_under))
-            ∙ sym (maximum_place z Z (depths z) (omega arith) (omega arith) work (k - 1) (4 * block) (rw u (omega (arith, block_under)))
-            ∙ ap (λ (x : ℕ). get_or work x 0) (rw u (omega (arith, next_start z Z (depths z) (omega arith) (omega arith) k i (omega (arith, P.most))))))
+            ∙ sym (maximum_place z Z work (k - 1) (4 * block) (rw u (omega (arith, block_under)))
+            ∙ ap (λ (x : ℕ). get_or work x 0) (rw u (omega (arith, next_start z Z k i (omega (arith, P.most))))))
 
-  pub level_d : to ≡ from + 4 * n + 4 * depth_size z (k - 1) → SomeD n (mid_of from (to - from) work) (n / 4) ys → LevelD z k work back
+  pub level_d : to ≡ from + 4 * n + 4 * level_size z (k - 1) → SomeD n (mid_of from (to - from) work) (n / 4) ys → LevelD z k work back
   level_d e d =
       record {
         apart = only_maxima;
@@ -166,13 +160,13 @@ module _ (z : Size) (k : ℕ) (work : List ℕ) (P : Placed z k work) (from to n
     fours_under : (four_blocks < n / 16) × (span z (k + 1) ≡ 4 * span z (k + 2))
     fours_under = let u = fours_block z (legal z P.legal) k x P.some l hx lx in (omega (arith, u.0), u.1)
 
-    four_there : four n (mid_of from (to - from) work) four_blocks ≡ four_most (λ y. largest_d (maximum_of z (depths z) work k (y - span z (k + 1)))) x
+    four_there : four n (mid_of from (to - from) work) four_blocks ≡ four_most (λ y. largest_d (maximum_in z work k (y - span z (k + 1)))) x
     unfolding four
     four_there =
         let u = fours_under in
-        four_same (λ b. largest_d (get_or (maxima_in n (mid_of from (to - from) work)) b 0)) (λ y. largest_d (maximum_of z (depths z) work k (y - span z (k + 1))))
+        four_same (λ b. largest_d (get_or (maxima_in n (mid_of from (to - from) work)) b 0)) (λ y. largest_d (maximum_in z work k (y - span z (k + 1))))
         four_blocks x
-        (λ f h. ap largest_d (sym (maximum_before (4 * four_blocks + f))) ∙ ap (λ (c : ℕ). largest_d (maximum_of z (depths z) work k c)) (omega arith))
+        (λ f h. ap largest_d (sym (maximum_before (4 * four_blocks + f))) ∙ ap (λ (c : ℕ). largest_d (maximum_in z work k c)) (omega arith))
 
   pub level_l : k + 1 ≤ z.n → SomeL n (mid_of from (to - from) work) (n / 16) ys → LevelL z k work back
   level_l l d =

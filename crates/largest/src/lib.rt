@@ -1,14 +1,13 @@
 // The largest magnitude in D and in L of every node, found once: "found from the offspring and the same node's L", "from the D of each offspring".
 ghost use Rattle.std.specs.Prelude.{◌≡◌, true, ◌+◌, ◌-◌, ◌*◌, ◌/◌, ◌^◌, ◌≤◌, ◌<◌, max, length};
-ghost use Rattle.rules.specs.Document.Pyramid.{legal_size, depths};
+ghost use Rattle.rules.specs.Document.Pyramid.{legal_size, levels};
 ghost use Rattle.rules.specs.Document.Calls.{work_for};
-ghost use Rattle.rules.specs.Laws.Family.Sizes.{depth_start, depth_size};
+ghost use Rattle.rules.specs.Laws.Family.Sizes.{level_start, level_size};
 ghost use Rattle.largest.specs.Blocks.{word_measure, near, far, four, SomeD, SomeL};
 ghost use Rattle.largest.specs.Filling.{Fillable, Filled};
 ghost use Rattle.largest.specs.Steps.{Placed, LevelD, LevelL, FilledTo};
 
-use rules::Size;
-use shape::Depth;
+use rules::{Level, Size};
 
 fn measure_of(w: u32) -> u32
     ensures { (result ≡ word_measure w) × (result ≤ 32) }
@@ -83,43 +82,43 @@ fn fill_blocks_l(s: &mut [u32], n: usize)
 }
 
 // Where the stretch of level k ends, with that of the next finer level behind it if there is one.
-fn pair_to(z: Size, k: Depth) -> usize
+fn pair_to(z: Size, k: Level) -> usize
     requires { (legal_size z ≡ true) × (1 ≤ k.0) × (k.0 ≤ z.n) }
-    ensures { (result ≡ 4 * depth_start z k.0 + 4 * depth_size z k.0 + 4 * depth_size z (k.0 - 1)) × (result ≤ work_for z) × (result < 2 ^ 32) }
+    ensures { (result ≡ 4 * level_start z k.0 + 4 * level_size z k.0 + 4 * level_size z (k.0 - 1)) × (result ≤ work_for z) × (result < 2 ^ 32) }
 {
     if k.0 < 2 {
-        return stretches::depth_to(z, k);
+        return stretches::stretch_to(z, k);
     }
-    stretches::depth_to(z, Depth(k.0 - 1))
+    stretches::stretch_to(z, Level(k.0 - 1))
 }
 
-fn fill_level_d(z: Size, k: Depth, work: &mut [u32])
+fn fill_level_d(z: Size, k: Level, work: &mut [u32])
     requires { Placed z k.0 work.old }
     ensures { LevelD z k.0 work.old work.new }
 {
-    let n = shape::depth_size(z, k);
-    let from = stretches::depth_from(z, k);
+    let n = shape::level_size(z, k);
+    let from = stretches::stretch_from(z, k);
     let to = pair_to(z, k);
     fill_blocks_d(&mut work[from..to], n);
 }
 
-fn fill_level_l(z: Size, k: Depth, work: &mut [u32])
+fn fill_level_l(z: Size, k: Level, work: &mut [u32])
     requires { Placed z k.0 work.old × (k.0 + 1 ≤ z.n) }
     ensures { LevelL z k.0 work.old work.new }
 {
-    let n = shape::depth_size(z, k);
-    let from = stretches::depth_from(z, k);
-    let to = stretches::depth_to(z, k);
+    let n = shape::level_size(z, k);
+    let from = stretches::stretch_from(z, k);
+    let to = stretches::stretch_to(z, k);
     fill_blocks_l(&mut work[from..to], n);
 }
 
 // D of the nodes of level k and of all levels under it, the same nodes' L first. Below level 3 L is empty.
 #[cycle(fill_d_fill_l)]
-fn fill_d(z: Size, k: Depth, work: &mut [u32])
-    requires { Fillable z work.old × (2 ≤ k.0) × (k.0 ≤ depths z) }
+fn fill_d(z: Size, k: Level, work: &mut [u32])
+    requires { Fillable z work.old × (2 ≤ k.0) × (k.0 ≤ levels z) }
     ensures { FilledTo z k.0 (k.0 - 1) work.old work.new }
 {
-    let down = Depth(k.0 - 1);
+    let down = Level(k.0 - 1);
     if k.0 < 3 {
         fill_level_d(z, down, work);
         return;
@@ -130,12 +129,12 @@ fn fill_d(z: Size, k: Depth, work: &mut [u32])
 
 // L of the nodes of level k, from the D of their offspring, of level k - 1.
 #[cycle(fill_d_fill_l)]
-fn fill_l(z: Size, k: Depth, work: &mut [u32])
-    requires { Fillable z work.old × (3 ≤ k.0) × (k.0 ≤ depths z) }
+fn fill_l(z: Size, k: Level, work: &mut [u32])
+    requires { Fillable z work.old × (3 ≤ k.0) × (k.0 ≤ levels z) }
     ensures { FilledTo z (k.0 - 1) (k.0 - 1) work.old work.new }
 {
-    fill_d(z, Depth(k.0 - 1), work);
-    fill_level_l(z, Depth(k.0 - 2), work);
+    fill_d(z, Level(k.0 - 1), work);
+    fill_level_l(z, Level(k.0 - 2), work);
 }
 
 // The maxima of all levels.
@@ -143,5 +142,5 @@ pub fn fill(z: Size, work: &mut [u32])
     requires { Fillable z work.old }
     ensures { Filled z work.old work.new }
 {
-    fill_d(z, Depth(z.n + 1), work);
+    fill_d(z, Level(z.n + 1), work);
 }

@@ -17,8 +17,7 @@ use Rattle.rules.specs.Laws.Family.Sizes.{legal, side_some, side_falls}
 use Rattle.rules.specs.Promises.Vocabulary.{Legal}
 use Rattle.pictures.specs.Document.Lifting.{Line, Grid, even, odd, joined, turn_back}
 use Rattle.pictures.specs.Laws.Tones.{bias, toned, sub_below, sub_least, toned_even, toned_odd}
-use Rattle.pictures.specs.Laws.Growth.{Most}
-use Rattle.pictures.specs.Laws.Turns.{turn_back_outside, returned, returned_next, returned_back}
+use Rattle.pictures.specs.Laws.Turns.{Most, turn_back_outside, returned, returned_next, returned_back}
 use Rattle.pictures.specs.Laws.Grids.{turn_back_at}
 use Rattle.pictures.specs.Laws.Room.{shallow, most_back, room_back}
 use Rattle.lifting.specs.declared.Turn.{Turn}

@@ -20,8 +20,7 @@ use Rattle.rules.specs.Promises.Vocabulary.{Legal}
 use Rattle.pictures.specs.Document.Lifting.{Line, Grid, high, low, split, columns_split, turn, forward}
 use Rattle.pictures.specs.Laws.Tones.{bias, toned, sub_below, sub_least, toned_high, toned_low}
 use Rattle.pictures.specs.Laws.Reversible.{by_block, rows_outside, columns_outside}
-use Rattle.pictures.specs.Laws.Growth.{Most}
-use Rattle.pictures.specs.Laws.Turns.{most_pixel}
+use Rattle.pictures.specs.Laws.Turns.{Most, most_pixel}
 use Rattle.pictures.specs.Laws.Grids.{turn_at}
 use Rattle.pictures.specs.Laws.Room.{shallow, room_in}
 use Rattle.lifting.specs.declared.Turn.{Turn}

@@ -10,7 +10,7 @@ use native.Mathlib.Omega.{arith}
 use native.Mathlib.Decide.{dec_lt}
 use lib.ListN.{length, get_or, set, take, drop, replicate, length-set, length-take, drop_of_length-le, replicate-append-replicate}
 use lib.Seq.{sets, take-suc, take-suc-set, take_all, take-take, drop-cons, ext_get_or}
-use Rattle.memory.specs.Stores.{stretch, stretch_length, stretch_at_lem, sets_cut, sets_append, get_d_sets_before, set_sets_before}
+use Rattle.memory.specs.Stores.{stretch, stretch_length, stretch_at, sets_cut, sets_append, get_d_sets_before, set_sets_before}
 
 -- The first i elements of s, a list that was d, are v.
 pub record Filled {A : Type 0} (v : A) (d : List A) (i : ℕ) (s : List A) : Type 0 where
@@ -56,7 +56,7 @@ module _ {from : List ℕ} {start count : ℕ} {d : List ℕ} {at : ℕ} where
         record {
           same = length-set t (at + i) (get_or from (start + i) 0) ∙ c.same;
           list =
-              rw (← stretch_at_lem start count from i 0 (omega arith), c.list, add-one)
+              rw (← stretch_at start count from i 0 (omega arith), c.list, add-one)
               (rw (take-suc vs i 0 (omega arith), sets_append d at (take i vs) (get_or vs i 0 ∷ []), e) refl);
         }
 
@@ -83,7 +83,7 @@ module _ {d : List ℕ} {start n by : ℕ} where
     unmoved m h =
         ap (λ k. get_or k (start + i) 0) m.list
         ∙ get_d_sets_before d (start + by + suc i) (drop (suc i) (stretch start n d)) (start + i) 0 (omega arith)
-        ∙ sym (stretch_at_lem start n d i 0 h)
+        ∙ sym (stretch_at start n d i 0 h)
 
     moved_suc : Moved d start n by (suc i) t → i < n → n ≤ length d - start
         → Moved d start n by i (set t (start + by + i) (get_or t (start + i) 0))
@@ -146,8 +146,8 @@ module _ (a : List ℕ) (start count : ℕ) (b : List ℕ) (from many : ℕ) whe
   at_both : {n i : ℕ} → Alike a start count b from many n i → i < n
       → (get_or (stretch start count a) i 0 ≡ get_or a (start + i) 0) × (get_or (stretch from many b) i 0 ≡ get_or b (from + i) 0)
   at_both {n} {i} k l = (
-    stretch_at_lem start count a i 0 (omega (arith, k.ours, length-take count (drop start a))),
-    stretch_at_lem from many b i 0 (omega (arith, k.theirs, length-take many (drop from b))),
+    stretch_at start count a i 0 (omega (arith, k.ours, length-take count (drop start a))),
+    stretch_at from many b i 0 (omega (arith, k.theirs, length-take many (drop from b))),
   )
 
   pub unlike_byte : (n i : ℕ) → Alike a start count b from many n i → i < n → get_or a (start + i) 0 ≢ get_or b (from + i) 0

@@ -14,8 +14,8 @@ module _ {ℓ} {A : Type ℓ} where
   pub stretch_length : (start count : ℕ) (l : List A) → length (stretch start count l) ≡ min count (length l - start)
   stretch_length start count l = length-take count (drop start l) ∙ ap (min count) (length-drop start l)
 
-  pub stretch_at_lem : (start count : ℕ) (l : List A) (j : ℕ) (d : A) → j < count → get_or (stretch start count l) j d ≡ get_or l (start + j) d
-  stretch_at_lem start count l j d h = get_or-take count (drop start l) j d h ∙ get_or-drop start l j d
+  pub stretch_at : (start count : ℕ) (l : List A) (j : ℕ) (d : A) → j < count → get_or (stretch start count l) j d ≡ get_or l (start + j) d
+  stretch_at start count l j d h = get_or-take count (drop start l) j d h ∙ get_or-drop start l j d
 
   pub sets_past : (l : List A) (i : ℕ) (vs : List A) → length l ≤ i → sets l i vs ≡ l
   sets_past l i [] h = refl

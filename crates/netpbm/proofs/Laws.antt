@@ -16,8 +16,8 @@ use Rattle.pictures.specs.declared.Grey.{Grey}
 use Rattle.pictures.specs.declared.Grey.TheVariants.{Picture, NotGrey}
 use Rattle.pictures.specs.Document.Netpbm.{line_end, blank, hash, gap_byte, digit, begins, after_comment, after_blanks, after_gap, number, GreyHeader, no_header}
 use Rattle.pictures.specs.Document.Netpbm.{header, is_p5, on_magic, on_number, last_blank, on_end, greatest_pixel, read_grey, greatest_told, told}
-use Rattle.pictures.specs.Promises.Grammar.{no_more}
-use Rattle.pictures.specs.Promises.Grammar.Gap.{a_blank}
+use Rattle.pictures.specs.Laws.GreyCauses.{no_more}
+use Rattle.pictures.specs.Laws.GreyCauses.Gap.{a_blank}
 use Rattle.pictures.specs.Laws.GreyCases.{end_blank, gap_passed}
 use Rattle.netpbm.specs.declared.Digits.{Digits}
 use Rattle.netpbm.specs.declared.Field.{Field}
@@ -43,17 +43,9 @@ module _ (b : ℕ) where
   unfolding blank
   blank_space e n q = rw (sym e ∙ n, eq-eqb b 32 q)
 
-  pub blank_tab : {x : Bool} → x ≡ line_end b → x ≡ false → ¬ (b ≡ 32) → b ≡ 9 → true ≡ blank b
+  pub blank_tab : {x : Bool} → x ≡ line_end b → x ≡ false → ¬ (b ≡ 32) → eqb b 9 ≡ blank b
   unfolding blank
-  blank_tab e n q t = rw (sym e ∙ n, ne_eqb b 32 q, eq-eqb b 9 t)
-
-  pub blank_vt : {x : Bool} → x ≡ line_end b → x ≡ false → ¬ (b ≡ 32) → ¬ (b ≡ 9) → b ≡ 11 → true ≡ blank b
-  unfolding blank
-  blank_vt e n q t v = rw (sym e ∙ n, ne_eqb b 32 q, ne_eqb b 9 t, eq-eqb b 11 v)
-
-  pub blank_ff : {x : Bool} → x ≡ line_end b → x ≡ false → ¬ (b ≡ 32) → ¬ (b ≡ 9) → ¬ (b ≡ 11) → eqb b 12 ≡ blank b
-  unfolding blank
-  blank_ff e n q t v = rw (sym e ∙ n, ne_eqb b 32 q, ne_eqb b 9 t, ne_eqb b 11 v)
+  blank_tab e n q = rw (sym e ∙ n, ne_eqb b 32 q)
 
   pub gap_of_blank : {x : Bool} → x ≡ blank b → x ≡ true → true ≡ gap_byte b
   unfolding gap_byte

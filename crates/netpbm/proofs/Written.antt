@@ -1,16 +1,13 @@
--- Numbers and the lines of a header, written piece by piece; and room behind them.
+-- Numbers and the lines of a header, written piece by piece.
 use mathlib.Core.Path.{◌≡◌, ap, sym, ◌∙◌}
-use mathlib.Core.Bool.{false}
 use mathlib.Core.List.{List, [], ◌∷◌, ◌++◌}
-use Prim.Native.Nat.{ℕ, zero, suc, ◌+◌, ◌-◌, ◌*◌, ◌/◌, ◌%◌, ◌^◌, ◌≤◌, ◌<◌}
+use Prim.Native.Nat.{ℕ, zero, suc, ◌+◌, ◌*◌, ◌/◌, ◌%◌, ◌^◌, ◌≤◌, ◌<◌}
 use native.Mathlib.Nat.{pow-suc}
 use native.Mathlib.Numerals.{add-one}
-use native.Mathlib.Decide.{dec_lt, dec_le}
+use native.Mathlib.Decide.{dec_lt}
 use native.Mathlib.Omega.{arith}
-use lib.Dec.{leb}
 use lib.ListN.{length, set, length-append}
 use lib.Seq.{sets}
-use borrow.Author.Tests.{le-leb, lt-leb}
 use Rattle.rules.specs.declared.Size.{Size}
 use Rattle.memory.specs.Stores.{sets_append}
 use Rattle.pictures.specs.Document.Netpbm.{decimal, grey_lines}
@@ -28,20 +25,19 @@ decimal_within (suc n) v l = cases (dec_lt v 10) (decimal_within n (v / 10) (let
     cases (yes u) r = omega (arith, ap length (decimal_last v u))
     cases (no u) r = omega (arith, decimal_longer v (omega arith))
 
--- A number of 64 bits has at most twenty digits.
-pub decimal_short : (v : ℕ) → v < 2 ^ 64 → length (decimal v) ≤ 20
-decimal_short v l = decimal_within 19 v (omega arith)
+pub decimal_short : (v : ℕ) → v < 10000 → length (decimal v) ≤ 4
+decimal_short v l = decimal_within 3 v l
 
 module _ {out : List ℕ} {at v : ℕ} where
-  pub wrote_last : {stored : List ℕ} → v < 10 → stored ≡ set out at (48 + v % 10) → Wrote (decimal v) at 20 out (at + 1) stored
+  pub wrote_last : {stored : List ℕ} → v < 10 → stored ≡ set out at (48 + v % 10) → Wrote (decimal v) at 4 out (at + 1) stored
   wrote_last l s =
       let e = decimal_last v l in
       let n = ap length e in
       let m : v % 10 ≡ v = omega arith in
       record { ends = omega arith; few = omega arith; list = s ∙ rw (e, m) }
 
-  pub wrote_next : {place : ℕ} {before stored : List ℕ} → 10 ≤ v → v < 2 ^ 64 → Wrote (decimal (v / 10)) at 20 out place before
-      → stored ≡ set before place (48 + v % 10) → Wrote (decimal v) at 20 out (place + 1) stored
+  pub wrote_next : {place : ℕ} {before stored : List ℕ} → 10 ≤ v → v < 10000 → Wrote (decimal (v / 10)) at 4 out place before
+      → stored ≡ set before place (48 + v % 10) → Wrote (decimal v) at 4 out (place + 1) stored
   wrote_next l k w s =
       record {
         ends = omega (arith, w.ends, decimal_longer v l);
@@ -53,13 +49,13 @@ module _ {out : List ℕ} {at v : ℕ} where
 sets_both : (out vs ws : List ℕ) (i : ℕ) → i ≡ 0 + length vs → sets (sets out 0 vs) i ws ≡ sets out 0 (vs ++ ws)
 sets_both out vs ws i e = ap (λ j. sets (sets out 0 vs) j ws) e ∙ sym (sets_append out 0 vs ws)
 
-pub wrote_width : {out first then : List ℕ} (w : ℕ) {r : ℕ} → first ≡ sets out 0 (80 ∷ 53 ∷ 10 ∷ []) → Wrote (decimal w) 3 20 first r then
-    → Wrote (width_line w) 0 23 out r then
+pub wrote_width : {out first then : List ℕ} (w : ℕ) {r : ℕ} → first ≡ sets out 0 (80 ∷ 53 ∷ 10 ∷ []) → Wrote (decimal w) 3 4 first r then
+    → Wrote (width_line w) 0 7 out r then
 unfolding width_line
 wrote_width w f d = record { ends = omega (arith, d.ends); few = omega (arith, d.few); list = d.list ∙ rw f }
 
-pub wrote_sides : {out first second then : List ℕ} (z : Size) {a r : ℕ} → Wrote (width_line z.w) 0 23 out a first → second ≡ set first a 32
-    → Wrote (decimal z.h) (a + 1) 20 second r then → Wrote (side_lines z) 0 44 out r then
+pub wrote_sides : {out first second then : List ℕ} (z : Size) {a r : ℕ} → Wrote (width_line z.w) 0 7 out a first → second ≡ set first a 32
+    → Wrote (decimal z.h) (a + 1) 4 second r then → Wrote (side_lines z) 0 12 out r then
 unfolding side_lines
 wrote_sides {out} z {a} w s d =
     let n = length-append (width_line z.w) (32 ∷ decimal z.h) in
@@ -69,8 +65,8 @@ wrote_sides {out} z {a} w s d =
       list = d.list ∙ rw (add-one, s, w.list) (sets_both out (width_line z.w) (32 ∷ decimal z.h) a w.ends);
     }
 
-pub wrote_lines : {out first then : List ℕ} (z : Size) {b : ℕ} → Wrote (side_lines z) 0 44 out b first
-    → then ≡ sets first b (10 ∷ 50 ∷ 53 ∷ 53 ∷ 10 ∷ []) → Wrote (grey_lines z) 0 49 out (b + 5) then
+pub wrote_lines : {out first then : List ℕ} (z : Size) {b : ℕ} → Wrote (side_lines z) 0 12 out b first
+    → then ≡ sets first b (10 ∷ 50 ∷ 53 ∷ 53 ∷ 10 ∷ []) → Wrote (grey_lines z) 0 17 out (b + 5) then
 unfolding side_lines width_line grey_lines
 wrote_lines {out} z {b} w g =
     let n = length-append (side_lines z) (10 ∷ 50 ∷ 53 ∷ 53 ∷ 10 ∷ []) in
@@ -79,14 +75,3 @@ wrote_lines {out} z {b} w g =
       few = omega (arith, w.few);
       list = g ∙ rw w.list (sets_both out (side_lines z) (10 ∷ 50 ∷ 53 ∷ 53 ∷ 10 ∷ []) b w.ends);
     }
-
--- Room behind a place.
-pub room_none : (room at count : ℕ) → room < at → false ≡ leb (at + count) room
-room_none room at count l = sym (lt-leb (at + count) room (omega arith))
-
-pub room_left : (room at count : ℕ) → at ≤ room → leb count (room - at) ≡ leb (at + count) room
-room_left room at count l = by (dec_le count (room - at))
-  where
-    by : Dec (count ≤ room - at) → leb count (room - at) ≡ leb (at + count) room
-    by (yes h) = le-leb count (room - at) h ∙ sym (le-leb (at + count) room (omega arith))
-    by (no h) = lt-leb count (room - at) (omega arith) ∙ sym (lt-leb (at + count) room (omega arith))

@@ -1,4 +1,3 @@
 pub mod Told
-pub mod Found
 pub mod Places
 pub mod Wrote

@@ -1,7 +1,5 @@
 // Binary grey files: the header of a file read, and that of a picture written.
 ghost use Rattle.std.specs.Prelude.{◌≡◌, true, ◌+◌, ◌-◌, ◌*◌, ◌^◌, ◌≤◌, ◌<◌, leb, length, get_or, set, drop};
-ghost use Rattle.std.proofs.lemmas.List.Edits.{sets};
-ghost use Rattle.rules.specs.Document.Notation.{zeros};
 ghost use Rattle.pictures.specs.Document.Netpbm.{line_end, blank, gap_byte, digit, after_comment, after_gap, is_p5, last_blank, read_grey, told, decimal, grey_lines};
 ghost use Rattle.netpbm.specs.Places.{Moved, DigitsAt, FieldAt, EndTold, GreatestTold};
 ghost use Rattle.netpbm.specs.Told.{Tells};
@@ -44,13 +42,7 @@ fn is_blank(b: u8) -> bool
     if is_line_end(b) {
         return true;
     }
-    if b == 32 {
-        return true;
-    }
-    if b == 9 {
-        return true;
-    }
-    if b == 11 { true } else { b == 12 }
+    if b == 32 { true } else { b == 9 }
 }
 
 fn in_gap(b: u8) -> bool
@@ -242,8 +234,8 @@ fn store(out: &mut [u8], at: usize, byte: u8)
 
 // Writes a number from a place on, as far as the slice reaches, and answers the place after it.
 fn write_decimal(out: &mut [u8], at: usize, value: usize) -> usize
-    requires { at < 2 ^ 32 }
-    ensures { Wrote (decimal value) at 20 out.old result out.new }
+    requires { (value < 10000) × (at < 2 ^ 32) }
+    ensures { Wrote (decimal value) at 4 out.old result out.new }
 {
     let last = (48 + value % 10) as u8;
     if value < 10 {
@@ -256,14 +248,16 @@ fn write_decimal(out: &mut [u8], at: usize, value: usize) -> usize
 }
 
 fn write_width(out: &mut [u8], width: usize) -> usize
-    ensures { Wrote (width_line width) 0 23 out.old result out.new }
+    requires { width < 10000 }
+    ensures { Wrote (width_line width) 0 7 out.old result out.new }
 {
     memory::copy(b"P5\n", 0, 3, out, 0);
     write_decimal(out, 3, width)
 }
 
 fn write_sides(z: Size, out: &mut [u8]) -> usize
-    ensures { Wrote (side_lines z) 0 44 out.old result out.new }
+    requires { (z.w < 10000) × (z.h < 10000) }
+    ensures { Wrote (side_lines z) 0 12 out.old result out.new }
 {
     let behind_width = write_width(out, z.w);
     store(out, behind_width, 32);
@@ -271,25 +265,11 @@ fn write_sides(z: Size, out: &mut [u8]) -> usize
 }
 
 // Writes the lines in front of the pixels, as far as the slice reaches, and answers how many bytes they are.
-fn write_header(z: Size, out: &mut [u8]) -> usize
-    ensures { Wrote (grey_lines z) 0 49 out.old result out.new }
+pub fn write_header(z: Size, out: &mut [u8]) -> usize
+    requires { (z.w < 10000) × (z.h < 10000) }
+    ensures { Wrote (grey_lines z) 0 17 out.old result out.new }
 {
     let behind_height = write_sides(z, out);
     memory::copy(b"\n255\n", 0, 5, out, behind_height);
     behind_height + 5
-}
-
-// The lines in front of the pixels, in an output that is 0 behind them. Answers how many bytes they are.
-pub fn write_lines(z: Size, out: &mut [u8]) -> usize
-    ensures { (result ≡ length (grey_lines z)) × (out.new ≡ sets (zeros (length out.old)) 0 (grey_lines z)) }
-{
-    memory::zero_u8(out);
-    write_header(z, out)
-}
-
-// Whether so many pixels have room from a place on. The sum is not formed: nothing bounds the two.
-pub fn has_room(room: usize, at: usize, count: usize) -> bool
-    ensures { result ≡ leb (at + count) room }
-{
-    if room < at { false } else { count <= room - at }
 }

@@ -1,4 +1,4 @@
--- How the lists begin: coefficients of the LL band listed one after another by their tree numbers, in the highest level's stretch.
+-- How the lists begin: coefficients of the LL band listed one after another by their tree numbers, in the stretch of level N+1.
 use mathlib.Core.Path.{◌≡◌, refl, sym, ap, ap₂, ◌∙◌, subst}
 use mathlib.Core.Bool.{Bool, true, false, cond, ◌&&◌, ◌||◌}
 use mathlib.Core.List.{List, [], ◌∷◌, ◌++◌, map, append_assoc, append-nil}
@@ -16,25 +16,25 @@ use borrow.Author.Tests.{le-leb, eq-eqb, ne_eqb}
 use borrow.Rule.Slice.PartMut.{mid_of, put_mid, post_of, mid_len, same_len_mid}
 use Rattle.rules.specs.declared.Size.{Size}
 use Rattle.rules.specs.Document.Notation.{flat, if_any}
-use Rattle.rules.specs.Document.Pyramid.{greatest_side, legal_size, area, depths, levels, level_of, odd, block, offspring_of}
+use Rattle.rules.specs.Document.Pyramid.{greatest_side, legal_size, area, levels, level_of, odd, block, offspring_of}
 use Rattle.rules.specs.Document.Passes.{Entry, typeA, Lists, from, rows, band_ll}
 use Rattle.rules.specs.Document.Calls.{level_places, work_for}
 use Rattle.rules.specs.Laws.Counting.Sums.{All, every_all, if_any_some, flat_append}
-use Rattle.rules.specs.Laws.Family.Sizes.{legal, area_bound, span_most, level_start, start_of_top, level_size, size_of_top}
+use Rattle.rules.specs.Laws.Family.Sizes.{legal, area_bound, span_most, level_start, level_start_top, level_size, level_size_top}
 use Rattle.rules.specs.Laws.Offspring.Block.{row_index, column_index, block_ll, offspring_band}
-use Rattle.rules.specs.Laws.Offspring.Level.{part_top, level_area}
+use Rattle.rules.specs.Laws.Offspring.Level.{level_area}
 use Rattle.rules.specs.Laws.Offspring.Once.{band_level}
 use Rattle.rules.specs.Laws.Offspring.Start.{band_length}
 use Rattle.rules.specs.Laws.Pass.Slots.{room_slots}
 use Rattle.rules.specs.Promises.Vocabulary.{Legal}
-use Rattle.trees.specs.Family.{span_falls, tree_part, tree_offspring, coefficient_of, offspring_same}
+use Rattle.trees.specs.Family.{tree_level, tree_offspring, coefficient_of, level_same, offspring_same}
 use Rattle.trees.specs.Lawful.{trees_lawful}
 use Rattle.trees.specs.Renamed.{map-append, map_length}
 use Rattle.trees.specs.Run.{number_of, tree_root, tree_start, coefficient_number}
-use Rattle.trees.specs.Sound.{number_part, tree_start_sound, tree_part_room, tree_level_area}
+use Rattle.trees.specs.Sound.{tree_start_sound, tree_part_room, tree_level_area}
 use Rattle.stretches.specs.Seg.{seg, seg_same}
-use Rattle.stretches.specs.Cut.{maxima_same, stretch_at, set_room, maxima_in, stretch_of}
-use Rattle.stretches.specs.Workspace.{maximum_of, word_in, maximum_in}
+use Rattle.stretches.specs.Cut.{set_room, maxima_in, stretch_of}
+use Rattle.stretches.specs.Workspace.{word_in, maximum_in}
 use Rattle.lists.specs.declared.Role.{Role}
 use Rattle.lists.specs.declared.Stretch.{Stretch}
 use Rattle.lists.specs.declared.Fill.{Fill}
@@ -44,7 +44,7 @@ use Rattle.lists.specs.Besides.{beside_none, beside_then, marked_lent}
 use Rattle.parts.specs.declared.Counts.{Counts}
 use Rattle.parts.specs.Standing.{count_at, nothing, lists_at, state_of, stretch_by, Started}
 use Rattle.parts.specs.Begin.{empty, lengths, row_of, band_at, InBand, Listing, Listed}
-use Rattle.stretches.specs.Levels.{level_place, level_some, level_before, stretch_at_lem, word_in_lem, put_behind}
+use Rattle.stretches.specs.Levels.{level_place, level_some, level_before, stretch_at, word_in_lem, put_behind}
 
 -- lists joined
 all_first : {X : Type 0} (P : X → Type 0) (xs ys : List X) → All P (xs ++ ys) → All P xs
@@ -95,7 +95,7 @@ roots_length : (z : Size) (ps qs : List ℕ) → length (roots_of z (ps ++ qs)) 
 roots_length z ps qs = ap length (roots_append z ps qs) ∙ length-append (roots_of z ps) (roots_of z qs)
 
 -- Which coefficients of the band have offspring, by row and column.
-module _ (z : Size) (Z : Legal z) {i j : ℕ} (h : InBand z i j) (top : level_of z (band_at z i j) ≡ depths z) where
+module _ (z : Size) (Z : Legal z) {i j : ℕ} (h : InBand z i j) (top : level_of z (band_at z i j) ≡ levels z) where
   offspring_count : length (tree_offspring z (number_of z (band_at z i j))) ≡ length (offspring_of z (band_at z i j))
   offspring_count =
       let q : ℕ = band_at z i j in
@@ -211,18 +211,19 @@ module _ (z : Size) where
 
   -- what one coefficient asks for
   module _ {p : ℕ} {t : Stretch} {s : List ℕ} {f : Fill} (A : Listing z (p ∷ []) t s f) where
-    one_top : level_of z p ≡ depths z
+    one_top : level_of z p ≡ levels z
     unfolding All
     one_top = A.band.0
 
-    -- its tree number is one of depth N+1
+    -- its tree number is one of level N+1
     pub one_inside : {x : ℕ} → x ≡ number_of z p → Inside t x × (x < 2 ^ 26)
     one_inside {x} e =
         let Z = legal z A.legal in
-        let top : tree_part z x ≡ levels z =
-        ap (tree_part z) e ∙ number_part z Z p (level_area z Z p (omega (arith, one_top))) ∙ part_top z p (omega (arith, one_top, Z.few_levels)) in
-        let place = level_place z Z (levels z) Z.some_levels Z.few_levels (levels z) x top Z.some_levels in
-        let small = tree_level_area z Z x (omega (arith, top, Z.some_levels)) in
+        let top : tree_level z x ≡ levels z =
+        ap (tree_level z) e ∙ sym (level_same z Z (number_of z p))
+        ∙ ap (level_of z) (coefficient_number z Z p (level_area z Z p (omega (arith, one_top)))) ∙ one_top in
+        let place = level_place z Z (levels z) x top (omega arith) in
+        let small = tree_level_area z Z x (omega (arith, top)) in
         ((omega (arith, place.1, A.first), omega (arith, place.2, A.first, A.count)), omega (arith, small, area_bound z A.legal))
 
     one_slot : {x : ℕ} {s₁ : List ℕ} {f₁ : Fill} → 1 ≤ length (tree_offspring z (number_of z p)) → LipPushed t s f x s₁ f₁
@@ -312,25 +313,17 @@ left_band {z} {t} {s} {f} A =
 pub side_under : (n w i : ℕ) → w ≤ greatest_side → i < w / 2 ^ n → i < greatest_side
 side_under n w i e h = omega (arith, shr_le w n)
 
--- the highest level has its place in the counts
-pub few_counts : (z : Size) → legal_size z ≡ true → (1 ≤ levels z) × (levels z ≤ 9)
-few_counts z e = let Z : Legal z = legal z e in (Z.some_levels, omega (arith, Z.few, Z.few_levels))
+-- the size of level N+1, as the code counts it
+pub top_size : (z : Size) {n : ℕ} → n ≡ level_size z (z.n + 1) → n ≡ level_size z (levels z)
+top_size z i = i ∙ ap (level_size z) (add-one z.n)
 
--- the size of the highest level, as the code counts levels
-pub top_size : (z : Size) {n t : ℕ} → t ≡ levels z → n ≡ level_size z t → n ≡ level_size z (levels z)
-top_size z e i = i ∙ ap (level_size z) e
-
-pub top_under : (z : Size) {n : ℕ} → legal_size z ≡ true → n ≡ level_size z (levels z) → (n ≤ area z) × (n < 2 ^ 32)
+pub top_under : (z : Size) {n : ℕ} → legal_size z ≡ true → n ≡ level_size z (z.n + 1) → (n ≤ area z) × (n < 2 ^ 32)
 top_under z {n} e i =
     let Z : Legal z = legal z e in
-    let l : n ≤ area z = omega (
-      arith,
-      size_of_top z Z (levels z) Z.some_levels Z.few_levels,
-      span_most z Z (levels z - 1) (omega (arith, Z.few_levels)),
-    ) in
+    let l : n ≤ area z = omega (arith, top_size z i, level_size_top z Z, span_most z Z z.n (omega arith)) in
     (l, omega (arith, area_bound z e))
 
-pub top_room : (z : Size) {n m : ℕ} → legal_size z ≡ true → n ≡ level_size z (levels z) → work_for z ≤ m → 4 * n ≤ m
+pub top_room : (z : Size) {n m : ℕ} → legal_size z ≡ true → n ≡ level_size z (z.n + 1) → work_for z ≤ m → 4 * n ≤ m
 top_room z e i h = omega (arith, (top_under z e i).0)
 
 abbrev top_stretch : Role → ℕ → Stretch
@@ -344,7 +337,7 @@ start_none : (z : Size) (k : ℕ) → k ≢ levels z → tree_start z k ≡ noth
 unfolding tree_start
 start_none z k d = rw (ne_eqb k (levels z) d)
 
--- The LL band can be listed in the highest level's stretch.
+-- The LL band can be listed in the stretch of level N+1.
 pub band_listing : (role : Role) (z : Size) (n : ℕ) (work : List ℕ) → legal_size z ≡ true → n ≡ level_size z (levels z) → 4 * n ≤ length work
     → Listing z (band_ll z) (top_stretch role n) (mid_of 0 (4 * n - 0) work) empty
 band_listing role z n work e i h =
@@ -363,25 +356,20 @@ band_listing role z n work e i h =
         behind = omega arith;
         moved = omega arith;
       };
-      size = omega (arith, (top_under z e i).1);
-      first = sym (start_of_top z (levels z));
+      size = omega (arith, level_size_top z Z, span_most z Z z.n (omega arith), area_bound z e);
+      first = sym (level_start_top z);
       count = i;
-      coefficients = omega (
-        arith,
-        size_of_top z Z (levels z) Z.some_levels Z.few_levels,
-        band_length z,
-        span_falls z (levels z - 1) z.n (omega (arith, Z.few_levels)),
-      );
+      coefficients = omega (arith, level_size_top z Z, band_length z);
       sets =
           sets_fit n _
           (omega (
             arith,
-            room_slots (trees_lawful z Z) (tree_part_room z Z (tree_start_sound z Z) (levels z) Z.some_levels (omega arith)),
+            room_slots (trees_lawful z Z) (tree_part_room z Z (tree_start_sound z Z) (levels z) (omega arith) (omega arith)),
             ap (λ l. length l.lis) (start_lis z),
           ));
     }
 
--- the counts: none but those of the highest level
+-- the counts: none but those of level N+1
 abbrev none : List ℕ
 none = replicate level_places 0
 
@@ -395,13 +383,13 @@ none_at i = go level_places i
 
 module _ (role : Role) (z : Size) (r : Fill) where
   abbrev counts : Counts
-  counts = record { lip = set none (levels z - 1) r.lip; lsp = none; lis = set none (levels z - 1) r.left }
+  counts = record { lip = set none z.n r.lip; lsp = none; lis = set none z.n r.left }
 
-  counts_top : (x : ℕ) → levels z - 1 < level_places → count_at (set none (levels z - 1) x) (levels z) ≡ x
-  counts_top x h = get_or-set_same none (levels z - 1) x 0 h
+  counts_top : (x : ℕ) → z.n < level_places → count_at (set none z.n x) (levels z) ≡ x
+  counts_top x h = let i : levels z - 1 ≡ z.n = omega arith in ap (λ (j : ℕ). get_or (set none z.n x) j 0) i ∙ get_or-set_same none z.n x 0 h
 
-  counts_else : (x k : ℕ) → 1 ≤ k → 1 ≤ levels z → k ≢ levels z → count_at (set none (levels z - 1) x) k ≡ 0
-  counts_else x k c h d = get_or-set_other none (levels z - 1) (k - 1) x 0 (λ i. d (omega arith)) ∙ none_at (k - 1)
+  counts_else : (x k : ℕ) → 1 ≤ z.n → k ≢ levels z → count_at (set none z.n x) k ≡ 0
+  counts_else x k h d = get_or-set_other none z.n (k - 1) x 0 (λ i. d (omega arith)) ∙ none_at (k - 1)
 
   module _ (e : legal_size z ≡ true) (n : ℕ) (i : n ≡ level_size z (levels z)) (work ys : List ℕ) (h : 4 * n ≤ length work)
       (l : length ys ≡ length (mid_of 0 (4 * n - 0) work))
@@ -416,16 +404,16 @@ module _ (role : Role) (z : Size) (r : Fill) where
     many = omega (arith, mid_len 0 (4 * n) work h)
 
     top_stretch_lem : stretch_of z (levels z) work' ≡ ys
-    unfolding stretch_at seg
+    unfolding stretch_of seg
     top_stretch_lem =
-        let a : 4 * level_start z (levels z) ≡ 0 = omega (arith, start_of_top z (levels z)) in
+        let a : 4 * level_start z (levels z) ≡ 0 = omega (arith, level_start_top z) in
         let b : 4 * level_size z (levels z) ≡ 4 * n = omega arith in
         ap₂ (λ (x y : ℕ). take y (drop x work')) a b ∙ take_at ys (post_of 0 (4 * n - 0) work) (4 * n) many
 
     top_before : stretch_of z (levels z) work ≡ mid_of 0 (4 * n - 0) work
-    unfolding stretch_at seg
+    unfolding stretch_of seg
     top_before =
-        let a : 4 * level_start z (levels z) ≡ 0 = omega (arith, start_of_top z (levels z)) in
+        let a : 4 * level_start z (levels z) ≡ 0 = omega (arith, level_start_top z) in
         let b : 4 * level_size z (levels z) ≡ 4 * n - 0 = omega arith in
         ap₂ (λ (x y : ℕ). take y (drop x work)) a b
 
@@ -444,11 +432,11 @@ module _ (role : Role) (z : Size) (r : Fill) where
     top_lists : state_of z work' counts (levels z) ≡ tree_start z (levels z)
     unfolding state_of lists_at
     top_lists =
-        let few : levels z - 1 < level_places = omega (arith, Z.few, Z.few_levels) in
+        let few : z.n < level_places = omega (arith, Z.few) in
         let v : r.visited ≡ 0 = ap (λ f. f.visited) B.fill in
         let p : r.lsp ≡ 0 = ap (λ f. f.lsp) B.fill in
         rw (
-          le-leb 1 (levels z) Z.some_levels,
+          le-leb 1 (levels z) (omega arith),
           le-leb (levels z) (levels z) (omega arith),
           top_stretch_lem,
           ← i,
@@ -460,81 +448,59 @@ module _ (role : Role) (z : Size) (r : Fill) where
 
     other_lists : (k : ℕ) → k ≢ levels z → state_of z work' counts k ≡ tree_start z k
     unfolding state_of lists_at
-    other_lists zero d = sym (start_none z 0 d)
-    other_lists (suc k) d =
+    other_lists k d =
         rw (
-          counts_else r.lip (suc k) (omega arith) Z.some_levels d,
-          counts_else r.left (suc k) (omega arith) Z.some_levels d,
-          none_at (suc k - 1),
-          lists_none (level_size z (suc k)) (stretch_of z (suc k) work'),
-          start_none z (suc k) d,
+          counts_else r.lip k Z.some d,
+          counts_else r.left k Z.some d,
+          none_at (k - 1),
+          lists_none (level_size z k) (stretch_of z k work'),
+          start_none z k d,
         )
-        (either (leb 1 (suc k) && leb (suc k) (levels z)))
+        (either (leb 1 k && leb k (levels z)))
       where
         either : (b : Bool) → cond {A = Lists} b nothing nothing ≡ nothing
         either true = refl
         either false = refl
 
-    -- what is no list of the highest level is as it was
+    -- what is no list of level N+1 is as it was
     behind : (p : ℕ) → 4 * n ≤ p → get_or work' p 0 ≡ get_or work p 0
     behind p g = put_behind 0 (4 * n) work ys p (omega arith) h (omega (arith, many)) g
 
-    other_at : (k j : ℕ) → 1 ≤ k → k < levels z → j < 4 * level_size z k → get_or (stretch_of z k work') j 0 ≡ get_or (stretch_of z k work) j 0
+    other_at : (k j : ℕ) → 1 ≤ k → k ≤ z.n → j < 4 * level_size z k → get_or (stretch_of z k work') j 0 ≡ get_or (stretch_of z k work) j 0
     other_at k j a b g =
-        stretch_at_lem z Z (levels z) Z.some_levels Z.few_levels work' k j g ∙ behind _ (omega (
-          arith,
-          level_before z Z (levels z) Z.some_levels Z.few_levels (levels z) k a (omega arith) (omega arith),
-        ))
-        ∙ sym (stretch_at_lem z Z (levels z) Z.some_levels Z.few_levels work k j g)
+        stretch_at z Z work' k j g ∙ behind _ (omega (arith, level_before z Z (levels z) k a (omega arith) (omega arith))) ∙ sym (stretch_at z Z work k j g)
 
     top_at : (j : ℕ) → j < n → get_or (stretch_of z (levels z) work') j 0 ≡ get_or (stretch_of z (levels z) work) j 0
     top_at j g = ap (λ s. get_or s j 0) top_stretch_lem ∙ B.beside.values j g ∙ ap (λ s. get_or s j 0) (sym top_before)
 
     words_same : (x : ℕ) → x < area z → word_in z work' x ≡ word_in z work x
-    words_same x g = by (ℕ_discrete (tree_part z x) (levels z))
+    words_same x g = by (ℕ_discrete (tree_level z x) (levels z))
       where
-        some : 1 ≤ tree_part z x
-        some = level_some z Z (levels z) Z.some_levels Z.few_levels x g
+        some : 1 ≤ tree_level z x
+        some = level_some z Z x g
 
-        by : Dec (tree_part z x ≡ levels z) → word_in z work' x ≡ word_in z work x
+        by : Dec (tree_level z x ≡ levels z) → word_in z work' x ≡ word_in z work x
         by (yes u) =
-            let p = level_place z Z (levels z) Z.some_levels Z.few_levels (levels z) x u Z.some_levels in
-            word_in_lem z Z (levels z) Z.some_levels Z.few_levels work' (levels z) x u Z.some_levels ∙ top_at _ (omega (arith, p.1, p.2))
-            ∙ sym (word_in_lem z Z (levels z) Z.some_levels Z.few_levels work (levels z) x u Z.some_levels)
+            let p = level_place z Z (levels z) x u (omega arith) in
+            word_in_lem z Z work' (levels z) x u (omega arith) ∙ top_at _ (omega (arith, p.1, p.2)) ∙ sym (word_in_lem z Z work (levels z) x u (omega arith))
         by (no d) =
-            let k = tree_part z x in
-            let p = level_place z Z (levels z) Z.some_levels Z.few_levels k x refl some in
-            word_in_lem z Z (levels z) Z.some_levels Z.few_levels work' k x refl some
-            ∙ other_at k _ some (omega (arith, p.0, d)) (omega (arith, p.1, p.2))
-            ∙ sym (word_in_lem z Z (levels z) Z.some_levels Z.few_levels work k x refl some)
+            let k = tree_level z x in
+            let p = level_place z Z k x refl some in
+            word_in_lem z Z work' k x refl some
+            ∙ other_at k _ some (omega (arith, p.0)) (omega (arith, p.1, p.2))
+            ∙ sym (word_in_lem z Z work k x refl some)
 
-    maxima_below : (k j : ℕ) → 1 ≤ k → k < levels z → maximum_in z work' k j ≡ maximum_in z work k j
-    unfolding maximum_of stretch_at
-    maxima_below k j a b =
+    maxima_same : (k j : ℕ) → 1 ≤ k → k ≤ z.n → maximum_in z work' k j ≡ maximum_in z work k j
+    unfolding maximum_in stretch_of
+    maxima_same k j a b =
         ap (λ s. get_or (maxima_in (level_size z k) s) j 0)
         (seg_same (4 * level_start z k) (4 * level_size z k) work work' (same_len_mid 0 (4 * n - 0) work ys l)
-        (λ p u v. behind p (omega (arith, level_before z Z (levels z) Z.some_levels Z.few_levels (levels z) k a (omega arith) (omega arith)))))
-
-    maxima_top : (j : ℕ) → maximum_in z work' (levels z) j ≡ maximum_in z work (levels z) j
-    unfolding maximum_of
-    maxima_top j =
-        ap (λ s. get_or (maxima_in (level_size z (levels z)) s) j 0) top_stretch_lem
-        ∙ ap (λ (m : ℕ). get_or (maxima_in m ys) j 0) (sym i)
-        ∙ ap (λ s. get_or s j 0) (maxima_same n (mid_of 0 (4 * n - 0) work) ys B.beside.long (λ p u v. B.beside.others p u v))
-        ∙ ap (λ (m : ℕ). get_or (maxima_in m (mid_of 0 (4 * n - 0) work)) j 0) i
-        ∙ ap (λ s. get_or (maxima_in (level_size z (levels z)) s) j 0) (sym top_before)
-
-    maxima_all : (k j : ℕ) → 1 ≤ k → k ≤ levels z → maximum_in z work' k j ≡ maximum_in z work k j
-    maxima_all k j a b = by (ℕ_discrete k (levels z))
-      where
-        by : Dec (k ≡ levels z) → maximum_in z work' k j ≡ maximum_in z work k j
-        by (yes d) = subst (λ (x : ℕ). maximum_in z work' x j ≡ maximum_in z work x j) (sym d) (maxima_top j)
-        by (no d) = maxima_below k j a (omega arith)
+        (λ p u v. behind p (omega (arith, level_before z Z (levels z) k a (omega arith) (omega arith)))))
 
     -- LIP's entries are marked; the other levels have none
     top_marks : (i : ℕ) → i < r.lip
         → Marked (stretch_by role z (levels z)) (stretch_of z (levels z) work') (lip_at (level_size z (levels z)) i (stretch_of z (levels z) work'))
-    top_marks j l = rw (top_stretch_lem, ← i, start_of_top z (levels z)) (marked_lent (λ c x g. refl) (B.fits.marked j l))
+    top_marks j l = rw (top_stretch_lem, ← i, level_start_top z) (marked_lent (λ c x g. refl) (B.fits.marked j l))
 
     pub started : Started role z work counts work'
     started =
@@ -542,27 +508,17 @@ module _ (role : Role) (z : Size) (r : Fill) where
           lists = record { lists = λ k. by k (ℕ_discrete k (levels z)) };
           same = same_len_mid 0 (4 * n - 0) work ys l;
           words = words_same;
-          maxima = maxima_all;
-          marks = record { lips = λ k j a b l. marked k j a (ℕ_discrete k (levels z)) l };
+          maxima = maxima_same;
+          marks = record { lips = λ k j a b l. marked k j (ℕ_discrete k (levels z)) l };
         }
       where
-        marked : (k j : ℕ) → 1 ≤ k → Dec (k ≡ levels z) → j < count_at counts.lip k
+        marked : (k j : ℕ) → Dec (k ≡ levels z) → j < count_at counts.lip k
             → Marked (stretch_by role z k) (stretch_of z k work') (lip_at (level_size z k) j (stretch_of z k work'))
-        marked k j a (yes d) l =
+        marked k j (yes d) l =
             subst (λ (x : ℕ). Marked (stretch_by role z x) (stretch_of z x work') (lip_at (level_size z x) j (stretch_of z x work'))) (sym d)
-            (top_marks j (omega (arith, ap (count_at counts.lip) d, counts_top r.lip (omega (arith, Z.few, Z.few_levels)))))
-        marked k j a (no d) l = absurd (omega (arith, counts_else r.lip k a Z.some_levels d))
+            (top_marks j (omega (arith, ap (count_at counts.lip) d, counts_top r.lip (omega (arith, Z.few)))))
+        marked k j (no d) l = absurd (omega (arith, counts_else r.lip k Z.some d))
 
         by : (k : ℕ) → Dec (k ≡ levels z) → state_of z work' counts k ≡ tree_start z k
         by k (yes j) = subst (λ (x : ℕ). state_of z work' counts x ≡ tree_start z x) (sym j) top_lists
         by k (no d) = other_lists k d
-
--- the same, with the counts as the code sets them
-pub started_by : (role : Role) (z : Size) (r : Fill) {t : ℕ} → t ≡ levels z → (e : legal_size z ≡ true) (n : ℕ) → n ≡ level_size z (levels z) → (work ys : List ℕ)
-    → 4 * n ≤ length work → length ys ≡ length (mid_of 0 (4 * n - 0) work)
-    → Listed z (band_ll z) (top_stretch role n) (mid_of 0 (4 * n - 0) work) empty ys r
-    → Started role z work (record { lip = set none (t - 1) r.lip; lsp = none; lis = set none (t - 1) r.left }) (put_mid 0 (4 * n - 0) work ys)
-started_by role z r {t} d e n i work ys h l B =
-    subst (λ (x : ℕ). Started role z work
-    (record { lip = set none (x - 1) r.lip; lsp = none; lis = set none (x - 1) r.left }) (put_mid 0 (4 * n - 0) work ys))
-    (sym d) (started role z r e n i work ys h l B)

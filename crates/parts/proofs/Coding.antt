@@ -3,7 +3,7 @@
 use mathlib.Core.Path.{◌≡◌, refl, sym, ap, ap₂, ◌∙◌}
 use mathlib.Core.List.{List, [], ◌∷◌, ◌++◌}
 use mathlib.Core.Bool.{Bool}
-use Prim.Native.Nat.{ℕ, ◌+◌, ◌-◌, ◌*◌, ◌/◌, ◌%◌, ◌≤◌, ◌<◌, ◌^◌}
+use Prim.Native.Nat.{ℕ, suc, ◌+◌, ◌-◌, ◌*◌, ◌/◌, ◌%◌, ◌≤◌, ◌<◌, ◌^◌}
 use native.Mathlib.Nat.{add-zero}
 use native.Mathlib.Omega.{arith}
 use lib.Dec.{leb, ltb, eqb}
@@ -17,20 +17,20 @@ use Rattle.bits.specs.declared.BitPosition.{BitPosition}
 use Rattle.bits.specs.Bits.{set_bit, write_bits}
 use Rattle.bits.specs.Written.{write_bits_append}
 use Rattle.rules.specs.Document.Notation.{greatest}
-use Rattle.rules.specs.Document.Pyramid.{levels, area, most_planes, magnitude, negative, below0}
+use Rattle.rules.specs.Document.Pyramid.{area, most_planes, magnitude, negative, below0}
 use Rattle.rules.specs.Document.Passes.{Entry, typeA, typeB, members, Question, significant?, negative?, bit?, set?, Course, State, truth}
 use Rattle.rules.specs.Document.Passes.{coder, coded}
-use Rattle.rules.specs.Laws.Family.Sizes.{size_of_end, level_end, level_start, level_size}
+use Rattle.rules.specs.Laws.Family.Sizes.{span, level_start, level_size, level_size_fine, span_quarter}
 use Rattle.rules.specs.Laws.Pass.Levels.{Met}
 use Rattle.rules.specs.Promises.Vocabulary.{Legal}
-use Rattle.trees.specs.Family.{tree_part, trees, coefficient_of}
+use Rattle.trees.specs.Family.{tree_level, trees, coefficient_of}
 use Rattle.trees.specs.Lawful.{trees_lawful}
 use Rattle.trees.specs.Measure.{kept_of, kept_set}
 use Rattle.trees.specs.Sound.{tree_level_area}
 use Rattle.trees.specs.Within.{QuestionOf, EventOf, Agreeing, Related, passed_related, after_related}
 use Rattle.coefficients.specs.Words.{worded, magnitude_word, negative_word, magnitude_word_lem, negative_word_lem}
 use Rattle.stretches.specs.Cut.{values_in, largest_d, largest_l, stretch_of}
-use Rattle.stretches.specs.Workspace.{word_in, maximum_of, maximum_in, Maxima, Holds}
+use Rattle.stretches.specs.Workspace.{word_in, maximum_in, Maxima, Holds}
 use Rattle.lists.specs.declared.Role.TheVariants.{Codes}
 use Rattle.testing.specs.declared.Run.{Run}
 use Rattle.testing.specs.Exchange.{Chan, chan, word_at, largest_at, words_tell, answer, noted, side}
@@ -38,8 +38,8 @@ use Rattle.parts.specs.declared.Counts.{Counts}
 use Rattle.parts.specs.declared.Passed.{Passed}
 use Rattle.parts.specs.Standing.{state_of, Ready, course_c, CodedFrom, PartCoded}
 use Rattle.parts.specs.Workspace.{run_of, course_in, PartRun}
-use Rattle.stretches.specs.Levels.{level_blocks, level_place, level_some, word_in_lem}
-use Rattle.parts.proofs.Nodes.{type_a_place, type_b_place, start_fours, elders_whole}
+use Rattle.stretches.specs.Levels.{level_place, level_some, word_in_lem}
+use Rattle.parts.proofs.Nodes.{type_a_place, type_b_place}
 use Rattle.parts.proofs.Growing.{word_here}
 
 -- a word's magnitude and sign
@@ -69,8 +69,7 @@ put_next out vs at bits b =
     let m : at + length bits + 1 ≡ at + length (bits ++ (b ∷ [])) = omega (arith, length-append bits (b ∷ [])) in
     ap₂ (λ x i. chan x vs i) (sym (write_bits_append out at bits (b ∷ []) ∙ written_one (write_bits out at bits) (at + length bits) b)) m
 
-module _ (z : Size) (Z : Legal z) (plane : Plane) (level : Level) (counts : Counts)
-    (at : BitPosition) (work : List ℕ) (a : 1 ≤ level.0) (most : level.0 ≤ levels z) where
+module _ (z : Size) (Z : Legal z) (plane : Plane) (level : Level) (counts : Counts) (at : BitPosition) (work : List ℕ) (a : 1 ≤ level.0) where
   abbrev R : Run
   R = run_of Codes z plane level counts at at
 
@@ -87,19 +86,17 @@ module _ (z : Size) (Z : Legal z) (plane : Plane) (level : Level) (counts : Coun
     abbrev neg : ℕ → Bool
     neg x = negative v (coefficient_of z x)
 
-    word_worded : (x : ℕ) → tree_part z x ≡ k → word_at R s x ≡ worded (get_or v (coefficient_of z x) (pos 0))
+    word_worded : (x : ℕ) → tree_level z x ≡ k → word_at R s x ≡ worded (get_or v (coefficient_of z x) (pos 0))
     word_worded x e = word_here z Z work k x e a ∙ H.words x (tree_level_area z Z x (omega arith))
 
     largest_kept : (e : Entry) → Met (trees z) k e → largest_at R s e ≡ greatest (λ x. kept_of (mag x)) (members (trees z) e)
-    unfolding largest_at kept_of maximum_of largest_d largest_l
+    unfolding largest_at kept_of maximum_in largest_d largest_l
     largest_kept (typeA x) m =
-        let p = type_a_place z Z k a most x m in
-        rw (le-leb (level_start z k / 4) x (omega (arith, p.1))) (H.maxima.of_d k x a most p.0 p.1 p.2)
+        let p = type_a_place z Z k x m in
+        rw (le-leb (span z (k + 1)) x p.1) (H.maxima.of_d k x a p.0 p.1 p.2)
     largest_kept (typeB x) m =
-        let p = type_b_place z Z k a most x m in
-        let w = elders_whole z Z k a most x p.0 p.2 in
-        let i : 4 * (x - level_start z k / 16) ≡ 4 * x - level_start z k / 4 = omega (arith, p.1) in
-        rw (le-leb (level_start z k / 16) x (omega (arith, p.1)), i) (H.maxima.of_l k x a most p.0 p.1 p.2)
+        let p = type_b_place z Z k x m in
+        rw (le-leb (span z (k + 2)) x p.1) (H.maxima.of_l k x a p.0 p.1 p.2)
 
     answers : (q : Question) → QuestionOf (trees z) k q → answer R s q ≡ truth (trees z) mag neg plane.0 q
     unfolding answer words_tell truth QuestionOf magnitude negative
@@ -130,36 +127,33 @@ module _ (z : Size) (Z : Legal z) (plane : Plane) (level : Level) (counts : Coun
   module _ {body out out' work' : List ℕ} {r : Passed} (P : PartRun R body work counts out r work' out') where
     words_kept : (x : ℕ) → x < area z → word_in z work' x ≡ word_in z work x
     words_kept x h =
-        let j = tree_part z x in
-        let l = level_some z Z (levels z) Z.some_levels Z.few_levels x h in
-        let p = level_place z Z (levels z) Z.some_levels Z.few_levels j x refl l in
-        word_in_lem z Z (levels z) Z.some_levels Z.few_levels work' j x refl l
+        let j = tree_level z x in
+        let l = level_some z Z x h in
+        let p = level_place z Z j x refl l in
+        word_in_lem z Z work' j x refl l
         ∙ P.words j (x - level_start z j) l p.0 (λ e. refl) (omega (arith, p.1, p.2))
-        ∙ sym (word_in_lem z Z (levels z) Z.some_levels Z.few_levels work j x refl l)
+        ∙ sym (word_in_lem z Z work j x refl l)
 
-    maxima_kept : (j i : ℕ) → 1 ≤ j → j ≤ levels z → i < level_size z j / 4 → maximum_in z work' j i ≡ maximum_in z work j i
-    unfolding maximum_of
+    maxima_kept : (j i : ℕ) → 1 ≤ j → j ≤ z.n → i < level_size z j / 4 → maximum_in z work' j i ≡ maximum_in z work j i
+    unfolding maximum_in
     maxima_kept j i c d h = P.maxima j i c d h
 
-    held_kept : (μ : ℕ → ℕ) → Maxima z (levels z) μ work → Maxima z (levels z) μ work'
+    held_kept : (μ : ℕ → ℕ) → Maxima z μ work → Maxima z μ work'
     held_kept μ M =
         record {
-          of_d = λ j x c d r g h.
-              ap largest_d (maxima_kept j (x - level_start z j / 4) c d (omega (arith, block_in j c d, h)))
-              ∙ M.of_d j x c d r g h;
-          of_l = λ j x c d r g h.
-              ap largest_l (maxima_kept j (4 * x - level_start z j / 4) c d (omega (arith, block_in j c d, h)))
-              ∙ M.of_l j x c d r g h;
+          of_d = λ j x c d g h.
+              let q : span z (j + 1) ≡ span z (suc j) = ap (span z) (omega arith) in
+              ap largest_d (maxima_kept j (x - span z (j + 1)) c d (omega (arith, level_size_fine z Z j c d, span_quarter z Z j d)))
+              ∙ M.of_d j x c d g h;
+          of_l = λ j x c d g h.
+              let p : span z (j + 1) ≡ span z (suc j) = ap (span z) (omega arith) in
+              let q : span z (j + 2) ≡ span z (suc (suc j)) = ap (span z) (omega arith) in
+              let e : j ≤ z.n = omega arith in
+              ap largest_l
+              (maxima_kept j (4 * (x - span z (j + 2))) c e
+              (omega (arith, level_size_fine z Z j c e, span_quarter z Z j e, span_quarter z Z (suc j) (omega arith))))
+              ∙ M.of_l j x c d g h;
         }
-      where
-        -- blocks of a level, counted from its first
-        block_in : (j : ℕ) → 1 ≤ j → j ≤ levels z → (4 * (level_start z j / 4) ≡ level_start z j) × (4 * (level_size z j / 4) ≡ level_size z j)
-            × (level_start z j + level_size z j ≡ level_end z j)
-        block_in j c d = (
-          start_fours z Z j c d,
-          level_blocks z Z (levels z) Z.some_levels Z.few_levels j c d,
-          size_of_end z Z (levels z) Z.some_levels Z.few_levels j c d,
-        )
 
     -- So a part that was run is a part coded.
     pub coded_part : Ready z plane level work counts → PartCoded z plane level work counts out at r work' out'

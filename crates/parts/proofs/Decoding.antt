@@ -5,23 +5,23 @@ use mathlib.Core.Bool.{Bool, true, false, true≢false, cond}
 use mathlib.Core.Logic.{◌≢◌}
 use Prim.Native.Nat.{ℕ, ◌+◌, ◌-◌, ◌*◌, ◌≤◌, ◌<◌, ◌^◌}
 use native.Mathlib.Omega.{arith}
-use native.Mathlib.Decide.{ℕ_discrete, dec_le}
+use native.Mathlib.Decide.{ℕ_discrete}
 use lib.ListN.{length, get_or, set, length-set}
 use lib.Seq.{get_or-set_same, get_or-set_other, ext_get_or}
 use lib.Pow.{pow_pos}
 use lib.IntN.{ℤ, pos}
 use lib.Dec.{leb}
-use borrow.Author.Tests.{le-leb, lt-leb}
+use borrow.Author.Tests.{le-leb}
 use Rattle.rules.specs.declared.Size.{Size}
 use Rattle.rules.specs.declared.Plane.{Plane}
 use Rattle.rules.specs.declared.Level.{Level}
 use Rattle.bits.specs.declared.BitPosition.{BitPosition}
-use Rattle.rules.specs.Document.Pyramid.{levels, area, most_planes}
+use Rattle.rules.specs.Document.Pyramid.{area, most_planes}
 use Rattle.rules.specs.Document.Passes.{Event, to_lip, to_lsp, stays, moves, refined, Course, State, signed, grown, written, Reader, decoder, decoded}
 use Rattle.rules.specs.Document.Layout.{bit_at}
 use Rattle.rules.specs.Laws.Family.Sizes.{level_start, level_size}
 use Rattle.rules.specs.Promises.Vocabulary.{Legal}
-use Rattle.trees.specs.Family.{tree_part, trees}
+use Rattle.trees.specs.Family.{tree_level, trees}
 use Rattle.trees.specs.Lawful.{trees_lawful}
 use Rattle.trees.specs.Sound.{tree_level_area}
 use Rattle.trees.specs.Within.{QuestionOf, EventOf, Agreeing, Related, passed_related, after_related}
@@ -39,15 +39,14 @@ use Rattle.parts.specs.Workspace.{run_of, course_in, PartRun}
 use Rattle.stretches.specs.Levels.{level_place, level_some, word_in_lem}
 use Rattle.parts.proofs.Growing.{sound_once, word_here, words_small, part_grows}
 
--- The words of level k, as the code has them, and the pyramid, as the document has it, tell the same; all other levels are as in the workspace. The
--- code counts bits from the body's front, the document from the part's first.
-pub record Drawn (z : Size) (k : ℕ) (work : List ℕ) (from : ℕ) (c : Chan) (r : Reader) : Type 0 where
-  pub taken : c.at ≡ from + r.taken
+-- The words of level k, as the code has them, and the pyramid, as the document has it, tell the same; all other levels are as in the workspace.
+pub record Drawn (z : Size) (k : ℕ) (work : List ℕ) (c : Chan) (r : Reader) : Type 0 where
+  pub taken : c.at ≡ r.taken
   pub words : length c.values ≡ level_size z k
   pub values : length r.pyramid ≡ area z
-  pub own : (x : ℕ) → tree_part z x ≡ k → get_or r.pyramid x (pos 0) ≡ value_of (local_word (level_start z k) c.values x)
-  pub proper : (x : ℕ) → tree_part z x ≡ k → local_word (level_start z k) c.values x ≢ 1
-  pub others : (x : ℕ) → x < area z → tree_part z x ≢ k → get_or r.pyramid x (pos 0) ≡ value_of (word_in z work x)
+  pub own : (x : ℕ) → tree_level z x ≡ k → get_or r.pyramid x (pos 0) ≡ value_of (local_word (level_start z k) c.values x)
+  pub proper : (x : ℕ) → tree_level z x ≡ k → local_word (level_start z k) c.values x ≢ 1
+  pub others : (x : ℕ) → x < area z → tree_level z x ≢ k → get_or r.pyramid x (pos 0) ≡ value_of (word_in z work x)
 
 -- a word that is set
 word_set : (first : ℕ) (vs : List ℕ) (p w : ℕ) → first ≤ p → p - first < length vs → local_word first (set vs (p - first) w) p ≡ w
@@ -72,25 +71,25 @@ module _ (z : Size) (Z : Legal z) (k : ℕ) (a : 1 ≤ k) (work : List ℕ) wher
   abbrev start : ℕ
   start = level_start z k
 
-  drawn_set : {from : ℕ} {c : Chan} {r : Reader} → Drawn z k work from c r → (p : ℕ) → tree_part z p ≡ k → (w : ℕ) (y : ℤ) → w ≢ 1 → value_of w ≡ y
-      → Drawn z k work from (chan c.bytes (set c.values (p - start) w) c.at) (record { taken = r.taken; pyramid = set r.pyramid p y })
-  drawn_set {from} {c} {r} D p e w y d v =
+  drawn_set : {c : Chan} {r : Reader} → Drawn z k work c r → (p : ℕ) → tree_level z p ≡ k → (w : ℕ) (y : ℤ) → w ≢ 1 → value_of w ≡ y
+      → Drawn z k work (chan c.bytes (set c.values (p - start) w) c.at) (record { taken = r.taken; pyramid = set r.pyramid p y })
+  drawn_set {c} {r} D p e w y d v =
       record {
         taken = D.taken;
         words = length-set c.values (p - start) w ∙ D.words;
         values = length-set r.pyramid p y ∙ D.values;
         own = λ x i. drawn_own x i (ℕ_discrete x p);
         proper = λ x i. still x i (ℕ_discrete x p);
-        others = λ x h i. get_or-set_other r.pyramid p x y (pos 0) (λ j. i (ap (tree_part z) j ∙ e)) ∙ D.others x h i;
+        others = λ x h i. get_or-set_other r.pyramid p x y (pos 0) (λ j. i (ap (tree_level z) j ∙ e)) ∙ D.others x h i;
       }
     where
-      at : (x : ℕ) → tree_part z x ≡ k → start ≤ x
-      at x i = (level_place z Z (levels z) Z.some_levels Z.few_levels k x i a).1
+      at : (x : ℕ) → tree_level z x ≡ k → start ≤ x
+      at x i = (level_place z Z k x i a).1
 
       here : local_word start (set c.values (p - start) w) p ≡ w
-      here = word_set start c.values p w (at p e) (omega (arith, at p e, (level_place z Z (levels z) Z.some_levels Z.few_levels k p e a).2, D.words))
+      here = word_set start c.values p w (at p e) (omega (arith, at p e, (level_place z Z k p e a).2, D.words))
 
-      drawn_own : (x : ℕ) → tree_part z x ≡ k → Dec (x ≡ p)
+      drawn_own : (x : ℕ) → tree_level z x ≡ k → Dec (x ≡ p)
           → get_or (set r.pyramid p y) x (pos 0) ≡ value_of (local_word start (set c.values (p - start) w) x)
       drawn_own x i (yes j) =
           ap (λ (q : ℕ). get_or (set r.pyramid p y) q (pos 0)) j
@@ -100,23 +99,22 @@ module _ (z : Size) (Z : Legal z) (k : ℕ) (a : 1 ≤ k) (work : List ℕ) wher
           get_or-set_other r.pyramid p x y (pos 0) j ∙ D.own x i
           ∙ ap value_of (sym (word_kept start c.values p w x (at p e) (at x i) j))
 
-      still : (x : ℕ) → tree_part z x ≡ k → Dec (x ≡ p) → local_word start (set c.values (p - start) w) x ≢ 1
+      still : (x : ℕ) → tree_level z x ≡ k → Dec (x ≡ p) → local_word start (set c.values (p - start) w) x ≢ 1
       still x i (yes j) g = d (sym here ∙ ap (local_word start (set c.values (p - start) w)) (sym j) ∙ g)
       still x i (no j) g = D.proper x i (sym (word_kept start c.values p w x (at p e) (at x i) j) ∙ g)
 
 -- a word is drawn on both sides, or on neither
-while_there : {z : Size} {k : ℕ} {work : List ℕ} {from : ℕ} {c : Chan} {r : Reader} {vs : List ℕ} {v : List ℤ} (x y : Bool) → x ≡ y
-    → Drawn z k work from (chan c.bytes vs c.at) (record { taken = r.taken; pyramid = v }) → Drawn z k work from c r
-    → Drawn z k work from (chan c.bytes (cond x vs c.values) c.at) (record { taken = r.taken; pyramid = cond y v r.pyramid })
+while_there : {z : Size} {k : ℕ} {work : List ℕ} {c : Chan} {r : Reader} {vs : List ℕ} {v : List ℤ} (x y : Bool) → x ≡ y
+    → Drawn z k work (chan c.bytes vs c.at) (record { taken = r.taken; pyramid = v }) → Drawn z k work c r
+    → Drawn z k work (chan c.bytes (cond x vs c.values) c.at) (record { taken = r.taken; pyramid = cond y v r.pyramid })
 while_there true true e N D = N
 while_there false false e N D = D
 while_there true false e N D = absurd (true≢false e)
 while_there false true e N D = absurd (true≢false (sym e))
 
-module _ (z : Size) (Z : Legal z) (plane : Plane) (level : Level) (counts : Counts) (work : List ℕ) (from until : BitPosition)
-    (before : from.at ≤ until.at) (a : 1 ≤ level.0) where
+module _ (z : Size) (Z : Legal z) (plane : Plane) (level : Level) (counts : Counts) (work : List ℕ) (until : BitPosition) (a : 1 ≤ level.0) where
   abbrev R : Run
-  R = run_of Reads z plane level counts from until
+  R = run_of Reads z plane level counts (record { at = 0 }) until
 
   abbrev k : ℕ
   k = level.0
@@ -125,43 +123,30 @@ module _ (z : Size) (Z : Legal z) (plane : Plane) (level : Level) (counts : Coun
   s = stretch_of z k work
 
   module _ (body : List ℕ) where
-    abbrev bits : ℕ → Bool
-    bits i = bit_at body (from.at + i)
-
     abbrev reader : Reader → Event → Reader
-    reader r e = (decoder bits (until.at - from.at) plane.0).note e r
+    reader r e = (decoder (bit_at body) until.at plane.0).note e r
 
     abbrev there : ℕ → Bool
     there at = leb at until.at
 
-    abbrev left_there : ℕ → Bool
-    left_there taken = leb taken (until.at - from.at)
-
-    there_same : (at taken : ℕ) → at ≡ from.at + taken → there at ≡ left_there taken
-    there_same at taken e = by (dec_le at until.at)
-      where
-        by : Dec (at ≤ until.at) → there at ≡ left_there taken
-        by (yes h) = le-leb at until.at h ∙ sym (le-leb taken (until.at - from.at) (omega (arith, before, e, h)))
-        by (no h) = lt-leb at until.at (omega (arith, h)) ∙ sym (lt-leb taken (until.at - from.at) (omega (arith, before, e, h)))
-
     drawn_there : {c : Chan} {r : Reader} {vs : List ℕ} {v : List ℤ}
-        → Drawn z k work from.at (chan c.bytes vs c.at) (record { taken = r.taken; pyramid = v }) → Drawn z k work from.at c r
-        → Drawn z k work from.at (chan c.bytes (cond (there c.at) vs c.values) c.at)
-        (record { taken = r.taken; pyramid = cond (left_there r.taken) v r.pyramid })
-    drawn_there {c} {r} N D = while_there (there c.at) (left_there r.taken) (there_same c.at r.taken D.taken) N D
+        → Drawn z k work (chan c.bytes vs c.at) (record { taken = r.taken; pyramid = v }) → Drawn z k work c r
+        → Drawn z k work (chan c.bytes (cond (there c.at) vs c.values) c.at)
+        (record { taken = r.taken; pyramid = cond (there r.taken) v r.pyramid })
+    drawn_there {c} {r} N D = while_there (there c.at) (there r.taken) (ap (λ (t : ℕ). there t) D.taken) N D
 
-    draws_note : (e : Event) → EventOf (trees z) k e → (c : Chan) (r : Reader) → Drawn z k work from.at c r
-        → Drawn z k work from.at ((side R s body).note e c) (reader r e)
+    draws_note : (e : Event) → EventOf (trees z) k e → (c : Chan) (r : Reader) → Drawn z k work c r
+        → Drawn z k work ((side R s body).note e c) (reader r e)
     unfolding side noted drawn written EventOf
     draws_note (to_lip p) i c r D = drawn_there D D
     draws_note (to_lsp p b) i c r D =
-        rw (le-leb (level_start z k) p (level_place z Z (levels z) Z.some_levels Z.few_levels k p i a).1)
+        rw (le-leb (level_start z k) p (level_place z Z k p i a).1)
         (drawn_there
         (drawn_set z Z k a work D p i (word_of b (2 ^ plane.0)) (signed b (2 ^ plane.0)) (found_proper b plane.0) (value_word b (2 ^ plane.0))) D)
     draws_note (stays e) i c r D = drawn_there D D
     draws_note (moves e) i c r D = drawn_there D D
     draws_note (refined p b) i c r D =
-        let first = (level_place z Z (levels z) Z.some_levels Z.few_levels k p i a).1 in
+        let first = (level_place z Z k p i a).1 in
         let w : ℕ = get_or c.values (p - level_start z k) 0 in
         let same = word_local (level_start z k) c.values p first in
         let d : w ≢ 1 = λ e. D.proper p i (same ∙ e) in
@@ -170,8 +155,7 @@ module _ (z : Size) (Z : Legal z) (plane : Plane) (level : Level) (counts : Coun
         (refined_proper b plane.0 w d)
         (value_refined w (2 ^ plane.0) b d ∙ ap (grown b (2 ^ plane.0)) (sym (D.own p i ∙ ap value_of same)))) D)
 
-    decoder_agrees : Agreeing (QuestionOf (trees z) k) (EventOf (trees z) k) (side R s body)
-        (decoder bits (until.at - from.at) plane.0) (Drawn z k work from.at)
+    decoder_agrees : Agreeing (QuestionOf (trees z) k) (EventOf (trees z) k) (side R s body) (decoder (bit_at body) until.at plane.0) (Drawn z k work)
     unfolding side
     decoder_agrees =
         record {
@@ -189,30 +173,30 @@ module _ (z : Size) (Z : Legal z) (plane : Plane) (level : Level) (counts : Coun
         }
 
   draws_first : (out : List ℕ) → 4 * level_size z k ≤ length s → Words z (2 ^ 29) work
-      → Drawn z k work from.at (chan out (values_in (level_size z k) s) from.at) (record { taken = 0; pyramid = drawn_in z work })
+      → Drawn z k work (chan out (values_in (level_size z k) s) 0) (record { taken = 0; pyramid = drawn_in z work })
   draws_first out long W =
       record {
-        taken = omega arith;
+        taken = refl;
         words = values_length (level_size z k) s long;
-        values = drawn_length z (levels z) work;
-        own = λ x i. drawn_at z (levels z) work x (inside x i) ∙ ap value_of (sym (word_here z Z work k x i a));
+        values = drawn_length z work;
+        own = λ x i. drawn_at z work x (inside x i) ∙ ap value_of (sym (word_here z Z work k x i a));
         proper = λ x i e. W.proper x (inside x i) (sym (word_here z Z work k x i a) ∙ e);
-        others = λ x h i. drawn_at z (levels z) work x h;
+        others = λ x h i. drawn_at z work x h;
       }
     where
-      inside : (x : ℕ) → tree_part z x ≡ k → x < area z
+      inside : (x : ℕ) → tree_level z x ≡ k → x < area z
       inside x i = tree_level_area z Z x (omega arith)
 
   module _ {body out out' work' : List ℕ} {r : Passed} (P : PartRun R body work counts out r work' out') where
     -- the other levels' words are as they were
-    words_kept : (x : ℕ) → x < area z → tree_part z x ≢ k → word_in z work' x ≡ word_in z work x
+    words_kept : (x : ℕ) → x < area z → tree_level z x ≢ k → word_in z work' x ≡ word_in z work x
     words_kept x h d =
-        let j = tree_part z x in
-        let l = level_some z Z (levels z) Z.some_levels Z.few_levels x h in
-        let p = level_place z Z (levels z) Z.some_levels Z.few_levels j x refl l in
-        word_in_lem z Z (levels z) Z.some_levels Z.few_levels work' j x refl l
+        let j = tree_level z x in
+        let l = level_some z Z x h in
+        let p = level_place z Z j x refl l in
+        word_in_lem z Z work' j x refl l
         ∙ P.words j (x - level_start z j) l p.0 (λ e. absurd (d e)) (omega (arith, p.1, p.2))
-        ∙ sym (word_in_lem z Z (levels z) Z.some_levels Z.few_levels work j x refl l)
+        ∙ sym (word_in_lem z Z work j x refl l)
 
     -- So a part that was run is a part decoded.
     module _ (D : ReadyToDecode z plane level work counts) (long : 4 * level_size z k ≤ length s) where
@@ -220,49 +204,49 @@ module _ (z : Size) (Z : Legal z) (plane : Plane) (level : Level) (counts : Coun
       c = course_in R body work counts out
 
       abbrev d : Course Reader
-      d = course_d body from until z plane level work counts
+      d = course_d body until z plane level work counts
 
-      alike : Related (Drawn z k work from.at) c d
+      alike : Related (Drawn z k work) c d
       unfolding decoded
       alike =
           passed_related (trees_lawful z Z) _ _ _ (decoder_agrees body) (state_of z work counts k) (D.ready.sound.placed k)
-          (chan out (values_in (level_size z k) s) from.at) _ (draws_first out long D.words)
+          (chan out (values_in (level_size z k) s) 0) _ (draws_first out long D.words)
 
-      left : Drawn z k work from.at (chan out' (values_in (level_size z k) (stretch_of z k work')) r.at.at) d.side
-      left = subst (λ x. Drawn z k work from.at x d.side) (sym P.side) alike.side
+      left : Drawn z k work (chan out' (values_in (level_size z k) (stretch_of z k work')) r.at.at) d.side
+      left = subst (λ x. Drawn z k work x d.side) (sym P.side) alike.side
 
-      drawn_one : (x : ℕ) → x < area z → Dec (tree_part z x ≡ k) → get_or (drawn_in z work') x (pos 0) ≡ get_or d.side.pyramid x (pos 0)
-      drawn_one x h (yes i) = drawn_at z (levels z) work' x h ∙ ap value_of (sym (word_here z Z work' k x i a)) ∙ sym (left.own x i)
-      drawn_one x h (no i) = drawn_at z (levels z) work' x h ∙ ap value_of (words_kept x h i) ∙ sym (left.others x h i)
+      drawn_one : (x : ℕ) → x < area z → Dec (tree_level z x ≡ k) → get_or (drawn_in z work') x (pos 0) ≡ get_or d.side.pyramid x (pos 0)
+      drawn_one x h (yes i) = drawn_at z work' x h ∙ ap value_of (sym (word_here z Z work' k x i a)) ∙ sym (left.own x i)
+      drawn_one x h (no i) = drawn_at z work' x h ∙ ap value_of (words_kept x h i) ∙ sym (left.others x h i)
 
       module _ (b : ℕ) (W : Words z b work) where
         grown_word : (q : ℕ) → local_word (level_start z k) (values_in (level_size z k) (stretch_of z k work')) q < b + 2 * 2 ^ most_planes
         grown_word q =
             subst (λ x. local_word (level_start z k) x.values q < b + 2 * 2 ^ most_planes) (sym P.side)
             (part_grows R (trees_lawful z Z) D.ready.plane k s body (state_of z work counts k)
-            (sound_once z (state_of z work counts) D.ready.sound k D.ready.level) out (values_in (level_size z k) s) from.at b
+            (sound_once z (state_of z work counts) D.ready.sound k D.ready.level) out (values_in (level_size z k) s) 0 b
             (words_small z Z k b a D.ready.level work long W) q)
 
-        under : (x : ℕ) → x < area z → Dec (tree_part z x ≡ k) → word_in z work' x < b + 2 * 2 ^ most_planes
+        under : (x : ℕ) → x < area z → Dec (tree_level z x ≡ k) → word_in z work' x < b + 2 * 2 ^ most_planes
         under x h (yes i) = omega (arith, word_here z Z work' k x i a, grown_word x)
         under x h (no i) = omega (arith, words_kept x h i, W.under x h)
 
-        proper : (x : ℕ) → x < area z → Dec (tree_part z x ≡ k) → word_in z work' x ≢ 1
+        proper : (x : ℕ) → x < area z → Dec (tree_level z x ≡ k) → word_in z work' x ≢ 1
         proper x h (yes i) e = left.proper x i (word_here z Z work' k x i a ∙ e)
         proper x h (no i) e = W.proper x h (sym (words_kept x h i) ∙ e)
 
-      pub decoded_part_lem : PartDecoded body from until z plane level work counts r work'
+      pub decoded_part_lem : PartDecoded body until z plane level work counts r work'
       decoded_part_lem =
           record {
             lists = record { lists = λ j. P.lists.lists j ∙ ap (λ (t : State). t j) (after_related _ k c d (state_of z work counts) alike) };
             same = P.same;
             taken = left.taken;
             draws =
-                ext_get_or (pos 0) (drawn_in z work') d.side.pyramid (drawn_length z (levels z) work' ∙ sym left.values)
-                (λ x h. let i : x < area z = omega (arith, drawn_length z (levels z) work') in drawn_one x i (ℕ_discrete (tree_part z x) k));
+                ext_get_or (pos 0) (drawn_in z work') d.side.pyramid (drawn_length z work' ∙ sym left.values)
+                (λ x h. let i : x < area z = omega (arith, drawn_length z work') in drawn_one x i (ℕ_discrete (tree_level z x) k));
             grows = λ b W.
                 record {
-                  under = λ x h. under b W x h (ℕ_discrete (tree_part z x) k);
-                  proper = λ x h. proper b W x h (ℕ_discrete (tree_part z x) k);
+                  under = λ x h. under b W x h (ℕ_discrete (tree_level z x) k);
+                  proper = λ x h. proper b W x h (ℕ_discrete (tree_level z x) k);
                 };
           }

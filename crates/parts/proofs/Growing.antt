@@ -21,7 +21,7 @@ use Rattle.rules.specs.Laws.Pass.Lists.{set_weight, lists_weight}
 use Rattle.rules.specs.Laws.Pass.Steps.{sign_noted, bit_noted, begun}
 use Rattle.rules.specs.Laws.State.Weight.{weight_part}
 use Rattle.rules.specs.Promises.Vocabulary.{Legal}
-use Rattle.trees.specs.Family.{trees, tree_part}
+use Rattle.trees.specs.Family.{trees, tree_level}
 use Rattle.trees.specs.Sound.{TreeSound, tree_level_area}
 use Rattle.stretches.specs.Cut.{values_in, stretch_of, values_length, values_at}
 use Rattle.stretches.specs.Workspace.{word_in, Words}
@@ -38,13 +38,12 @@ sound_once z s h k l q =
     omega (arith, weight_part (trees z) (is q) s k (levels z) l, h.conserved (is q), from_once q (area z), one_most (ltb q (area z)))
 
 -- A word among the values of its level; words of a level are small where those of all levels are.
-pub word_here : (z : Size) (Z : Legal z) (work : List ℕ) (k x : ℕ) → tree_part z x ≡ k → 1 ≤ k
+pub word_here : (z : Size) (Z : Legal z) (work : List ℕ) (k x : ℕ) → tree_level z x ≡ k → 1 ≤ k
     → local_word (level_start z k) (values_in (level_size z k) (stretch_of z k work)) x ≡ word_in z work x
 word_here z Z work k x e a =
-    let p = level_place z Z (levels z) Z.some_levels Z.few_levels k x e a in
+    let p = level_place z Z k x e a in
     word_local (level_start z k) (values_in (level_size z k) (stretch_of z k work)) x p.1
-    ∙ values_at (level_size z k) (stretch_of z k work) (x - level_start z k) (omega (arith, p.1, p.2))
-    ∙ sym (word_in_lem z Z (levels z) Z.some_levels Z.few_levels work k x e a)
+    ∙ values_at (level_size z k) (stretch_of z k work) (x - level_start z k) (omega (arith, p.1, p.2)) ∙ sym (word_in_lem z Z work k x e a)
 
 pub words_small : (z : Size) → Legal z → (k b : ℕ) → 1 ≤ k → k ≤ levels z → (work : List ℕ) → 4 * level_size z k ≤ length (stretch_of z k work)
     → Words z b work → (q : ℕ) → local_word (level_start z k) (values_in (level_size z k) (stretch_of z k work)) q < b
@@ -59,7 +58,7 @@ words_small z Z k b c d work long W q = by (dec_le (level_start z k) q) (dec_lt 
 
     by : Dec (level_start z k ≤ q) → Dec (q < level_start z k + level_size z k) → local_word (level_start z k) vs q < b
     by (yes i) (yes j) =
-        let e = place_level z Z (levels z) Z.some_levels Z.few_levels k q c d i j in
+        let e = place_level z Z k q c d i j in
         omega (arith, word_here z Z work k q e c, W.under q (tree_level_area z Z q (omega arith)))
     by (yes i) (no j) =
         let n : length vs ≤ q - level_start z k = omega (arith, values_length (level_size z k) (stretch_of z k work) long) in

@@ -19,8 +19,8 @@ use Rattle.rules.specs.Laws.Family.Sizes.{legal, area_bound, level_start, level_
 use Rattle.rules.specs.Laws.State.Weight.{after_own, after_next, after_other}
 use Rattle.rules.specs.Promises.Vocabulary.{Legal}
 use Rattle.stretches.specs.Seg.{seg, seg_same, seg_seg}
-use Rattle.stretches.specs.Cut.{stretch_at, set_room, lip_from, lis_from, maxima_from, values_in, maxima_in, stretch_of, maxima_at}
-use Rattle.stretches.specs.Levels.{stretch_room, next_start, level_before, stretch_at_lem, stretch_length}
+use Rattle.stretches.specs.Cut.{set_room, lip_from, lis_from, maxima_from, values_in, maxima_in, stretch_of, maxima_at}
+use Rattle.stretches.specs.Levels.{stretch_room, next_start, level_before, stretch_at, stretch_length}
 use Rattle.lists.specs.Lists.{Marked, lip_at, entry, sets, sets_few, moved_length, held_ends, held_moved}
 use Rattle.lists.specs.Besides.{marked_lent, marks_kept}
 use Rattle.lists.specs.declared.Role.{Role}
@@ -37,7 +37,7 @@ use Rattle.parts.proofs.States.{state_in, state_out, state_same, lists_agree, li
 use Rattle.parts.proofs.Parts.{level_fits, away_next, lent_own, lent_lip, values_lent, lists_lent, pass_is, moved_none, moved_some}
 
 module _ (role : Role) {z : Size} {plane : Plane} {level : Level} {work : List ℕ} {counts : Counts} (D : Ready z plane level work counts)
-    (from until : BitPosition) (places : Places counts) {body out work₁ out₁ : List ℕ} {r : Stand}
+    (from until : BitPosition) (six : Places counts) {body out work₁ out₁ : List ℕ} {r : Stand}
     (T : Lent (run_of role z plane level counts from until) body work out (record { fill = fill_of counts level.0; at = from }) work₁ out₁ r) where
   abbrev run : Run
   run = run_of role z plane level counts from until
@@ -64,7 +64,7 @@ module _ (role : Role) {z : Size} {plane : Plane} {level : Level} {work : List �
   left = with_moved (with_lists counts k r.fill) k r.fill.moved
 
   few : k ≤ level_places
-  few = omega (arith, b, L.few, L.few_levels)
+  few = omega (arith, b, L.few)
 
   room : work_for z ≤ length work₁
   room = omega (arith, D.room, T.same)
@@ -96,34 +96,26 @@ module _ (role : Role) {z : Size} {plane : Plane} {level : Level} {work : List �
   Same j i = get_or (stretch_of z j work₁) i 0 ≡ get_or (stretch_of z j work) i 0
 
   same_at : (j i : ℕ) → i < 4 * level_size z j → get_or work₁ (4 * level_start z j + i) 0 ≡ get_or work (4 * level_start z j + i) 0 → Same j i
-  same_at j i h e = stretch_at_lem z L (levels z) L.some_levels L.few_levels work₁ j i h
-      ∙ e ∙ sym (stretch_at_lem z L (levels z) L.some_levels L.few_levels work j i h)
+  same_at j i h e = stretch_at z L work₁ j i h ∙ e ∙ sym (stretch_at z L work j i h)
 
   other_same : (j : ℕ) → 1 ≤ j → j ≤ levels z → j ≢ k → suc j ≢ k → (i : ℕ) → i < 4 * level_size z j → Same j i
   other_same j u v d e i h = same_at j i h (by (dec_lt k j))
     where
       by : Dec (k < j) → get_or work₁ (4 * level_start z j + i) 0 ≡ get_or work (4 * level_start z j + i) 0
-      by (yes l) = U.before _ (omega (arith, level_before z L (levels z) L.some_levels L.few_levels j k a l v))
+      by (yes l) = U.before _ (omega (arith, level_before z L j k a l v))
       by (no l) =
           U.rest _
-          (omega (
-            arith,
-            U.ends,
-            lent_next z k (omega arith),
-            level_before z L (levels z) L.some_levels L.few_levels (k - 1) j u (omega arith) (omega (arith, b)),
-          ))
+          (omega (arith, U.ends, lent_next z k (omega arith), level_before z L (k - 1) j u (omega arith) (omega (arith, b))))
 
   -- the next level's, before the sets that came and behind them
   next_before_lem : 2 ≤ k → (i : ℕ) → i < lis_from (level_size z (k - 1)) + count_at counts.lis (k - 1) → i < 4 * level_size z (k - 1) → Same (k - 1) i
   unfolding maxima_from
   next_before_lem h i l g =
-      same_at (k - 1) i g (U.others _ (omega (arith, next_start z L (levels z) L.some_levels L.few_levels k h b))
-      (omega (arith, next_start z L (levels z) L.some_levels L.few_levels k h b, away_next role D from until h)))
+      same_at (k - 1) i g (U.others _ (omega (arith, next_start z L k h b)) (omega (arith, next_start z L k h b, away_next role D from until h)))
 
   next_behind : 2 ≤ k → (i : ℕ) → lis_from (level_size z (k - 1)) + count_at counts.lis (k - 1) + r.fill.moved ≤ i → i < 4 * level_size z (k - 1)
       → Same (k - 1) i
-  next_behind h i l g = same_at (k - 1) i g
-      (U.rest _ (omega (arith, next_start z L (levels z) L.some_levels L.few_levels k h b, away_next role D from until h)))
+  next_behind h i l g = same_at (k - 1) i g (U.rest _ (omega (arith, next_start z L k h b, away_next role D from until h)))
 
   -- the level's own
   own_values : reads run ≡ false → (i : ℕ) → i < level_size z k → Same k i
@@ -144,7 +136,7 @@ module _ (role : Role) {z : Size} {plane : Plane} {level : Level} {work : List �
           subst (λ (y : ℕ). i < level_size z y → Same y i) n (λ l. next_before_lem (omega arith) i (omega arith) (omega arith)) h
       by (no d) (no g) = other_same j u v d g i (omega arith)
 
-  maxima_same : (j i : ℕ) → 1 ≤ j → j ≤ levels z → i < level_size z j / 4
+  maxima_same : (j i : ℕ) → 1 ≤ j → j ≤ z.n → i < level_size z j / 4
       → get_or (maxima_in (level_size z j) (stretch_of z j work₁)) i 0 ≡ get_or (maxima_in (level_size z j) (stretch_of z j work)) i 0
   unfolding lis_from maxima_from set_room
   maxima_same j i u v h =
@@ -166,14 +158,13 @@ module _ (role : Role) {z : Size} {plane : Plane} {level : Level} {work : List �
   seg_kept : (j c m : ℕ) → 1 ≤ j → j ≤ levels z → ((i : ℕ) → c ≤ i → i < c + m → Same j i)
       → seg c m (stretch_of z j work₁) ≡ seg c m (stretch_of z j work)
   seg_kept j c m u v f =
-      seg_same c m (stretch_of z j work) (stretch_of z j work₁) (stretch_length z L (levels z) L.some_levels L.few_levels work₁ j u v room
-      ∙ sym (stretch_length z L (levels z) L.some_levels L.few_levels work j u v D.room)) f
+      seg_same c m (stretch_of z j work) (stretch_of z j work₁) (stretch_length z L work₁ j u v room ∙ sym (stretch_length z L work j u v D.room)) f
 
   other_lists : (j : ℕ) → j ≢ k → suc j ≢ k → state_of z work₁ left j ≡ s j
   unfolding lists_at lis_from set_room
   other_lists j d e =
       state_same z work work₁ counts left j (λ u v.
-      let n = counts_other counts places k a few r.fill j u d in
+      let n = counts_other counts six k a few r.fill j u d in
       let f = level_fits D j u v in
       rw (n.0, n.1 e, n.2)
       (lists_agree (level_size z j) (stretch_of z j work) (stretch_of z j work₁) _ _ _ f.lip f.lsp
@@ -183,7 +174,7 @@ module _ (role : Role) {z : Size} {plane : Plane} {level : Level} {work : List �
   own_lists : state_of z work₁ left k ≡ own c
   unfolding lists_at
   own_lists =
-      let n = counts_own counts places k a few r.fill in
+      let n = counts_own counts six k a few r.fill in
       let f = T.ran.fits in
       state_in z work₁ left k a b
       ∙ rw (n.0, n.1, n.2)
@@ -194,14 +185,13 @@ module _ (role : Role) {z : Size} {plane : Plane} {level : Level} {work : List �
   -- of the next, with the sets that moved out
   moved_there : 2 ≤ k
       → sets (lis_from (level_size z (k - 1)) + count_at counts.lis (k - 1)) r.fill.moved (stretch_of z (k - 1) work₁) ≡ c.moved
-  unfolding sets stretch_at lis_from set_room
+  unfolding sets stretch_of lis_from set_room
   moved_there h =
       let j : ℕ = k - 1 in
       let m : ℕ = level_size z j in
       ap (map entry)
       (seg_seg (4 * level_start z j) (4 * m) (m + m + m + count_at counts.lis j) r.fill.moved work₁ (omega (arith, gone_some h))
-      ∙ ap (λ (y : ℕ). seg y r.fill.moved work₁)
-      (omega (arith, next_start z L (levels z) L.some_levels L.few_levels k h b, away_next role D from until h))
+      ∙ ap (λ (y : ℕ). seg y r.fill.moved work₁) (omega (arith, next_start z L k h b, away_next role D from until h))
       ∙ sym (seg_seg (4 * level_start z k) (lent_to z k - 4 * level_start z k) run.stretch.away r.fill.moved work₁ (omega (arith, U.ends))))
       ∙ sym (held_moved run.stretch (lent_of z k work₁) r.fill)
       ∙ ap (λ y. y.moved) ran_course
@@ -212,9 +202,9 @@ module _ (role : Role) {z : Size} {plane : Plane} {level : Level} {work : List �
       let j : ℕ = k - 1 in
       let u : 1 ≤ j = omega arith in
       let v : j ≤ levels z = omega (arith, b) in
-      let n = counts_other counts places k a few r.fill j u (λ e. omega arith) in
+      let n = counts_other counts six k a few r.fill j u (λ e. omega arith) in
       let f = level_fits D j u v in
-      rw (n.0, counts_next counts places k a few r.fill h, n.2)
+      rw (n.0, counts_next counts six k a few r.fill h, n.2)
       (lists_more (level_size z j) (stretch_of z j work) (stretch_of z j work₁) _ _ _ f.lip f.lsp
       (λ q m l g. seg_kept j q m u v (λ i o p. next_before_lem h i (omega arith) (omega (arith, f.visits)))) r.fill.moved
       ∙ ap (λ es. record {
@@ -278,8 +268,8 @@ module _ (role : Role) {z : Size} {plane : Plane} {level : Level} {work : List �
           → Marked (stretch_by role z j) (stretch_of z j work₁) (lip_at (level_size z j) i (stretch_of z j work₁))
       by j i u v (yes d) h =
           subst (λ (y : ℕ). Marked (stretch_by role z y) (stretch_of z y work₁) (lip_at (level_size z y) i (stretch_of z y work₁))) (sym d)
-          (own_marks i (omega (arith, (counts_own counts places k a few r.fill).0, ap (count_at left.lip) d)))
-      by j i u v (no d) h = other_marks M j i u v d (omega (arith, (counts_other counts places k a few r.fill j u d).0))
+          (own_marks i (omega (arith, (counts_own counts six k a few r.fill).0, ap (count_at left.lip) d)))
+      by j i u v (no d) h = other_marks M j i u v d (omega (arith, (counts_other counts six k a few r.fill j u d).0))
 
   -- the whole part
   pub part_run : {p : Passed} → Marks role z work counts → p.counts ≡ left → p.at ≡ r.at → PartRun run body work counts out p work₁ out₁
@@ -298,7 +288,7 @@ module _ (role : Role) {z : Size} {plane : Plane} {level : Level} {work : List �
   more_fits = by (dec_le 2 k)
     where
       small : (j : ℕ) → 1 ≤ j → j ≤ levels z → level_size z j < 2 ^ 32
-      small j u v = omega (arith, stretch_room z L (levels z) L.some_levels L.few_levels j u v, area_bound z D.legal)
+      small j u v = omega (arith, stretch_room z L j u v, area_bound z D.legal)
 
       by : Dec (2 ≤ k) → count_at (with_lists counts k r.fill).lis (k - 1) + r.fill.moved < 2 ^ 32
       by (yes h) =
@@ -313,7 +303,7 @@ module _ (role : Role) {z : Size} {plane : Plane} {level : Level} {work : List �
           omega (
             arith,
             ap (λ (i : ℕ). get_or (set counts.lis (k - 1) r.fill.kept) i 0) same,
-            get_or-set_same counts.lis (k - 1) r.fill.kept 0 (omega (arith, places.lis, a, few)),
+            get_or-set_same counts.lis (k - 1) r.fill.kept 0 (omega (arith, six.lis, a, few)),
             gone_none (omega arith),
             sets_few (level_size z k) r.fill.kept (omega (arith, T.ran.fits.kept, T.ran.fits.visits)),
             small k a b,

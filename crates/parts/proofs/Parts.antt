@@ -1,50 +1,65 @@
 -- A part: the level's lists are such that its pass can begin, and what the pass leaves is what the part leaves.
 use mathlib.Core.Path.{◌≡◌, refl, sym, ap, ap₂, ◌∙◌, subst}
-use mathlib.Core.List.{List, []}
-use mathlib.Core.Bool.{true}
+use mathlib.Core.List.{List, [], ◌∷◌}
+use mathlib.Core.Bool.{Bool, true, false, cond}
 use Prim.Native.Nat.{ℕ, suc, ◌+◌, ◌-◌, ◌*◌, ◌/◌, ◌≤◌, ◌<◌, ◌^◌}
 use native.Mathlib.Nat.{mul-le-mul_left}
 use native.Mathlib.Omega.{arith}
 use native.Mathlib.Decide.{dec_le}
+use lib.Dec.{leb}
 use lib.ListN.{length, get_or}
 use lib.Pow.{pow_mono}
-use borrow.Author.Tests.{le-leb, lt-leb}
+use borrow.Author.Tests.{le-leb, lt-leb, lt-ltb}
 use Rattle.rules.specs.declared.Size.{Size}
 use Rattle.rules.specs.declared.Plane.{Plane}
 use Rattle.rules.specs.declared.Level.{Level}
 use Rattle.bits.specs.declared.BitPosition.{BitPosition}
 use Rattle.rules.specs.Document.Pyramid.{levels}
-use Rattle.rules.specs.Document.Passes.{State, Side, passed}
-use Rattle.rules.specs.Laws.Counting.Sums.{sum, is}
+use Rattle.rules.specs.Document.Passes.{Entry, typeA, typeB, in_level, State, Side, passed}
+use Rattle.rules.specs.Laws.Counting.Sums.{sum, is, All, all_then}
 use Rattle.rules.specs.Laws.Family.Sizes.{legal, area_bound, level_start, level_size}
-use Rattle.rules.specs.Laws.Pass.Levels.{Placed, passed_level1}
+use Rattle.rules.specs.Laws.Pass.Levels.{Settled, Placed, passed_level1}
 use Rattle.rules.specs.Laws.Pass.Slots.{Room, room_slots}
 use Rattle.rules.specs.Promises.Vocabulary.{Legal}
 use Rattle.trees.specs.Family.{trees}
 use Rattle.trees.specs.Lawful.{trees_lawful}
 use Rattle.trees.specs.Sound.{tree_part_room, tree_moved_room}
 use Rattle.stretches.specs.Seg.{seg_at}
-use Rattle.stretches.specs.Cut.{stretch_at, set_room, lip_from, lis_from, maxima_from, values_in, maxima_in, stretch_of}
+use Rattle.stretches.specs.Cut.{set_room, lip_from, lis_from, maxima_from, values_in, maxima_in, stretch_of}
 use Rattle.stretches.specs.Levels.{size_some, stretch_room, next_start, stretch_length}
 use Rattle.stretches.specs.Workspace.{Words}
 use Rattle.lists.specs.declared.Stretch.{Stretch}
 use Rattle.lists.specs.declared.Fill.{Fill}
-use Rattle.lists.specs.Lists.{Marked, lip_at, lists_in, Held, held, Fits, lists_fit, sets_fit, sets_few, known_length, todo_length}
+use Rattle.lists.specs.Lists.{Marked, lip_at, sets, lists_in, Held, held, Fits, lists_fit, sets_fit, sets_few, known_length, todo_length}
 use Rattle.lists.specs.Lists.{held_begins, held_known}
 use Rattle.lists.specs.Besides.{marked_none, marked_lent}
 use Rattle.lists.specs.declared.Role.{Role}
 use Rattle.lists.specs.declared.Role.TheVariants.{Reads}
 use Rattle.testing.specs.declared.Run.{Run}
 use Rattle.testing.specs.declared.Stand.{Stand}
-use Rattle.testing.specs.Exchange.{Chan, chan, reads, side, side_kept, Silent}
+use Rattle.testing.specs.Exchange.{Chan, chan, family_of, reads, side, side_kept, Silent}
 use Rattle.testing.specs.Growing.{Growth}
-use Rattle.passes.specs.Steps.{Fresh, lists_of, pass_of}
+use Rattle.passes.specs.Steps.{has_member, Queued, Fresh, lists_of, pass_of}
 use Rattle.parts.specs.declared.Counts.{Counts}
 use Rattle.parts.specs.Standing.{count_at, fill_of, lists_at, state_of, Ready, stretch_by, Marks}
 use Rattle.parts.specs.Workspace.{lent_to, lent_of, away_for, Lending, run_of, course_in}
+use Rattle.parts.proofs.Nodes.{top_none}
 use Rattle.parts.proofs.Workspace.{lent_next, lent_fits, lent_inside, lent_length}
 use Rattle.parts.proofs.States.{state_in, lists_agree}
 use Rattle.parts.proofs.Growing.{sound_once, words_small}
+
+-- Which sets have a member in the level is known where LIS holds what it began with.
+queue_all : (run : Run) (b : Bool) → leb run.level.0 run.z.n ≡ b → (es : List Entry)
+    → All (λ e. in_level (family_of run) run.level.0 e ≡ b) es → (v : ℕ) → v + length es ≤ run.olds → Queued run v es
+unfolding All Queued has_member
+queue_all run b e [] a v h = tt
+queue_all run b e (typeA p ∷ es) a v h = (a.0 ∙ sym e, queue_all run b e es a.1 (suc v) (omega arith))
+queue_all run b e (typeB p ∷ es) a v h =
+    (a.0 ∙ rw (e, lt-ltb v run.olds (omega arith)) (by b), queue_all run b e es a.1 (suc v) (omega arith))
+  where
+    by : (b : Bool) → b ≡ cond b true false
+    by true = refl
+    by false = refl
 
 -- the lists of a level, in the workspace
 module _ {z : Size} {p : Plane} {l : Level} {work : List ℕ} {counts : Counts} (R : Ready z p l work counts) where
@@ -76,9 +91,8 @@ module _ {z : Size} {p : Plane} {l : Level} {work : List ℕ} {counts : Counts} 
         let r = level_room in
         let m = room_slots (trees_lawful z Z) r in
         let g = lists_are in
-        let long = stretch_length z Z (levels z) Z.some_levels Z.few_levels work k a b R.room in
-        lists_fit alone t (count_at counts.lip k) (count_at counts.lis k)
-        (count_at counts.lsp k) (size_some z Z (levels z) Z.some_levels Z.few_levels k a b)
+        let long = stretch_length z Z work k a b R.room in
+        lists_fit alone t (count_at counts.lip k) (count_at counts.lis k) (count_at counts.lsp k) (size_some z Z k a b)
         (omega (arith, long)) (omega arith) (omega (arith, long))
         (omega (arith, r.coefficients, ap (λ x. length x.lip) g))
         (omega (arith, m, ap (λ x. length x.lis) g))
@@ -96,6 +110,17 @@ module _ {z : Size} {p : Plane} {l : Level} {work : List ℕ} {counts : Counts} 
       ap (λ x. length x.lsp) (sym level_begins) ∙ ap length (held_known alone t (fill_of counts k))
           ∙ known_length n (count_at counts.lsp k) t level_fits.room level_fits.lsp,
     )
+
+    -- each set has a member in the level, or none has
+    pub level_queue : All (λ e. in_level (trees z) k e ≡ leb k z.n) (s k).lis
+    level_queue = by (dec_le k z.n)
+      where
+        by : Dec (k ≤ z.n) → All (λ e. in_level (trees z) k e ≡ leb k z.n) (s k).lis
+        by (yes l) = all_then _ _ (s k).lis (λ e m. m.there ∙ sym (le-leb k z.n l)) (R.sound.met k (omega arith))
+        by (no l) =
+            let e : levels z ≡ k = omega arith in
+            let none = subst (λ (i : ℕ). (d : Entry) → Settled (trees z) i d → in_level (trees z) i d ≡ false) e (top_none z Z) in
+            all_then _ _ (s k).lis (λ d m. none d m ∙ sym (lt-leb k z.n (omega arith))) (R.sound.placed k).sets
 
 -- the pass of a part
 module _ (role : Role) {z : Size} {plane : Plane} {level : Level} {work : List ℕ} {counts : Counts} (D : Ready z plane level work counts)
@@ -135,7 +160,7 @@ module _ (role : Role) {z : Size} {plane : Plane} {level : Level} {work : List �
 
   -- how long it is with the next level's
   pub lent_next_length : 2 ≤ k → lent_to z k ≡ 4 * level_start z k + 4 * level_size z k + 4 * level_size z (k - 1)
-  lent_next_length h = omega (arith, lent_next z k h, next_start z L (levels z) L.some_levels L.few_levels k h b)
+  lent_next_length h = omega (arith, lent_next z k h, next_start z L k h b)
 
   pass_behind : (4 * level_size z k ≤ run.stretch.away) × (run.stretch.away + 0 ≤ length (lent work))
   pass_behind = by (dec_le 2 k)
@@ -150,7 +175,7 @@ module _ (role : Role) {z : Size} {plane : Plane} {level : Level} {work : List �
 
   -- the level's own stretch, number by number
   pub lent_own : (w : List ℕ) (i : ℕ) → i < 4 * level_size z k → get_or (lent w) i 0 ≡ get_or (stretch_of z k w) i 0
-  unfolding stretch_at
+  unfolding stretch_of
   lent_own w i h =
       seg_at (4 * level_start z k) (lent_to z k - 4 * level_start z k) w i (omega (arith, (lent_fits z L k a b).0))
       ∙ sym (seg_at (4 * level_start z k) (4 * level_size z k) w i h)
@@ -246,7 +271,7 @@ module _ (role : Role) {z : Size} {plane : Plane} {level : Level} {work : List �
             rw (values_lent work)
             (omega (
               arith,
-              words_small z L k (2 ^ 29) a b work (omega (arith, stretch_length z L (levels z) L.some_levels L.few_levels work k a b D.room)) W q,
+              words_small z L k (2 ^ 29) a b work (omega (arith, stretch_length z L work k a b D.room)) W q,
               mul-le-mul_left (2 * 2 ^ plane.0) (o q),
               pow_mono {i = plane.0} {j = 16} (omega (arith, D.plane)),
             ));
@@ -265,12 +290,11 @@ module _ (role : Role) {z : Size} {plane : Plane} {level : Level} {work : List �
                 plane = D.plane;
                 coarser = a;
                 level = b;
-                size = omega (arith, stretch_room z L (levels z) L.some_levels L.few_levels k a b, area_bound z D.legal);
+                size = omega (arith, stretch_room z L k a b, area_bound z D.legal);
                 count = refl;
                 first = refl;
                 parents = refl;
                 elders = refl;
-                inner = refl;
                 from = place;
               };
           fits = pass_fits marks;
@@ -278,6 +302,10 @@ module _ (role : Role) {z : Size} {plane : Plane} {level : Level} {work : List �
               subst (λ x. Room (trees z) k (level_size z k) (count_at counts.lsp k) 0 x.lip x.lis) (sym found)
               (rw (← n.1) (level_room D k a b));
           away = rw (pass_is body out) (moved_fits body out);
+          queue =
+              subst (λ x. Queued run 0 x.lis) (sym found)
+              (queue_all run (leb k z.n) refl (state_of z work counts k).lis (level_queue D k a b) 0 (omega (arith, n.0)));
+          olds = omega arith;
           kept = refl;
           visited = refl;
           moved = refl;

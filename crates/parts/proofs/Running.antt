@@ -2,7 +2,7 @@
 use mathlib.Core.Path.{◌≡◌, refl, sym, ap, ap₂, ◌∙◌, subst}
 use mathlib.Core.List.{List}
 use mathlib.Core.Bool.{true, true≢false}
-use Prim.Native.Nat.{◌/◌, ℕ, ◌+◌, ◌-◌, ◌*◌, ◌≤◌, ◌<◌, ◌^◌}
+use Prim.Native.Nat.{ℕ, ◌+◌, ◌-◌, ◌*◌, ◌≤◌, ◌<◌, ◌^◌}
 use native.Mathlib.Omega.{arith}
 use native.Mathlib.Decide.{dec_le}
 use lib.ListN.{get_or}
@@ -27,8 +27,7 @@ use Rattle.testing.specs.declared.Stand.{Stand}
 use Rattle.parts.specs.declared.Counts.{Counts}
 use Rattle.parts.specs.declared.Passed.{Passed}
 use Rattle.testing.specs.Exchange.{Silent}
-use Rattle.parts.specs.Standing.{count_at, Places, fill_of, with_lists, Ready, ReadyToCode, PartCoded, ReadyToDecode, Quiet}
-use Rattle.parts.specs.Standing.{Between, PartDecoded}
+use Rattle.parts.specs.Standing.{count_at, Places, fill_of, with_lists, Ready, ReadyToCode, PartCoded, ReadyToDecode, Quiet, PartDecoded}
 use Rattle.parts.specs.Workspace.{away_for, stretch_for, with_moved, Counting, Cutting, Lending, Lent, run_of, Running, PartRun}
 use Rattle.stretches.specs.Levels.{stretch_room, stretch_length}
 use Rattle.parts.proofs.Parts.{level_fits, part_lending}
@@ -37,7 +36,7 @@ use Rattle.parts.proofs.Coding.{coded_part}
 use Rattle.parts.proofs.Decoding.{decoded_part_lem}
 
 size_under : (z : Size) (k : ℕ) → legal_size z ≡ true → 1 ≤ k → k ≤ levels z → level_size z k < 2 ^ 31
-size_under z k e a b = omega (arith, stretch_room z (legal z e) (levels z) (legal z e).some_levels (legal z e).few_levels k a b, area_bound z e)
+size_under z k e a b = omega (arith, stretch_room z (legal z e) k a b, area_bound z e)
 
 -- how many coefficients a level has, and the next
 module _ {z : Size} {k : Level} {counts : Counts} (C : Cutting z k counts) where
@@ -63,20 +62,21 @@ module _ (role : Role) (z : Size) (k : ℕ) (counts : Counts) {n first : ℕ} (e
       (g ∙ ap₂ (λ (x y : ℕ). 4 * x + lis_from y + f.left) e i
       ∙ ap (λ (x : Fill). 4 * level_size z k + lis_from (level_size z (k - 1)) + x.left) j))
 
-pub run_is : {role : Role} {z : Size} {plane : Plane} {level : Level} (counts : Counts) {from until : BitPosition} {t : Stretch}
-    {inner : ℕ} → t ≡ stretch_for role z level.0 counts → inner ≡ span z 1
+pub run_is : {role : Role} {z : Size} {plane : Plane} {level : Level} (counts : Counts) {from until : BitPosition} {t : Stretch} {f : Fill}
+    {parents elders : ℕ} → f ≡ fill_of counts level.0 → t ≡ stretch_for role z level.0 counts
+    → parents ≡ span z (level.0 + 1) → elders ≡ span z (level.0 + 2)
     → ◌≡◌ {A = Run} (record {
       z = z;
       plane = plane;
       level = level;
       stretch = t;
-      parents = t.first / 4;
-      elders = t.first / 16;
-      inner = inner;
+      parents = parents;
+      elders = elders;
+      olds = f.left;
       from = from;
       until = until;
     }) (run_of role z plane level counts from until)
-run_is counts i b = cc
+run_is counts e i b c = cc
 
 -- the part of a run
 module _ {run : Run} {body work out : List ℕ} {counts : Counts} (H : Running run body work counts out) where
@@ -84,7 +84,7 @@ module _ {run : Run} {body work out : List ℕ} {counts : Counts} (H : Running r
   k = run.level.0
 
   pub running_few : (1 ≤ k) × (k ≤ level_places)
-  running_few = (H.ready.coarser, omega (arith, H.ready.level, (legal run.z H.ready.legal).few, (legal run.z H.ready.legal).few_levels))
+  running_few = (H.ready.coarser, omega (arith, H.ready.level, (legal run.z H.ready.legal).few))
 
   pub running_lends : {f : Fill} → f ≡ fill_of counts k → Lending run body work out (record { fill = f; at = run.from })
   running_lends {f} e =
@@ -92,7 +92,7 @@ module _ {run : Run} {body work out : List ℕ} {counts : Counts} (H : Running r
       (part_lending run.stretch.role H.ready run.from run.until H.place H.words H.marks body out
       (subst (λ x. Silent x body) H.runs H.silent) e)
 
-  module _ (places : Places counts) {f : Fill} (e : f ≡ fill_of counts k) {work₁ out₁ : List ℕ} {r : Stand}
+  module _ (six : Places counts) {f : Fill} (e : f ≡ fill_of counts k) {work₁ out₁ : List ℕ} {r : Stand}
       (T : Lent run body work out (record { fill = f; at = run.from }) work₁ out₁ r) {own : Counts} (i : own ≡ with_lists counts k r.fill) where
     lent_run : Lent (run_of run.stretch.role run.z run.plane run.level counts run.from run.until) body work out
         (record { fill = fill_of counts k; at = run.from }) work₁ out₁ r
@@ -105,13 +105,13 @@ module _ {run : Run} {body work out : List ℕ} {counts : Counts} (H : Running r
         record {
           coarser = running_few.0;
           level = running_few.1;
-          few = rw i (more_fits run.stretch.role H.ready run.from run.until places lent_run);
+          few = rw i (more_fits run.stretch.role H.ready run.from run.until six lent_run);
         }
 
     pub running_done : {p : Passed} → p.counts ≡ with_moved own k r.fill.moved → p.at ≡ r.at → PartRun run body work counts out p work₁ out₁
     running_done {p} g h =
         subst (λ x. PartRun x body work counts out p work₁ out₁) (sym H.runs)
-        (part_run run.stretch.role H.ready run.from run.until places lent_run H.marks (g ∙ ap (λ x. with_moved x k r.fill.moved) i) h)
+        (part_run run.stretch.role H.ready run.from run.until six lent_run H.marks (g ∙ ap (λ x. with_moved x k r.fill.moved) i) h)
 
 -- A part that is coded or decoded can be cut and run.
 module _ {z : Size} {plane : Plane} {level : Level} {work : List ℕ} {counts : Counts} (D : Ready z plane level work counts) where
@@ -129,11 +129,7 @@ module _ {z : Size} {plane : Plane} {level : Level} {work : List ℕ} {counts : 
           omega (arith, ap (λ (i : ℕ). get_or counts.lis i 0) same, few level.0 D.coarser D.level)
 
   part_place : (at : ℕ) → at + most_bits z < 2 ^ 61 → at + 4 * level_size z level.0 < 2 ^ 62
-  part_place at h = omega (
-    arith,
-    h,
-    stretch_room z (legal z D.legal) (levels z) (legal z D.legal).some_levels (legal z D.legal).few_levels level.0 D.coarser D.level,
-  )
+  part_place at h = omega (arith, h, stretch_room z (legal z D.legal) level.0 D.coarser D.level)
 
 module _ {z : Size} {plane : Plane} {level : Level} {work : List ℕ} {counts : Counts} {run : Run} {body out : List ℕ} where
   pub coding_runs : {at : BitPosition} → ReadyToCode z plane level work counts at → run ≡ run_of Codes z plane level counts at at
@@ -149,14 +145,14 @@ module _ {z : Size} {plane : Plane} {level : Level} {work : List ℕ} {counts : 
         silent = record { bits = λ h. absurd (true≢false (sym h)) };
       })
 
-  pub decoding_runs : {from until : BitPosition} → ReadyToDecode z plane level work counts × Quiet body until × Between z from until
-      → run ≡ run_of Reads z plane level counts from until → Running run body work counts out
-  decoding_runs {from} (D, Q, B) e =
+  pub decoding_runs : {until : BitPosition} → ReadyToDecode z plane level work counts × Quiet body until
+      → run ≡ run_of Reads z plane level counts (record { at = 0 }) until → Running run body work counts out
+  decoding_runs (D, Q) e =
       subst (λ x. Running x body work counts out) (sym e)
       (record {
         ready = D.ready;
         runs = refl;
-        place = part_place D.ready from.at B.place;
+        place = part_place D.ready 0 (omega (arith, area_bound z D.ready.legal));
         words = λ h. D.words;
         marks = record { lips = λ k i a b h. marked_none refl };
         silent = record { bits = λ h. Q.bits };
@@ -166,14 +162,14 @@ module _ {z : Size} {plane : Plane} {level : Level} {work : List ℕ} {counts : 
     pub coding_done : {at : BitPosition} → ReadyToCode z plane level work counts at → run ≡ run_of Codes z plane level counts at at
         → PartRun run body work counts out r work' out' → PartCoded z plane level work counts out at r work' out'
     coding_done {at} C e P =
-        coded_part z (legal z C.ready.legal) plane level counts at work C.ready.coarser C.ready.level
+        coded_part z (legal z C.ready.legal) plane level counts at work C.ready.coarser
         (subst (λ x. PartRun x body work counts out r work' out') e P) C.ready
 
-    pub decoding_done : {from until : BitPosition} → ReadyToDecode z plane level work counts × Quiet body until × Between z from until
-        → run ≡ run_of Reads z plane level counts from until
-        → PartRun run body work counts out r work' out' → PartDecoded body from until z plane level work counts r work'
-    decoding_done {from} {until} (D, Q, B) e P =
+    pub decoding_done : {until : BitPosition} → ReadyToDecode z plane level work counts × Quiet body until
+        → run ≡ run_of Reads z plane level counts (record { at = 0 }) until
+        → PartRun run body work counts out r work' out' → PartDecoded body until z plane level work counts r work'
+    decoding_done {until} (D, Q) e P =
         let Z = legal z D.ready.legal in
-        decoded_part_lem z Z plane level counts work from until B.before D.ready.coarser
+        decoded_part_lem z Z plane level counts work until D.ready.coarser
         (subst (λ x. PartRun x body work counts out r work' out') e P) D
-        (omega (arith, stretch_length z Z (levels z) Z.some_levels Z.few_levels work level.0 D.ready.coarser D.ready.level D.ready.room))
+        (omega (arith, stretch_length z Z work level.0 D.ready.coarser D.ready.level D.ready.room))

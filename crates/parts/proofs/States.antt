@@ -98,7 +98,7 @@ pub moved_under : (lis : List ℕ) (k m : ℕ) → 2 ≤ k → count_at lis (k -
 moved_under lis k m h l = let i : k - 2 ≡ k - 1 - 1 = omega arith in omega (arith, ap (λ (j : ℕ). get_or lis j 0) i)
 
 -- the counts after a part
-module _ (counts : Counts) (places : Places counts) (k : ℕ) (a : 1 ≤ k) (b : k ≤ level_places) (f : Fill) where
+module _ (counts : Counts) (six : Places counts) (k : ℕ) (a : 1 ≤ k) (b : k ≤ level_places) (f : Fill) where
   abbrev left : Counts
   left = with_moved (with_lists counts k f) k f.moved
 
@@ -127,9 +127,9 @@ module _ (counts : Counts) (places : Places counts) (k : ℕ) (a : 1 ≤ k) (b :
 
   pub counts_own : (count_at left.lip k ≡ f.lip) × (count_at left.lis k ≡ f.kept) × (count_at left.lsp k ≡ f.lsp)
   counts_own = (
-    ap (λ cs. count_at cs k) lists_left.0 ∙ get_or-set_same counts.lip (k - 1) f.lip 0 (omega (arith, places.lip)),
-    counts_lis k a (λ e. omega arith) ∙ get_or-set_same counts.lis (k - 1) f.kept 0 (omega (arith, places.lis)),
-    ap (λ cs. count_at cs k) lists_left.1 ∙ get_or-set_same counts.lsp (k - 1) f.lsp 0 (omega (arith, places.lsp)),
+    ap (λ cs. count_at cs k) lists_left.0 ∙ get_or-set_same counts.lip (k - 1) f.lip 0 (omega (arith, six.lip)),
+    counts_lis k a (λ e. omega arith) ∙ get_or-set_same counts.lis (k - 1) f.kept 0 (omega (arith, six.lis)),
+    ap (λ cs. count_at cs k) lists_left.1 ∙ get_or-set_same counts.lsp (k - 1) f.lsp 0 (omega (arith, six.lsp)),
   )
 
   pub counts_other : (j : ℕ) → 1 ≤ j → j ≢ k
@@ -146,5 +146,5 @@ module _ (counts : Counts) (places : Places counts) (k : ℕ) (a : 1 ≤ k) (b :
   counts_next h =
       let own : List ℕ = set counts.lis (k - 1) f.kept in
       rw (le-leb 2 k h)
-      (get_or-set_same own (k - 1 - 1) (count_at own (k - 1) + f.moved) 0 (omega (arith, places.lis, length-set counts.lis (k - 1) f.kept))
+      (get_or-set_same own (k - 1 - 1) (count_at own (k - 1) + f.moved) 0 (omega (arith, six.lis, length-set counts.lis (k - 1) f.kept))
       ∙ ap (λ (x : ℕ). x + f.moved) (other_set counts.lis f.kept (k - 1) (omega arith) (λ e. omega arith)))

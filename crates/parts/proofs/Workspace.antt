@@ -14,7 +14,7 @@ use Rattle.rules.specs.Document.Calls.{work_for}
 use Rattle.rules.specs.Laws.Family.Sizes.{legal, level_start, level_size}
 use Rattle.rules.specs.Promises.Vocabulary.{Legal}
 use Rattle.stretches.specs.Seg.{seg, seg_at, seg_seg, seg_length}
-use Rattle.stretches.specs.Cut.{stretch_at, maxima_from, stretch_of}
+use Rattle.stretches.specs.Cut.{maxima_from, stretch_of}
 use Rattle.stretches.specs.Levels.{stretch_room, next_start, put_own, put_before, put_behind}
 use Rattle.testing.specs.declared.Run.{Run}
 use Rattle.testing.specs.declared.Stand.{Stand}
@@ -38,17 +38,14 @@ module _ (z : Size) (Z : Legal z) (k : ℕ) (a : 1 ≤ k) (b : k ≤ levels z) w
     where
       by : Dec (2 ≤ k) → (4 * level_start z k + 4 * level_size z k ≤ lent_to z k) × (lent_to z k ≤ work_for z)
       by (yes h) = (
-        omega (arith, lent_next z k h, next_start z Z (levels z) Z.some_levels Z.few_levels k h b),
-        omega (arith, lent_next z k h, stretch_room z Z (levels z) Z.some_levels Z.few_levels (k - 1) (omega arith) (omega arith)),
+        omega (arith, lent_next z k h, next_start z Z k h b),
+        omega (arith, lent_next z k h, stretch_room z Z (k - 1) (omega arith) (omega arith)),
       )
-      by (no h) = (
-        omega (arith, lent_first z k (omega arith)),
-        omega (arith, lent_first z k (omega arith), stretch_room z Z (levels z) Z.some_levels Z.few_levels k a b),
-      )
+      by (no h) = (omega (arith, lent_first z k (omega arith)), omega (arith, lent_first z k (omega arith), stretch_room z Z k a b))
 
   -- the level's own stretch in it, number by number and run by run
   pub lent_inside : (work : List ℕ) (c m : ℕ) → c + m ≤ 4 * level_size z k → seg c m (lent_of z k work) ≡ seg c m (stretch_of z k work)
-  unfolding stretch_at
+  unfolding stretch_of
   lent_inside work c m h =
       seg_seg (4 * level_start z k) (lent_to z k - 4 * level_start z k) c m work (omega (arith, lent_fits.0))
       ∙ sym (seg_seg (4 * level_start z k) (4 * level_size z k) c m work h)

@@ -2,7 +2,7 @@
 use Rattle.std.specs.Prelude.{◌≡◌, List, ◌++◌, map, true, ℕ, ◌+◌, ◌*◌, ◌/◌, ◌≤◌, ◌<◌, ◌^◌, length}
 use Rattle.rules.specs.declared.Size.{Size}
 use Rattle.rules.specs.Document.Notation.{flat}
-use Rattle.rules.specs.Document.Pyramid.{legal_size, depths, levels, level_of, index}
+use Rattle.rules.specs.Document.Pyramid.{legal_size, levels, level_of, index}
 use Rattle.rules.specs.Document.Passes.{from}
 use Rattle.rules.specs.Laws.Counting.Sums.{All}
 use Rattle.rules.specs.Laws.Family.Sizes.{level_start, level_size}
@@ -33,7 +33,7 @@ InBand z row column = (row < z.h / 2 ^ z.n) × (column < z.w / 2 ^ z.n)
 -- Coefficients of the LL band are to be listed. There is room for them in LIP, and in LIS for those with offspring.
 pub record Listing (z : Size) (ps : List ℕ) (t : Stretch) (s : List ℕ) (f : Fill) : Type 0 where
   pub legal : legal_size z ≡ true
-  pub band : All (λ p. level_of z p ≡ depths z) ps
+  pub band : All (λ p. level_of z p ≡ levels z) ps
   pub fits : Fits t s f
   pub size : t.n < 2 ^ 32
   pub first : t.first ≡ level_start z (levels z)

@@ -53,7 +53,7 @@ unfoldable pub lists_at : Size → List ℕ → Counts → ℕ → Lists
 lists_at z work counts k =
     lists_in (level_size z k) (stretch_of z k work) (count_at counts.lip k) (count_at counts.lis k) (count_at counts.lsp k)
 
--- The lists of each level, by the workspace and the counts. There are none outside the levels 1 to K.
+-- The lists of each level, by the workspace and the counts. There are none outside the levels 1 to N+1.
 unfoldable pub state_of : Size → List ℕ → Counts → State
 state_of z work counts k = cond {A = Lists} (leb 1 k && leb k (levels z)) (lists_at z work counts k) nothing
 
@@ -78,7 +78,7 @@ pub record Started (role : Role) (z : Size) (work : List ℕ) (r : Counts) (work
   pub lists : Agree (state_of z work' r) (tree_start z)
   pub same : length work' ≡ length work
   pub words : (x : ℕ) → x < area z → word_in z work' x ≡ word_in z work x
-  pub maxima : (k i : ℕ) → 1 ≤ k → k ≤ levels z → maximum_in z work' k i ≡ maximum_in z work k i
+  pub maxima : (k i : ℕ) → 1 ≤ k → k ≤ z.n → maximum_in z work' k i ≡ maximum_in z work k i
   pub marks : Marks role z work' r
 
 -- what every part asks for
@@ -121,20 +121,14 @@ pub record ReadyToDecode (z : Size) (n : Plane) (k : Level) (work : List ℕ) (c
 pub record Quiet (body : List ℕ) (until : BitPosition) : Type 0 where
   pub bits : (i : ℕ) → until.at ≤ i → bit_at body i ≡ false
 
--- A part's bits go on at a place, and those that are there end at another.
-pub record Between (z : Size) (from until : BitPosition) : Type 0 where
-  pub place : from.at + most_bits z < 2 ^ 61
-  pub before : from.at ≤ until.at
+-- the decoder's course over this part, whose bits that are there end at a place
+abbrev pub course_d : List ℕ → BitPosition → Size → Plane → Level → List ℕ → Counts → Course Reader
+course_d body until z n k work counts = decoded (trees z) (named n k) (bit_at body) until.at (state_of z work counts) (drawn_in z work)
 
--- the decoder's course over this part, of bits between two places
-abbrev pub course_d : List ℕ → BitPosition → BitPosition → Size → Plane → Level → List ℕ → Counts → Course Reader
-course_d body from until z n k work counts =
-    decoded (trees z) (named n k) (λ i. bit_at body (from.at + i)) (until.at - from.at) (state_of z work counts) (drawn_in z work)
-
-pub record PartDecoded (body : List ℕ) (from until : BitPosition) (z : Size) (n : Plane) (k : Level) (work : List ℕ) (counts : Counts)
+pub record PartDecoded (body : List ℕ) (until : BitPosition) (z : Size) (n : Plane) (k : Level) (work : List ℕ) (counts : Counts)
     (r : Passed) (work' : List ℕ) : Type 0 where
-  pub lists : Agree (state_of z work' r.counts) (after k.0 (course_d body from until z n k work counts) (state_of z work counts))
+  pub lists : Agree (state_of z work' r.counts) (after k.0 (course_d body until z n k work counts) (state_of z work counts))
   pub same : length work' ≡ length work
-  pub taken : r.at.at ≡ from.at + (course_d body from until z n k work counts).side.taken
-  pub draws : drawn_in z work' ≡ (course_d body from until z n k work counts).side.pyramid
+  pub taken : r.at.at ≡ (course_d body until z n k work counts).side.taken
+  pub draws : drawn_in z work' ≡ (course_d body until z n k work counts).side.pyramid
   pub grows : (b : ℕ) → Words z b work → Words z (b + 2 * 2 ^ most_planes) work'

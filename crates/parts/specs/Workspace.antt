@@ -71,9 +71,9 @@ run_of role z plane level counts from until =
       plane = plane;
       level = level;
       stretch = stretch_for role z level.0 counts;
-      parents = level_start z level.0 / 4;
-      elders = level_start z level.0 / 16;
-      inner = span z 1;
+      parents = span z (level.0 + 1);
+      elders = span z (level.0 + 2);
+      olds = count_at counts.lis level.0;
       from = from;
       until = until;
     }
@@ -101,7 +101,7 @@ pub record PartRun (run : Run) (body work : List ℕ) (counts : Counts) (out : L
       ≡ (course_in run body work counts out).side
   pub words : (j i : ℕ) → 1 ≤ j → j ≤ levels run.z → (j ≡ run.level.0 → reads run ≡ false) → i < level_size run.z j
       → get_or (stretch_of run.z j work') i 0 ≡ get_or (stretch_of run.z j work) i 0
-  pub maxima : (j i : ℕ) → 1 ≤ j → j ≤ levels run.z → i < level_size run.z j / 4
+  pub maxima : (j i : ℕ) → 1 ≤ j → j ≤ run.z.n → i < level_size run.z j / 4
       → get_or (maxima_in (level_size run.z j) (stretch_of run.z j work')) i 0
       ≡ get_or (maxima_in (level_size run.z j) (stretch_of run.z j work)) i 0
   pub marks : Marks run.stretch.role run.z work' r.counts

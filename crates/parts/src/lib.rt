@@ -4,8 +4,7 @@ ghost use Rattle.std.specs.Prelude.{◌≡◌, true, [], ◌∷◌, ◌+◌, ◌
 ghost use Rattle.rules.specs.Document.Pyramid.{legal_size, levels};
 ghost use Rattle.rules.specs.Document.Passes.{band_ll};
 ghost use Rattle.rules.specs.Document.Calls.{level_places, work_for};
-ghost use Rattle.parts.specs.Standing.{Places, fill_of, with_lists, Started, ReadyToCode, PartCoded, ReadyToDecode, Quiet, Between};
-ghost use Rattle.parts.specs.Standing.{PartDecoded};
+ghost use Rattle.parts.specs.Standing.{Places, fill_of, with_lists, Started, ReadyToCode, PartCoded, ReadyToDecode, Quiet, PartDecoded};
 ghost use Rattle.parts.specs.Workspace.{lent_to, stretch_for, with_moved, Counting, Cutting, Lending, Lent, run_of, Running, PartRun};
 ghost use Rattle.parts.specs.Begin.{empty, row_of, band_at, InBand, Listing, Listed};
 
@@ -82,14 +81,14 @@ fn list_band(z: Size, s: &mut [u32], stretch: Stretch) -> Fill
     r
 }
 
-// Start: LIP of the highest level holds the LL band row by row, its LIS those with offspring as type A; all else is empty. Its stretch
+// Start: LIP of level N+1 holds the LL band row by row, its LIS those with offspring as type A; all else is empty. The stretch of level N+1
 // is the first in the workspace; what the others' lists hold doesn't matter while their counts are 0.
 pub fn start(role: Role, z: Size, work: &mut [u32]) -> Counts
     requires { (legal_size z ≡ true) × (work_for z ≤ length work.old) }
     ensures { Started role z work.old result work.new }
 {
-    let top = shape::levels(z);
-    let n = shape::level_size(z, Level(top));
+    let top = z.n;
+    let n = shape::level_size(z, Level(top + 1));
     let stretch = Stretch {
         role,
         n,
@@ -98,9 +97,9 @@ pub fn start(role: Role, z: Size, work: &mut [u32]) -> Counts
     };
     let f = list_band(z, &mut work[0..4 * n], stretch);
     let mut lip = [0; LEVEL_PLACES];
-    lip[top - 1] = f.lip;
+    lip[top] = f.lip;
     let mut lis = [0; LEVEL_PLACES];
-    lis[top - 1] = f.left;
+    lis[top] = f.left;
     Counts {
         lip,
         lsp: [0; LEVEL_PLACES],
@@ -229,16 +228,16 @@ fn run_of(
     requires { Cutting z level counts }
     ensures { result ≡ run_of role z plane level counts from until }
 {
-    let stretch = stretch_of(role, z, level, counts);
-    let first = stretch.first;
+    let fill = fill_of(counts, level);
+    let olds = fill.left;
     Run {
         z,
         plane,
         level,
-        stretch,
-        parents: first / 4,
-        elders: first / 16,
-        inner: shape::span_of(z, Depth(1)),
+        stretch: stretch_of(role, z, level, counts),
+        parents: shape::span_of(z, Depth(level.0 + 1)),
+        elders: shape::span_of(z, Depth(level.0 + 2)),
+        olds,
         from,
         until,
     }
@@ -262,11 +261,9 @@ pub fn code_part(
     run_part(run, &body, work, counts, out)
 }
 
-// One part decoded from a place of a body on, as far as its bits are there: the coefficients drawn, and the lists after it. The decoder writes no
-// bit.
+// One part decoded from its body, as far as its bits are there: the coefficients drawn, and the lists after it. The decoder writes no bit.
 pub fn decode_part(
     body: &[u8],
-    from: BitPosition,
     until: BitPosition,
     z: Size,
     plane: Plane,
@@ -274,10 +271,18 @@ pub fn decode_part(
     work: &mut [u32],
     counts: Counts,
 ) -> Passed
-    requires { ReadyToDecode z plane level work.old counts × Quiet body.now until × Between z from until }
-    ensures { PartDecoded body.now from until z plane level work.old counts result work.new }
+    requires { ReadyToDecode z plane level work.old counts × Quiet body.now until }
+    ensures { PartDecoded body.now until z plane level work.old counts result work.new }
 {
     let mut unwritten = [0u8; 1];
-    let run = run_of(Role::Reads, z, plane, level, counts, from, until);
+    let run = run_of(
+        Role::Reads,
+        z,
+        plane,
+        level,
+        counts,
+        BitPosition { at: 0 },
+        until,
+    );
     run_part(run, body, work, counts, &mut unwritten)
 }

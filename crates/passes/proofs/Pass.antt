@@ -156,6 +156,8 @@ module _ (run : Run) {body s out : List ℕ} {w : Stand} (H : Fresh run body s o
           room =
               let b : w₁.fill.lip + w₁.fill.lsp ≡ w.fill.lsp + length l.lip = omega (arith, T.both) in
               rw (u, v, b) r;
+          queue = rw (u, v) H.queue;
+          olds = omega (arith, H.olds, T.left);
           past = omega (arith, T.kept, T.moved, H.kept, H.moved);
           place = omega (arith, T.place, T.both, H.place);
         }

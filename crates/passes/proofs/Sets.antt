@@ -1,39 +1,42 @@
 -- Step 2: sets put at the end of LIS, and what the visit of a set makes of lists and side.
 use mathlib.Core.Path.{◌≡◌, refl, sym, ap, ap₂, ◌∙◌, subst}
-use mathlib.Core.Bool.{true, false}
+use mathlib.Core.Bool.{Bool, true, false, cond}
 use mathlib.Core.List.{List, [], ◌∷◌, ◌++◌, map, append_assoc, append-nil}
 use Prim.Native.Nat.{ℕ, suc, ◌+◌, ◌*◌, ◌≤◌, ◌<◌, ◌^◌}
 use native.Mathlib.Nat.{add-zero}
+use native.Mathlib.Numerals.{add-one}
 use native.Mathlib.Omega.{arith}
-use lib.Dec.{ltb}
+use native.Mathlib.Decide.{dec_lt}
+use lib.Dec.{leb, ltb}
 use lib.ListN.{length, length-append}
-use Rattle.rules.specs.Document.Pyramid.{Family, levels}
-use Rattle.rules.specs.Document.Passes.{Entry, typeA, typeB, set?, stays, in_level, opened, added, Side, Course, listed, listing, done}
+use borrow.Author.Tests.{le-ltb, le-leb, lt-leb}
+use Rattle.rules.specs.Document.Pyramid.{Family}
+use Rattle.rules.specs.Document.Passes.{Entry, typeA, typeB, set?, stays, opened, added, Side, Course, listed, listing, done}
 use Rattle.rules.specs.Laws.Counting.Sums.{All, all_then}
 use Rattle.rules.specs.Laws.Family.Lawful.{Lawful}
-use Rattle.rules.specs.Laws.Family.Sizes.{legal, level_end, size_of_end, area_bound}
+use Rattle.rules.specs.Laws.Family.Sizes.{legal, level_start, level_size}
 use Rattle.rules.specs.Promises.Vocabulary.{Legal}
-use Rattle.rules.specs.Laws.Pass.Levels.{Met, Settled, node_of, opened_placed}
+use Rattle.rules.specs.Laws.Pass.Levels.{Met, node_of, type_a_met, opened_placed}
 use Rattle.rules.specs.Laws.Pass.Steps.{tried_all, visited_all, walk_stays, walk_opens}
 use Rattle.rules.specs.Laws.Pass.Slots.{Room, room_past, room_open, room_tests, room_slots, room_held}
-use Rattle.trees.specs.Family.{tree_part}
+use Rattle.trees.specs.Family.{tree_level, tree_offspring}
 use Rattle.trees.specs.Lawful.{trees_lawful}
-use Rattle.trees.specs.Members.{settled_a, settled_b}
+use Rattle.trees.specs.Sound.{tree_level_most, tree_level_area}
 use Rattle.bits.specs.declared.BitRead.{BitRead}
 use Rattle.stretches.specs.Cut.{set_room, values_in}
-use Rattle.stretches.specs.Levels.{level_ends, level_place}
+use Rattle.stretches.specs.Levels.{numbered}
 use Rattle.lists.specs.declared.Stretch.{Stretch}
 use Rattle.lists.specs.declared.Fill.{Fill}
 use Rattle.lists.specs.declared.Set.{Set}
 use Rattle.lists.specs.declared.Set.TheVariants.{TypeA, TypeB}
-use Rattle.lists.specs.Lists.{Inside, entry_of, index_of, four_from, waiting, held, Fits, LinedUp, SetAdded, SetKept, sets_fit, todo_length, all_waiting}
+use Rattle.lists.specs.Lists.{Inside, entry_of, four_from, waiting, held, Fits, LinedUp, SetAdded, SetKept, sets_fit, todo_length, all_waiting}
 use Rattle.lists.specs.Besides.{beside_none, beside_then, beside_values}
 use Rattle.testing.specs.declared.Run.{Run}
 use Rattle.testing.specs.declared.Stand.{Stand}
 use Rattle.testing.specs.Exchange.{Chan, chan, family_of, side, Replied, Around, notes, quiet_stays, around_then, around_beside, side_same}
 use Rattle.testing.specs.Finding.{course_of, course, Testing, Tested, tested_none}
-use Rattle.passes.specs.Steps.{visits_of, Proper, Added, Opened, Opening, has_member, InHand, Weighed}
-use Rattle.passes.proofs.Trees.{met_four_a, met_four_b, met_added_more, met_added_less, met_bound}
+use Rattle.passes.specs.Steps.{visits_of, Proper, Added, Opened, Opening, has_member, Queued, InHand, Weighed}
+use Rattle.passes.proofs.Trees.{met_four_a, met_four_b, met_added_more, met_added_less, met_b_finer, met_level_b, met_bound}
 
 -- Sets at the end of LIS: none, one, and more.
 added_none : (t : Stretch) (s : List ℕ) (f : Fill) → Fits t s f → Added [] t s f s f
@@ -154,11 +157,13 @@ tested_lined {run} {body} ps {s} {out} {s₁} {s₂} {out₂} {w} {w₂} L far T
     }
 
 -- the coefficients of the level, by their tree numbers
-pub inside_level : {run : Run} → Proper run → (x : ℕ) → tree_part run.z x ≡ run.level.0 → Inside run.stretch x
+pub inside_level : {run : Run} → Proper run → (x : ℕ) → tree_level run.z x ≡ run.level.0 → Inside run.stretch x
 inside_level {run} P x e =
     let Z = legal run.z P.legal in
-    let p = level_place run.z Z (levels run.z) Z.some_levels Z.few_levels run.level.0 x e P.coarser in
-    (omega (arith, p.1, P.first), omega (arith, p.2, P.first, P.count))
+    let N = numbered run.z Z x (tree_level_area run.z Z x (omega (arith, P.coarser))) in
+    let start = ap (level_start run.z) e in
+    let size = ap (level_size run.z) e in
+    (omega (arith, N.from, P.first), omega (arith, N.from, N.under, P.first, P.count))
 
 -- A set to open: what is asked for by the tests and by the sets put behind LIS, and what comes of it.
 module _ {run : Run} {e : Entry} {s : List ℕ} {w : Stand} (O : Opening run e s w) where
@@ -181,7 +186,7 @@ module _ {run : Run} {e : Entry} {s : List ℕ} {w : Stand} (O : Opening run e s
 module _ {run : Run} {x : ℕ} {s : List ℕ} {w : Stand} (O : Opening run (typeA x) s w) where
   four_a : opened (family_of run) (typeA x) ≡ four_from (4 * x)
   unfolding opened
-  four_a = met_four_a run.z (legal_size_lem O) x O.met
+  four_a = met_four_a run.z (legal_size_lem O) run.level.0 O.proper.coarser x O.met
 
   small_a : 4 * x + 4 < 2 ^ 26
   unfolding node_of
@@ -196,7 +201,7 @@ module _ {run : Run} {x : ℕ} {s : List ℕ} {w : Stand} (O : Opening run (type
   inside_a : All (Inside run.stretch) (four_from (4 * x))
   inside_a =
       all_then _ _ (four_from (4 * x)) (inside_level O.proper)
-      (subst (All (λ p. tree_part run.z p ≡ run.level.0)) four_a
+      (subst (All (λ p. tree_level run.z p ≡ run.level.0)) four_a
       (opened_placed (trees_lawful run.z (legal_size_lem O)) run.level.0 (typeA x) O.met))
 
   pub room_a : w.fill.lip + 4 ≤ run.stretch.n
@@ -227,9 +232,9 @@ module _ {run : Run} {x : ℕ} {s : List ℕ} {w : Stand} (O : Opening run (type
     tested_a T = tested_lined (four_from (4 * x)) U O.fits.behind T
 
   module _ {body out s₁ out₁ : List ℕ} {w₁ : Stand} (T : Tested run body (four_from (4 * x)) s out w s₁ out₁ w₁) where
-    module _ (h : 4 * x < run.inner) where
+    module _ (h : 1 < run.level.0) where
       as_b : added (family_of run) (typeA x) ≡ typeB x ∷ []
-      as_b = met_added_more run.z (legal_size_lem O) x O.met (omega (arith, O.proper.inner))
+      as_b = met_added_more run.z (legal_size_lem O) run.level.0 O.proper.coarser x O.met h
 
       pub set_room_a : w₁.fill.visited + w₁.fill.left < set_room run.stretch.n
       set_room_a = let n = ap length as_b in omega (arith, T.visited, T.left, sets_room O)
@@ -238,14 +243,14 @@ module _ {run : Run} {x : ℕ} {s : List ℕ} {w : Stand} (O : Opening run (type
           → Opened run body (typeA x) s out w s₂ out₁ (record { fill = f; at = w₁.at })
       opened_a_more A = opened_by {e = typeA x} _ (typeB x ∷ []) four_a as_b T (added_one A)
 
-    pub opened_a_less : run.inner ≤ 4 * x → Opened run body (typeA x) s out w s₁ out₁ w₁
+    pub opened_a_less : run.level.0 ≤ 1 → Opened run body (typeA x) s out w s₁ out₁ w₁
     opened_a_less h =
-        opened_by {e = typeA x} _ [] four_a (met_added_less run.z (legal_size_lem O) x O.met (omega (arith, O.proper.inner))) T
+        opened_by {e = typeA x} _ [] four_a (met_added_less run.z (legal_size_lem O) run.level.0 O.proper.coarser x O.met h) T
         (added_none run.stretch s₁ w₁.fill T.fits)
 
 module _ {run : Run} {x : ℕ} {s : List ℕ} {w : Stand} (O : Opening run (typeB x) s w) where
   four_b : four_from (4 * x) ≡ (family_of run).offspring x
-  four_b = sym (met_four_b run.z (legal_size_lem O) x O.met)
+  four_b = sym (met_four_b run.z (legal_size_lem O) run.level.0 O.proper.coarser x O.met)
 
   adds_b : length (added (family_of run) (typeB x)) ≡ 4
   unfolding added
@@ -305,6 +310,35 @@ module _ (run : Run) (P : Proper run) where
   L : Lawful F
   L = trees_lawful run.z Z
 
+  -- Which sets of the queue have a member in the level.
+  queue_append : (v : ℕ) (es fs : List Entry) → Queued run v es → Queued run (v + length es) fs → Queued run v (es ++ fs)
+  unfolding Queued
+  queue_append v [] fs a b = subst (λ (x : ℕ). Queued run x fs) (add-zero v) b
+  queue_append v (e ∷ es) fs a b =
+      let i : v + length (e ∷ es) ≡ suc v + length es = omega arith in
+      (a.0, queue_append (suc v) es fs a.1 (subst (λ (x : ℕ). Queued run x fs) i b))
+
+  queue_met : (v : ℕ) (ps : List ℕ) → k ≤ run.z.n → All (λ p. Met F k (typeA p)) ps → Queued run v (map typeA ps)
+  unfolding Queued All has_member
+  queue_met v [] h a = tt
+  queue_met v (p ∷ ps) h a = (a.0.there ∙ sym (le-leb k run.z.n h), queue_met (suc v) ps h a.1)
+
+  either_false : (b c : Bool) → c ≡ false → false ≡ cond b c false
+  either_false true c e = sym e
+  either_false false c e = refl
+
+  queue_added : (v : ℕ) (e : Entry) → Met F k e → run.olds ≤ v → Queued run v (added F e)
+  unfolding Queued has_member
+  queue_added v (typeA x) m h = by (dec_lt 1 k)
+    where
+      by : Dec (1 < k) → Queued run v (added F (typeA x))
+      by (yes l) =
+          subst (Queued run v) (sym (met_added_more run.z Z k P.coarser x m l))
+          (met_b_finer run.z Z k P.coarser x m ∙ either_false (leb k run.z.n) (ltb v run.olds) (le-ltb v run.olds h), tt)
+      by (no l) = subst (Queued run v) (sym (met_added_less run.z Z k P.coarser x m (omega arith))) tt
+  queue_added v (typeB x) m h = unfold added in
+      queue_met v (tree_offspring run.z x) (omega (arith, met_level_b run.z Z k P.coarser x m, tree_level_most run.z Z x)) (type_a_met L k x m)
+
   -- The set in hand has members in the level; there is room for what comes of it.
   module _ {body : List ℕ} {e : Entry} {s out : List ℕ} {w : Stand} (H : InHand run body e s out w) where
     abbrev es : List Entry
@@ -327,6 +361,9 @@ module _ (run : Run) (P : Proper run) where
     hand_room =
         subst (λ (v : ℕ). Room F k run.stretch.n (w.fill.lip + w.fill.lsp) v (opened F e) (es ++ added F e)) (sym H.count)
         (room_open L H.there H.room)
+
+    hand_queue : Queued run w.fill.visited es
+    hand_queue = subst (λ (v : ℕ). Queued run v es) (sym (H.count ∙ add-one H.before)) H.queue
 
     pub hand_place : w.at.at < 2 ^ 62
     hand_place = omega (arith, H.place, P.from, room_held hand_room, room_slots L hand_room, H.count)
@@ -380,6 +417,8 @@ module _ (run : Run) (P : Proper run) where
               fits = K.fits;
               away = omega (arith, H.away, ap (λ x. length x.moved) (kept_makes h K), K.beside.long);
               room = rw (t, a, b, v) r;
+              queue = rw (t, v) hand_queue;
+              olds = omega (arith, H.olds, ap (λ x. x.left) K.fill);
               past = omega (arith, H.past, H.count, ap (λ x. x.kept) K.fill);
               place = omega (arith, H.place, H.count, R.place);
             };
@@ -408,6 +447,11 @@ module _ (run : Run) (P : Proper run) where
                 fits = O.fits;
                 away = omega (arith, H.away, ap (λ x. length x.moved) opened_makes, O.around.long);
                 room = rw (O.todo, O.both, O.visited) q;
+                queue =
+                    rw (O.todo, O.visited)
+                    (queue_append w.fill.visited es (added F e) hand_queue
+                    (queue_added _ e hand_met (omega (arith, H.olds, todo_length run.stretch s w.fill H.fits))));
+                olds = omega (arith, H.olds, O.visited, O.left);
                 past = omega (arith, H.past, H.count, O.kept, O.moved, O.visited);
                 place = omega (arith, H.place, H.count, R.place, O.place, O.both, O.visited);
               };
@@ -419,39 +463,16 @@ module _ (run : Run) (P : Proper run) where
             }
 
 -- whether a set has members in the level
-module _ {e : Set} {x : ℕ} where
-  pub scaled_by_4 : e ≡ TypeA x → index_of e < 2 ^ 31 → 4 * x < 2 ^ 64
-  scaled_by_4 i h = let j : index_of e ≡ x = ap index_of i in omega arith
+pub has_none : (run : Run) (v : ℕ) (e : Set) → run.z.n < run.level.0 → false ≡ has_member run v (entry_of e)
+unfolding has_member
+has_none run v (TypeA x) h = sym (lt-leb run.level.0 run.z.n h)
+has_none run v (TypeB x) h = rw (lt-leb run.level.0 run.z.n h)
 
-  pub scaled_by_16 : e ≡ TypeB x → index_of e < 2 ^ 31 → 16 * x < 2 ^ 64
-  scaled_by_16 i h = let j : index_of e ≡ x = ap index_of i in omega arith
-
-module _ (run : Run) {e : Set} {x : ℕ} where
-  pub has_a : e ≡ TypeA x → {end : ℕ} → end ≡ run.stretch.first + run.stretch.n → ltb (4 * x) end ≡ has_member run (entry_of e)
+module _ (run : Run) (v : ℕ) {e : Set} {x : ℕ} (h : run.level.0 ≤ run.z.n) where
+  pub has_a : e ≡ TypeA x → true ≡ has_member run v (entry_of e)
   unfolding has_member
-  has_a i j = ap (ltb (4 * x)) j ∙ sym (ap (λ y. has_member run (entry_of y)) i)
+  has_a i = sym (ap (λ y. has_member run v (entry_of y)) i ∙ le-leb run.level.0 run.z.n h)
 
-  pub has_b : e ≡ TypeB x → {end : ℕ} → end ≡ run.stretch.first + run.stretch.n → ltb (16 * x) end ≡ has_member run (entry_of e)
+  pub has_b : e ≡ TypeB x → ltb v run.olds ≡ has_member run v (entry_of e)
   unfolding has_member
-  has_b i j = ap (ltb (16 * x)) j ∙ sym (ap (λ y. has_member run (entry_of y)) i)
-
--- and that it says so: a set of LIS is settled
-pub has_is : (run : Run) → Proper run → (e : Entry) → Settled (family_of run) run.level.0 e → in_level (family_of run) run.level.0 e ≡ has_member run e
-has_is run P e s = by e s
-  where
-    Z : Legal run.z
-    Z = legal run.z P.legal
-
-    end : level_end run.z run.level.0 ≡ run.stretch.first + run.stretch.n
-    end = omega (arith, P.first, P.count, size_of_end run.z Z (levels run.z) Z.some_levels Z.few_levels run.level.0 P.coarser P.level)
-
-    by : (e : Entry) → Settled (family_of run) run.level.0 e → in_level (family_of run) run.level.0 e ≡ has_member run e
-    by (typeA x) s = unfold has_member in settled_a run.z Z P.coarser P.level x s ∙ ap (ltb (4 * x)) end
-    by (typeB x) s = unfold has_member in settled_b run.z Z P.coarser P.level x s ∙ ap (ltb (16 * x)) end
-
-pub end_small : (run : Run) → Proper run → run.stretch.first + run.stretch.n < 2 ^ 32
-end_small run P =
-    let Z = legal run.z P.legal in
-    let e = size_of_end run.z Z (levels run.z) Z.some_levels Z.few_levels run.level.0 P.coarser P.level in
-    let m = level_ends run.z Z (levels run.z) Z.some_levels Z.few_levels run.level.0 P.coarser P.level in
-    omega (arith, P.first, P.count, area_bound run.z P.legal)
+  has_b i = sym (ap (λ y. has_member run v (entry_of y)) i ∙ rw (le-leb run.level.0 run.z.n h))

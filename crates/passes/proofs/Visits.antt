@@ -1,10 +1,10 @@
 -- Step 2: the next set of LIS is taken, and weighed or moved out; several visits in a row.
-use Rattle.rules.specs.Laws.Counting.Sums.{All}
 use mathlib.Core.Path.{◌≡◌, refl, sym, ap, ap₂, ◌∙◌, subst}
 use mathlib.Core.Bool.{Bool, true, false}
 use mathlib.Core.List.{List, [], ◌∷◌, ◌++◌}
-use Prim.Native.Nat.{ℕ, ◌+◌, ◌≤◌, ◌<◌}
+use Prim.Native.Nat.{ℕ, suc, ◌+◌, ◌≤◌, ◌<◌}
 use native.Mathlib.Nat.{le_refl}
+use native.Mathlib.Numerals.{add-one}
 use native.Mathlib.Omega.{arith}
 use lib.ListN.{length, length-append}
 use Rattle.rules.specs.Document.Pyramid.{Family}
@@ -23,8 +23,8 @@ use Rattle.testing.specs.declared.Run.{Run}
 use Rattle.testing.specs.declared.Stand.{Stand}
 use Rattle.testing.specs.Exchange.{Chan, chan, family_of, side, notes, quiet_moves, around_none, around_then, around_beside}
 use Rattle.testing.specs.Finding.{course_of, course}
-use Rattle.passes.specs.Steps.{visits_of, Proper, has_member, Underway, InHand, Weighed, Visited}
-use Rattle.passes.proofs.Sets.{visits_side, has_is}
+use Rattle.passes.specs.Steps.{visits_of, Proper, has_member, Queued, Underway, InHand, Weighed, Visited}
+use Rattle.passes.proofs.Sets.{visits_side}
 
 -- The sets that have moved out only become more; one more where the next set has no member in the level.
 module _ {F : Family} (L : Lawful F) (k : ℕ) {S : Type 0} (C : Side S) where
@@ -85,9 +85,9 @@ module _ (run : Run) (P : Proper run) where
     room_taken : Room F k run.stretch.n (w.fill.lip + w.fill.lsp) w.fill.visited [] (e ∷ es)
     room_taken = rw todo_taken at R.room
 
-    member_taken : in_level F k e ≡ has_member run e
-    unfolding All
-    member_taken = has_is run P e room_taken.settled.0
+    queue_taken : (in_level F k e ≡ has_member run w.fill.visited e) × Queued run (suc w.fill.visited) es
+    unfolding Queued
+    queue_taken = rw todo_taken at R.queue
 
     course_taken : course_of (held run.stretch s f₀) (chan out vs w.at.at) ≡ c
     course_taken = sym (ap (λ h. course_of h (chan out vs w.at.at)) N.holds)
@@ -100,7 +100,7 @@ module _ (run : Run) (P : Proper run) where
       pub taken_fits : Fits run.stretch s f
       taken_fits = subst (Fits run.stretch s) (sym i) N.fits
 
-      pub taken_hand : {h : Bool} → h ≡ has_member run e → h ≡ true → 0 < w.fill.left
+      pub taken_hand : {h : Bool} → h ≡ has_member run w.fill.visited e → h ≡ true → 0 < w.fill.left
           → InHand run body e s out (record { fill = f; at = w.at })
       taken_hand j t l =
           subst (λ g. InHand run body e s out (record { fill = g; at = w.at })) (sym i)
@@ -109,8 +109,10 @@ module _ (run : Run) (P : Proper run) where
             count = refl;
             fits = N.fits;
             away = omega (arith, R.away, ap (λ x. length x.moved) visits_taken);
-            there = member_taken ∙ sym j ∙ t;
+            there = queue_taken.0 ∙ sym j ∙ t;
             room = room_taken;
+            queue = queue_taken.1;
+            olds = omega (arith, R.olds);
             past = R.past;
             place = R.place;
           })
@@ -134,9 +136,9 @@ module _ (run : Run) (P : Proper run) where
         weighed_count = W.visited
 
       -- one with no member in the level moves out: there is room for it
-      module _ {h : Bool} (j : h ≡ has_member run e) (gone : h ≡ false) where
+      module _ {h : Bool} (j : h ≡ has_member run w.fill.visited e) (gone : h ≡ false) where
         none_here : in_level F k e ≡ false
-        none_here = member_taken ∙ sym j ∙ gone
+        none_here = queue_taken.0 ∙ sym j ∙ gone
 
         pub taken_room : run.stretch.away + f.moved < length s
         taken_room =
@@ -183,6 +185,8 @@ module _ (run : Run) (P : Proper run) where
                   fits = M.fits;
                   away = omega (arith, R.away, ap (λ x. length x.moved) moved_makes, M.beside.long);
                   room = rw (u, a, b, moved_count) (room_past L room_taken);
+                  queue = rw (u, moved_count, add-one) queue_taken.1;
+                  olds = omega (arith, R.olds, ap (λ x. x.left) M.fill, moved_count);
                   past = omega (arith, R.past, ap (λ x. x.kept) M.fill, moved_count);
                   place = omega (arith, R.place, moved_count);
                 };

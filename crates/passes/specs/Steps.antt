@@ -1,5 +1,5 @@
 -- What the steps of a pass leave, in a level's stretch and in the output: the contracts of the functions inside.
-use Rattle.std.specs.Prelude.{◌≡◌, List, [], ◌∷◌, ◌++◌, Bool, true, ℕ, ◌+◌, ◌*◌, ◌/◌, ◌≤◌, ◌<◌, ◌^◌, ltb, length}
+use Rattle.std.specs.Prelude.{◌≡◌, List, [], ◌∷◌, ◌++◌, Bool, true, false, cond, ℕ, suc, ◌+◌, ◌*◌, ◌≤◌, ◌<◌, ◌^◌, leb, ltb, length}
 use Rattle.rules.specs.Document.Pyramid.{legal_size, levels, most_planes}
 use Rattle.rules.specs.Document.Passes.{Entry, typeA, typeB, in_level, opened, added, Lists, Course, listing, passed}
 use Rattle.rules.specs.Laws.Pass.Steps.{tried_all, visited_all}
@@ -25,9 +25,8 @@ pub record Proper (run : Run) : Type 0 where
   pub size : run.stretch.n < 2 ^ 32
   pub count : run.stretch.n ≡ level_size run.z run.level.0
   pub first : run.stretch.first ≡ level_start run.z run.level.0
-  pub parents : run.parents ≡ level_start run.z run.level.0 / 4
-  pub elders : run.elders ≡ level_start run.z run.level.0 / 16
-  pub inner : run.inner ≡ span run.z 1
+  pub parents : run.parents ≡ span run.z (run.level.0 + 1)
+  pub elders : run.elders ≡ span run.z (run.level.0 + 2)
   pub from : run.from.at + 4 * run.stretch.n < 2 ^ 62
 
 -- Sets were put at the end of LIS; all else is as it was.
@@ -68,10 +67,15 @@ pub record Opening (run : Run) (e : Entry) (s : List ℕ) (w : Stand) : Type 0 w
       ((held run.stretch s w.fill).todo ++ added (family_of run) e)
   pub place : w.at.at + 2 * length (opened (family_of run) e) < 2 ^ 62
 
--- Which sets of LIS have a member in the level, by their tree number: 4 x is the first in D, 16 x the first in L.
-unfoldable pub has_member : Run → Entry → Bool
-has_member run (typeA p) = ltb (4 * p) (run.stretch.first + run.stretch.n)
-has_member run (typeB p) = ltb (16 * p) (run.stretch.first + run.stretch.n)
+-- Which sets of LIS have a member in the level, by their type and their place: the roots of level N+1 have none there. Elsewhere each of type A
+-- has, and each of type B that was there at the beginning; one that was made meanwhile has its members in finer levels.
+unfoldable pub has_member : Run → ℕ → Entry → Bool
+has_member run v (typeA p) = leb run.level.0 run.z.n
+has_member run v (typeB p) = cond (leb run.level.0 run.z.n) (ltb v run.olds) false
+
+unfoldable pub Queued : Run → ℕ → List Entry → Type 0
+Queued run v [] = Unit {0}
+Queued run v (e ∷ es) = (in_level (family_of run) run.level.0 e ≡ has_member run v e) × Queued run (suc v) es
 
 -- what is left of the visits makes of a course
 abbrev pub visits_of : Run → List ℕ → List ℕ → List Entry → Course Chan → Course Chan
@@ -83,6 +87,8 @@ pub record Underway (run : Run) (body s out : List ℕ) (w : Stand) : Type 0 whe
   pub fits : Fits run.stretch s w.fill
   pub away : run.stretch.away + length (visits_of run body s (held run.stretch s w.fill).todo (course run.stretch s out w)).moved ≤ length s
   pub room : Room (family_of run) run.level.0 run.stretch.n (w.fill.lip + w.fill.lsp) w.fill.visited [] (held run.stretch s w.fill).todo
+  pub queue : Queued run w.fill.visited (held run.stretch s w.fill).todo
+  pub olds : run.olds ≤ w.fill.visited + w.fill.left
   pub past : w.fill.kept + w.fill.moved ≤ w.fill.visited
   pub place : w.at.at ≤ run.from.at + 2 * (w.fill.lip + w.fill.lsp) + w.fill.visited
 
@@ -94,6 +100,8 @@ pub record InHand (run : Run) (body : List ℕ) (e : Entry) (s out : List ℕ) (
   pub away : run.stretch.away + length (visits_of run body s (e ∷ (held run.stretch s w.fill).todo) (course run.stretch s out w)).moved ≤ length s
   pub there : in_level (family_of run) run.level.0 e ≡ true
   pub room : Room (family_of run) run.level.0 run.stretch.n (w.fill.lip + w.fill.lsp) before [] (e ∷ (held run.stretch s w.fill).todo)
+  pub queue : Queued run (suc before) (held run.stretch s w.fill).todo
+  pub olds : run.olds ≤ w.fill.visited + w.fill.left
   pub past : w.fill.kept + w.fill.moved ≤ before
   pub place : w.at.at ≤ run.from.at + 2 * (w.fill.lip + w.fill.lsp) + before
 
@@ -135,6 +143,8 @@ pub record Fresh (run : Run) (body s out : List ℕ) (w : Stand) : Type 0 where
   pub room : Room (family_of run) run.level.0 run.stretch.n w.fill.lsp 0 (held run.stretch s w.fill).lip
       (held run.stretch s w.fill).todo
   pub away : run.stretch.away + length (pass_of run body s out w).moved ≤ length s
+  pub queue : Queued run 0 (held run.stretch s w.fill).todo
+  pub olds : run.olds ≤ w.fill.left
   pub kept : w.fill.kept ≡ 0
   pub visited : w.fill.visited ≡ 0
   pub moved : w.fill.moved ≡ 0

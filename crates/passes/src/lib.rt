@@ -39,7 +39,7 @@ fn open_a(run: Run, body: &[u8], s: &mut [u32], w: Stand, out: &mut [u8], x: usi
 {
     let ends = test_offspring(run, body, s, w, out, x);
     let r = testing::moved_to(w, ends);
-    if 4 * x < run.inner {
+    if 1 < run.level.0 {
         let fill = lists::add_set(s, run.stretch, r.fill, Set::TypeB(x));
         let at = r.at;
         return Stand { fill, at };
@@ -68,16 +68,17 @@ fn open_set(run: Run, body: &[u8], s: &mut [u32], w: Stand, out: &mut [u8], e: S
     }
 }
 
-// Whether a set has a member in the level: D if its first, 4 x, lies before the level's end, L if its first, 16 x, does. A set in LIS has none that lies
-// before the level.
-fn has_member(run: Run, e: Set) -> bool
-    requires { (index_of e < 2 ^ 31) × (run.stretch.first + run.stretch.n < 2 ^ 32) }
-    ensures { result ≡ has_member run (entry_of e) }
+// Whether a set has a member in the level: the roots of level N+1 have none there. Elsewhere each of type A has, and each of type B that was in
+// LIS at the beginning; one that was made meanwhile has its members in finer levels.
+fn has_member(run: Run, visited: usize, e: Set) -> bool
+    ensures { result ≡ has_member run visited (entry_of e) }
 {
-    let end = run.stretch.first + run.stretch.n;
+    if run.z.n < run.level.0 {
+        return false;
+    }
     match e {
-        Set::TypeA(x) => 4 * x < end,
-        Set::TypeB(x) => 16 * x < end,
+        Set::TypeA(_) => true,
+        Set::TypeB(_) => visited < run.olds,
     }
 }
 
@@ -105,7 +106,7 @@ fn visit_set(run: Run, body: &[u8], s: &mut [u32], w: Stand, out: &mut [u8]) -> 
     let e = lists::next_set(s, run.stretch, w.fill);
     let fill = lists::past_set(w.fill);
     let at = w.at;
-    if has_member(run, e) {
+    if has_member(run, w.fill.visited, e) {
         return weigh(run, body, s, Stand { fill, at }, out, e);
     }
     let gone = lists::move_set(s, run.stretch, fill, e);

@@ -1,29 +1,26 @@
--- What follows from the definitions of Document, and proves what Promises states.
+-- What follows from the definitions of Document.
+pub mod PictureCases
 pub mod Reversible
 pub mod Grids
 pub mod Tones
-pub mod Clipped
+pub mod NetpbmCases
 pub mod Growth
-pub mod TwoTurns
-pub mod TwoLows
 pub mod Turns
 pub mod Range
 pub mod Behind
 pub mod GreyReturns
 pub mod GreyDetermined
+pub mod GreyCauses
 pub mod GreyCases
 pub mod GreyFiles
 pub mod GreyRefusals
-pub mod NearMemory
 pub mod GreyMemory
 pub mod Room
 pub mod Distance
+pub mod DistanceCases
 pub mod NearLines
 pub mod NearBlocks
 pub mod Error
 pub mod Printed
 pub mod PixelNear
 pub mod DecodedPrints
-pub mod Widened
-pub mod Widening
-pub mod WidenedBack

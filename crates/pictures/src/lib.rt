@@ -8,10 +8,8 @@ pub enum Grey {
     NotGrey,
 }
 
-// The length of each grey call's answer, and of the one that tells how far a pixel may be.
+// The length of each grey call's answer.
 pub const GREY_PLACES: usize = 4;
-
-pub const NEAR_PLACES: usize = 3;
 
 // The answers of the way in, a grey file's to its pyramid, and of the way back.
 #[derive(Drop)]
@@ -26,22 +24,4 @@ pub struct GreyWritten {
     pub verdict: Verdict,
     pub length: usize,
     pub clipped: usize,
-}
-
-// How far a printed pixel may be from the recorded one.
-#[derive(Drop)]
-pub struct Near {
-    pub verdict: Verdict,
-    pub most: usize,
-}
-
-// The length of the answer of widening and of cutting, and that answer.
-pub const FRAME_PLACES: usize = 5;
-
-#[derive(Drop)]
-pub struct GreyFramed {
-    pub verdict: Verdict,
-    pub length: usize,
-    pub w: usize,
-    pub h: usize,
 }

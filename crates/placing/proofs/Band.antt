@@ -10,7 +10,7 @@ use lib.Pow.{shr_le}
 use lib.Dec.{eqb}
 use borrow.Author.Tests.{ne_eqb, lt-leb}
 use Rattle.rules.specs.declared.Size.{Size}
-use Rattle.rules.specs.Document.Pyramid.{greatest_side, most_area, most_decompositions, legal_size, area, odd, index, row, column, depths, level_of}
+use Rattle.rules.specs.Document.Pyramid.{legal_size, area, odd, index, row, column, levels, level_of}
 use Rattle.rules.specs.Promises.Vocabulary.{Legal}
 use Rattle.rules.specs.Laws.Family.Sizes.{span, legal}
 use Rattle.rules.specs.Laws.Offspring.Level.{level_area}
@@ -36,7 +36,7 @@ module _ (z : Size) (Z : Legal z) (i j : ℕ) (h : i < z.h / 2 ^ z.n) (l : j < z
   at_column : column z (index z i j) ≡ j
   at_column = column_index z i j column_fits
 
-  pub index_level : level_of z (index z i j) ≡ depths z
+  pub index_level : level_of z (index z i j) ≡ levels z
   index_level = in_band_lem z (index z i j) (omega (arith, at_row)) (omega (arith, at_column))
 
   pub index_area : index z i j < area z
@@ -79,9 +79,9 @@ module _ (z : Size) (Z : Legal z) (i j : ℕ) (h : i < z.h / 2 ^ z.n) (l : j < z
 
 -- row by row
 module _ (z : Size) (i j : ℕ) (l : j < band_width z) where
-  pub raster_row : index z i j ≡ raster_of z (depths z) (i * band_width z + j)
+  pub raster_row : index z i j ≡ raster_of z (levels z) (i * band_width z + j)
   unfolding raster_of
-  raster_row = rw (lt-leb (depths z) z.n (omega arith)) (sym (ap₂ (index z) (digits_div i l) (digits_mod i l)))
+  raster_row = rw (lt-leb (levels z) z.n (omega arith)) (sym (ap₂ (index z) (digits_div i l) (digits_mod i l)))
 
 -- as the code has it: halves by z.n + 1
 abbrev pub across : Size → ℕ
@@ -98,34 +98,34 @@ down_half z = ap (λ (e : ℕ). z.h / 2 ^ e) (add-one z.n)
 
 -- bounds of all that is formed from a legal size: rules for `omega`
 module _ (z : Size) (e : legal_size z ≡ true) where
-  pub few : z.n ≤ most_decompositions
+  pub few : z.n ≤ 5
   few = (legal z e).few
 
-  pub wide : z.w ≤ greatest_side
+  pub wide : z.w ≤ 512
   wide = (legal z e).width.most
 
-  high : z.h ≤ greatest_side
+  high : z.h ≤ 512
   high = (legal z e).height.most
 
   pub least : 4 ≤ z.w
   least = (legal z e).width.least
 
-  pub columns : across z ≤ greatest_side
+  pub columns : across z ≤ 512
   columns = omega (arith, wide, shr_le z.w (z.n + 1))
 
-  pub rows : down z ≤ greatest_side
+  pub rows : down z ≤ 512
   rows = omega (arith, high, shr_le z.h (z.n + 1))
 
-  pub band_columns : z.w / 2 ^ z.n ≤ greatest_side
+  pub band_columns : z.w / 2 ^ z.n ≤ 512
   band_columns = omega (arith, wide, shr_le z.w z.n)
 
-  pub band_rows_lem : z.h / 2 ^ z.n ≤ greatest_side
+  pub band_rows_lem : z.h / 2 ^ z.n ≤ 512
   band_rows_lem = omega (arith, high, shr_le z.h z.n)
 
-  pub groups : down z * across z ≤ most_area
+  pub groups : down z * across z ≤ 262144
   groups = mul-le-mul rows columns
 
-  pub all : area z ≤ most_area
+  pub all : area z ≤ 262144
   all = mul-le-mul wide high
 
 -- a place in the band, what is formed of it, and its number
@@ -133,14 +133,14 @@ abbrev pub InBand : Size → ℕ → ℕ → Type 0
 InBand z i j = (legal_size z ≡ true) × (i < z.h / 2 ^ z.n) × (j < z.w / 2 ^ z.n)
 
 pub record BandRoom (z : Size) (i j : ℕ) : Type 0 where
-  pub row : i / 2 * across z ≤ most_area
-  pub column : j / 2 ≤ greatest_side
-  pub groups : down z * across z ≤ most_area
+  pub row : i / 2 * across z ≤ 262144
+  pub column : j / 2 ≤ 512
+  pub groups : down z * across z ≤ 262144
 
 module _ (z : Size) (i j : ℕ) (p : InBand z i j) where
   pub band_room : BandRoom z i j
   band_room =
-      let r : i / 2 ≤ greatest_side = omega (arith, band_rows_lem z p.0) in
+      let r : i / 2 ≤ 512 = omega (arith, band_rows_lem z p.0) in
       record { row = mul-le-mul r (columns z p.0); column = omega (arith, band_columns z p.0); groups = groups z p.0 }
 
   number_small : number_of z (index z i j) < 2 ^ 31

@@ -7,7 +7,6 @@ use native.Mathlib.Omega.{arith}
 use native.Mathlib.Nat.{mul-le-mul}
 use lib.ListN.{length, get_or, set}
 use lib.IntN.{ℤ, pos}
-use Rattle.rules.specs.Document.Pyramid.{greatest_side, most_area}
 use Rattle.coefficients.specs.Words.{value_of}
 use Rattle.placing.specs.Stores.{Put, Apart, Under, corner_of, rank_of}
 use Rattle.placing.proofs.Stores.{put_none, put_more, block_stored, block_laid, block_inside, read_kept, apart_row, row_stored}
@@ -113,12 +112,12 @@ group_place rows across w i j m = rank_of (2 * across) (2 * rows * w) (2 * i * w
 pub record Grouping (to rows across w : ℕ) (s : List ℕ) (i : ℕ) (s₁ : List ℕ) : Type 0 where
   pub most : i ≤ rows
   pub own : i * across ≤ rows * across
-  pub groups : rows * across ≤ most_area
+  pub groups : rows * across ≤ 262144
   pub place : i * w ≤ rows * w
-  pub below : rows * w ≤ most_area
+  pub below : rows * w ≤ 262144
   pub stored : Put 0 (λ t. to + t) (3 * (i * across)) (λ t. group_place rows across w (t / 3 / across) (t / 3 % across) (t % 3)) s s₁
 
-pub grouping_none : {to rows across w : ℕ} {s : List ℕ} → rows ≤ greatest_side → across ≤ greatest_side → w ≤ greatest_side → Grouping to rows across w s 0 s
+pub grouping_none : {to rows across w : ℕ} {s : List ℕ} → rows ≤ 512 → across ≤ 512 → w ≤ 512 → Grouping to rows across w s 0 s
 grouping_none a b c =
     record {
       most = omega arith;

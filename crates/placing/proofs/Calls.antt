@@ -10,9 +10,9 @@ use lib.IntN.{ℤ, pos}
 use lib.Pow.{shr_le}
 use Rattle.rules.specs.declared.Size.{Size}
 use mathlib.Core.Bool.{true}
-use Rattle.rules.specs.Document.Pyramid.{greatest_side, most_area, legal_size, area, depths, index}
+use Rattle.rules.specs.Document.Pyramid.{legal_size, area, levels, index}
 use Rattle.rules.specs.Promises.Vocabulary.{Legal}
-use Rattle.rules.specs.Laws.Family.Sizes.{legal, span, depth_start, depth_size, depth_size_top, depth_size_fine, span_quarter}
+use Rattle.rules.specs.Laws.Family.Sizes.{legal, span, level_start, level_size, level_size_top, level_size_fine, span_quarter}
 use Rattle.rules.specs.Laws.Offspring.Block.{half_rows, half_columns}
 use Rattle.trees.specs.Places.{band_width, raster_of}
 use Rattle.trees.specs.Run.{number_of}
@@ -35,59 +35,59 @@ under_larger : {m n from l : ℕ} {s : List ℕ} → Under m n s from → m ≤ 
 under_larger U h = record { under = λ b k. omega (arith, U.under b k) }
 
 -- where a level's words and blocks lie
-module _ (z : Size) (Z : Legal z) (k : ℕ) (a : 1 ≤ k) (b : k ≤ depths z) where
-  words_room : words_from z (depths z) k + 4 * (depth_size z k / 4) ≤ blocks_from z (depths z) k
+module _ (z : Size) (Z : Legal z) (k : ℕ) (a : 1 ≤ k) (b : k ≤ levels z) where
+  words_room : words_from z k + 4 * (level_size z k / 4) ≤ blocks_from z k
   unfolding blocks_from maxima_from
-  words_room = omega (arith, level_blocks z Z (depths z) (omega arith) (omega arith) k a b)
+  words_room = omega (arith, level_blocks z Z k a b)
 
-  blocks_end : blocks_from z (depths z) k + depth_size z k / 4 ≡ 4 * depth_start z k + 4 * depth_size z k
+  blocks_end : blocks_from z k + level_size z k / 4 ≡ 4 * level_start z k + 4 * level_size z k
   unfolding blocks_from maxima_from
-  blocks_end = let w = level_blocks z Z (depths z) (omega arith) (omega arith) k a b in omega arith
+  blocks_end = let w = level_blocks z Z k a b in omega arith
 
-  blocks_begin : 4 * depth_start z k ≤ blocks_from z (depths z) k
+  blocks_begin : 4 * level_start z k ≤ blocks_from z k
   unfolding blocks_from
   blocks_begin = omega arith
 
-  blocks_room : blocks_from z (depths z) k + depth_size z k / 4 ≤ 4 * area z
-  blocks_room = omega (arith, blocks_end, stretch_room z Z (depths z) (omega arith) (omega arith) k a b)
+  blocks_room : blocks_from z k + level_size z k / 4 ≤ 4 * area z
+  blocks_room = omega (arith, blocks_end, stretch_room z Z k a b)
 
-pub level_room : (z : Size) (k : ℕ) → (legal_size z ≡ true) × (1 ≤ k) × (k ≤ depths z) → 4 * depth_start z k + 4 * depth_size z k ≤ 2 ^ 28
-level_room z k p = omega (arith, stretch_room z (legal z p.0) (depths z) (omega arith) (omega arith) k p.1 p.2, all z p.0)
+pub level_room : (z : Size) (k : ℕ) → (legal_size z ≡ true) × (1 ≤ k) × (k ≤ levels z) → 4 * level_start z k + 4 * level_size z k ≤ 2 ^ 20
+level_room z k p = omega (arith, stretch_room z (legal z p.0) k p.1 p.2, all z p.0)
 
 -- The blocks of a level from those of the next coarser one.
 abbrev Coarser : Size → ℕ → List ℕ → Type 0
 Coarser z k work = Roomy z work × (1 ≤ k) × (k < z.n) × BlocksOf z (k + 1) work
 
-module _ {z : Size} {k : ℕ} {work : List ℕ} (p : Coarser z k work) {n from to : ℕ} (e : n ≡ depth_size z (k + 1))
-    (f : (from ≡ blocks_from z (depths z) (k + 1)) × (from < 2 ^ 32)) (t : (to ≡ blocks_from z (depths z) k) × (to < 2 ^ 32)) where
+module _ {z : Size} {k : ℕ} {work : List ℕ} (p : Coarser z k work) {n from to : ℕ} (e : n ≡ level_size z (k + 1))
+    (f : (from ≡ blocks_from z (k + 1)) × (from < 2 ^ 32)) (t : (to ≡ blocks_from z k) × (to < 2 ^ 32)) where
   Z : Legal z
   Z = legal z p.0.legal
 
   next : k + 1 ≡ suc k
   next = add-one k
 
-  size : depth_size z (k + 1) ≡ depth_size z (suc k)
-  size = ap (depth_size z) next
+  size : level_size z (k + 1) ≡ level_size z (suc k)
+  size = ap (level_size z) next
 
-  place : blocks_from z (depths z) (k + 1) ≡ blocks_from z (depths z) (suc k)
-  place = ap (blocks_from z (depths z)) next
+  place : blocks_from z (k + 1) ≡ blocks_from z (suc k)
+  place = ap (blocks_from z) next
 
   blocks : BlocksOf z (suc k) work
   blocks = subst (λ (j : ℕ). BlocksOf z j work) next p.3
 
-  pub level_under_asks : (from + n / 4 ≤ to) × (to + 4 * (n / 4) ≤ length work) × Under (2 ^ 28) (n / 4) work from × (z.w < 2 ^ 28)
+  pub level_under_asks : (from + n / 4 ≤ to) × (to + 4 * (n / 4) ≤ length work) × Under (2 ^ 20) (n / 4) work from × (z.w < 2 ^ 20)
   level_under_asks =
-      let q : n / 4 ≡ depth_size z (suc k) / 4 = ap (λ (x : ℕ). x / 4) (e ∙ size) in
-      let g : from ≡ blocks_from z (depths z) (suc k) = f.0 ∙ place in
-      let small : area z ≤ most_area = all z p.0.legal in (
+      let q : n / 4 ≡ level_size z (suc k) / 4 = ap (λ (x : ℕ). x / 4) (e ∙ size) in
+      let g : from ≡ blocks_from z (suc k) = f.0 ∙ place in
+      let small : area z ≤ 262144 = all z p.0.legal in (
         omega (
           arith,
           blocks_end z Z (suc k) (omega arith) (omega (arith, p.2)),
           blocks_begin z Z k p.1 (omega (arith, p.2)),
-          level_before z Z (depths z) (omega arith) (omega arith) (suc k) k p.1 (omega arith) (omega (arith, p.2)),
+          level_before z Z (suc k) k p.1 (omega arith) (omega (arith, p.2)),
         ),
         omega (arith, blocks_next z Z k p.1 p.2, blocks_room z Z k p.1 (omega (arith, p.2)), p.0.room, t.0),
-        subst (λ (x : ℕ). Under (2 ^ 28) (n / 4) work x) (sym g)
+        subst (λ (x : ℕ). Under (2 ^ 20) (n / 4) work x) (sym g)
             (under_larger (places_under z Z (suc k) (omega arith) p.2 blocks q) (omega arith)),
         omega (arith, wide z p.0.legal),
       )
@@ -96,21 +96,20 @@ module _ {z : Size} {k : ℕ} {work : List ℕ} (p : Coarser z k work) {n from t
       → Put 0 (λ u. to + u) (4 * (n / 4)) (λ u. 2 * corner_of z.w (get_or work (from + u / 4) 0) (u % 4)) work work' → LevelPlaced z k work work'
   level_under {work'} H =
       blocks_under z Z k p.1 p.2 blocks (ap (λ (x : ℕ). x / 4) (e ∙ size))
-      (subst (λ (x : ℕ). Put 0 (λ u. x + u) (4 * (n / 4))
-      (λ u. 2 * corner_of z.w (get_or work (blocks_from z (depths z) (suc k) + u / 4) 0) (u % 4)) work work') t.0
+      (subst (λ (x : ℕ). Put 0 (λ u. x + u) (4 * (n / 4)) (λ u. 2 * corner_of z.w (get_or work (blocks_from z (suc k) + u / 4) 0) (u % 4)) work work') t.0
       (subst (λ (x : ℕ). Put 0 (λ u. to + u) (4 * (n / 4)) (λ u. 2 * corner_of z.w (get_or work (x + u / 4) 0) (u % 4)) work work') (f.0 ∙ place) H))
 
 -- The blocks of level N, from the groups.
-module _ {z : Size} {work : List ℕ} (p : Roomy z work) {to : ℕ} (t : (to ≡ blocks_from z (depths z) z.n) × (to < 2 ^ 32)) where
-  roots : depth_size z z.n / 4 ≡ 3 * (down z * across z)
+module _ {z : Size} {work : List ℕ} (p : Roomy z work) {to : ℕ} (t : (to ≡ blocks_from z z.n) × (to < 2 ^ 32)) where
+  roots : level_size z z.n / 4 ≡ 3 * (down z * across z)
   unfolding span
   roots =
       let L : Legal z = legal z p.legal in
-      let s : depth_size z z.n ≡ 4 * (3 * (half_rows z * half_columns z)) =
-      omega (arith, depth_size_fine z L z.n L.some (omega arith), span_quarter z L z.n (omega arith)) in
+      let s : level_size z z.n ≡ 4 * (3 * (half_rows z * half_columns z)) =
+      omega (arith, level_size_fine z L z.n L.some (omega arith), span_quarter z L z.n (omega arith)) in
       omega (arith, ap₂ (λ (x y : ℕ). x * y) (down_half z) (across_half z))
 
-  pub roots_asks : (to + 3 * (down z * across z) ≤ length work) × (down z ≤ greatest_side) × (across z ≤ greatest_side) × (z.w ≤ greatest_side)
+  pub roots_asks : (to + 3 * (down z * across z) ≤ length work) × (down z ≤ 512) × (across z ≤ 512) × (z.w ≤ 512)
   roots_asks =
       let L : Legal z = legal z p.legal in
       (omega (arith, roots, blocks_room z L z.n L.some (omega arith), p.room, t.0), rows z p.legal, columns z p.legal, wide z p.legal)
@@ -133,18 +132,18 @@ module _ {z : Size} {work : List ℕ} (p : Roomy z work) {to : ℕ} (t : (to ≡
 abbrev Copying : List ℤ → Size → ℕ → List ℕ → Type 0
 Copying v z k work = Given v z work × (1 ≤ k) × (k ≤ z.n) × BlocksOf z k work
 
-module _ {v : List ℤ} {z : Size} {k : ℕ} {work : List ℕ} (p : Copying v z k work) {n from to : ℕ} (e : n ≡ depth_size z k) (f : from ≡ blocks_from z (depths z) k)
-    (t : to ≡ words_from z (depths z) k) where
-  pub copy_asks : Small v × (z.w < 2 ^ 28) × (to + 4 * (n / 4) ≤ from) × (from + n / 4 ≤ length work) × Under (2 ^ 28) (n / 4) work from
+module _ {v : List ℤ} {z : Size} {k : ℕ} {work : List ℕ} (p : Copying v z k work) {n from to : ℕ} (e : n ≡ level_size z k) (f : from ≡ blocks_from z k)
+    (t : to ≡ words_from z k) where
+  pub copy_asks : Small v × (z.w < 2 ^ 20) × (to + 4 * (n / 4) ≤ from) × (from + n / 4 ≤ length work) × Under (2 ^ 20) (n / 4) work from
   copy_asks =
       let R = p.0.roomy in
       let L : Legal z = legal z R.legal in
-      let q : n / 4 ≡ depth_size z k / 4 = ap (λ (x : ℕ). x / 4) e in (
+      let q : n / 4 ≡ level_size z k / 4 = ap (λ (x : ℕ). x / 4) e in (
         given_small p.0,
         omega (arith, wide z R.legal),
         omega (arith, words_room z L k p.1 (omega (arith, p.2))),
         omega (arith, blocks_room z L k p.1 (omega (arith, p.2)), R.room),
-        subst (λ (x : ℕ). Under (2 ^ 28) (n / 4) work x) (sym f)
+        subst (λ (x : ℕ). Under (2 ^ 20) (n / 4) work x) (sym f)
             (under_larger (places_under z L k p.1 p.2 p.3 q) (omega (arith, all z R.legal))),
       )
 
@@ -153,33 +152,32 @@ module _ {v : List ℤ} {z : Size} {k : ℕ} {work : List ℕ} (p : Copying v z 
       → LevelCopied v z k work work'
   level_words {work'} H =
       words_copied z (legal z p.0.roomy.legal) k p.1 p.2 p.3 (ap (λ (x : ℕ). x / 4) e)
-      (subst (λ (x : ℕ). Put 0 (λ u. x + u) (4 * (n / 4)) (λ u. worded (get_or v (corner_in z.w work (blocks_from z (depths z) k) u) (pos 0))) work work') t
+      (subst (λ (x : ℕ). Put 0 (λ u. x + u) (4 * (n / 4)) (λ u. worded (get_or v (corner_in z.w work (blocks_from z k) u) (pos 0))) work work') t
       (subst (λ (x : ℕ). Put 0 (λ u. to + u) (4 * (n / 4)) (λ u. worded (get_or v (corner_in z.w work x u) (pos 0))) work work') f H))
 
 -- The values of a level.
 abbrev LayingLevel : Size → ℕ → List ℕ → List ℤ → Type 0
 LayingLevel z k work out = Roomy z work × (length out ≡ area z) × (1 ≤ k) × (k ≤ z.n) × BlocksOf z k work
 
-module _ {z : Size} {k : ℕ} {work : List ℕ} (out : List ℤ) (p : LayingLevel z k work out) {n from words : ℕ} (e : n ≡ depth_size z k)
-    (f : from ≡ blocks_from z (depths z) k) (t : words ≡ words_from z (depths z) k) where
+module _ {z : Size} {k : ℕ} {work : List ℕ} (out : List ℤ) (p : LayingLevel z k work out) {n from words : ℕ} (e : n ≡ level_size z k)
+    (f : from ≡ blocks_from z k) (t : words ≡ words_from z k) where
   pub lay_asks : (from + n / 4 ≤ length work) × (words + 4 * (n / 4) ≤ from) × (2 ≤ z.w) × Apart (corner_in z.w work from) (4 * (n / 4)) (length out)
   lay_asks =
       let R = p.0 in
       let L : Legal z = legal z R.legal in
-      let q : n / 4 ≡ depth_size z k / 4 = ap (λ (x : ℕ). x / 4) e in (
+      let q : n / 4 ≡ level_size z k / 4 = ap (λ (x : ℕ). x / 4) e in (
         omega (arith, blocks_room z L k p.2 (omega (arith, p.3)), R.room),
         omega (arith, words_room z L k p.2 (omega (arith, p.3))),
         omega (arith, least z R.legal),
         subst (λ (x : ℕ). Apart (corner_in z.w work x) (4 * (n / 4)) (length out)) (sym f)
-            (subst (λ (m : ℕ). Apart (corner_in z.w work (blocks_from z (depths z) k)) (4 * (n / 4)) m)
-            (sym p.1) (corners_in z L k p.2 p.3 p.4 q)),
+            (subst (λ (m : ℕ). Apart (corner_in z.w work (blocks_from z k)) (4 * (n / 4)) m) (sym p.1) (corners_in z L k p.2 p.3 p.4 q)),
       )
 
   pub level_values : {out' : List ℤ}
       → Put (pos 0) (corner_in z.w work from) (4 * (n / 4)) (λ u. value_of (get_or work (words + u) 0)) out out' → LevelLaid z k work out out'
   level_values {out'} H =
       values_laid z (legal z p.0.legal) k p.2 p.3 p.4 (ap (λ (x : ℕ). x / 4) e)
-      (subst (λ (x : ℕ). Put (pos 0) (corner_in z.w work (blocks_from z (depths z) k)) (4 * (n / 4)) (λ u. value_of (get_or work (x + u) 0)) out out') t
+      (subst (λ (x : ℕ). Put (pos 0) (corner_in z.w work (blocks_from z k)) (4 * (n / 4)) (λ u. value_of (get_or work (x + u) 0)) out out') t
       (subst (λ (x : ℕ). Put (pos 0) (corner_in z.w work x) (4 * (n / 4)) (λ u. value_of (get_or work (words + u) 0)) out out') f H))
 
 -- The band, row by row.
@@ -203,9 +201,9 @@ abbrev pub band_rows : Size → ℕ
 band_rows z = z.h / 2 ^ z.n
 
 module _ (z : Size) (Z : Legal z) where
-  pub band_size : band_rows z * band_width z ≡ depth_size z (depths z)
+  pub band_size : band_rows z * band_width z ≡ level_size z (levels z)
   unfolding span
-  band_size = sym (depth_size_top z Z)
+  band_size = sym (level_size_top z Z)
 
 -- A row of it: its numbers, and its places.
 module _ {z : Size} {work : List ℕ} (R : Roomy z work) {i : ℕ} (h : i < band_rows z) where
@@ -225,7 +223,7 @@ row_places {z} {i = i} p = rw p.1 (row_apart z (legal z p.0.legal) i p.2)
 
 abbrev pub CopyingBand : List ℤ → Size → List ℕ → ℕ → List ℕ → Type 0
 CopyingBand v z work i work₁ =
-    Banding 0 (λ t. number_of z (raster_of z (depths z) t)) (band_rows z) (band_width z) (λ t. worded (get_or v (raster_of z (depths z) t) (pos 0))) work i work₁
+    Banding 0 (λ t. number_of z (raster_of z (levels z) t)) (band_rows z) (band_width z) (λ t. worded (get_or v (raster_of z (levels z) t) (pos 0))) work i work₁
 
 module _ {v : List ℤ} {z : Size} {work : List ℕ} (G : Given v z work) {i : ℕ} {work₁ : List ℕ} (B : CopyingBand v z work i work₁) where
   pub band_row_copied : i < band_rows z → {work₂ : List ℕ}
@@ -233,16 +231,16 @@ module _ {v : List ℤ} {z : Size} {work : List ℕ} (G : Given v z work) {i : �
   band_row_copied l K =
       let L : Legal z = legal z G.roomy.legal in
       banding_more B
-      (subst (λ (n : ℕ). Apart (λ t. number_of z (raster_of z (depths z) t)) n (length work)) (sym (band_size z L))
+      (subst (λ (n : ℕ). Apart (λ t. number_of z (raster_of z (levels z) t)) n (length work)) (sym (band_size z L))
       (band_apart z L (omega (arith, G.roomy.room))))
       l K (λ j h. ap (number_of z) (raster_row z i j h)) (λ j h. ap (λ (q : ℕ). worded (get_or v q (pos 0))) (raster_row z i j h))
 
-  pub band_rows_copied : band_rows z ≤ i → LevelCopied v z (depths z) work work₁
+  pub band_rows_copied : band_rows z ≤ i → LevelCopied v z (levels z) work work₁
   band_rows_copied h = let L : Legal z = legal z G.roomy.legal in band_copied z L (band_size z L) (banding_all B h)
 
 abbrev pub LayingBand : Size → List ℕ → List ℤ → ℕ → List ℤ → Type 0
 LayingBand z work out i out₁ =
-    Banding (pos 0) (raster_of z (depths z)) (band_rows z) (band_width z) (λ t. value_of (get_or work (number_of z (raster_of z (depths z) t)) 0)) out i out₁
+    Banding (pos 0) (raster_of z (levels z)) (band_rows z) (band_width z) (λ t. value_of (get_or work (number_of z (raster_of z (levels z) t)) 0)) out i out₁
 
 module _ {z : Size} {work : List ℕ} {out : List ℤ} (p : Roomy z work × (length out ≡ area z)) {i : ℕ} {out₁ : List ℤ} (B : LayingBand z work out i out₁) where
   pub band_row_laid : i < band_rows z → {out₂ : List ℤ}
@@ -250,9 +248,9 @@ module _ {z : Size} {work : List ℕ} {out : List ℤ} (p : Roomy z work × (len
   band_row_laid l K =
       let L : Legal z = legal z p.0.legal in
       banding_more B
-      (subst (λ (n : ℕ). Apart (raster_of z (depths z)) n (length out)) (sym (band_size z L))
-      (subst (λ (m : ℕ). Apart (raster_of z (depths z)) (depth_size z (depths z)) m) (sym p.1) (level_apart z L (depths z) (omega arith) (omega arith))))
+      (subst (λ (n : ℕ). Apart (raster_of z (levels z)) n (length out)) (sym (band_size z L))
+      (subst (λ (m : ℕ). Apart (raster_of z (levels z)) (level_size z (levels z)) m) (sym p.1) (level_apart z L (levels z) (omega arith) (omega arith))))
       l K (λ j h. raster_row z i j h) (λ j h. ap (λ (q : ℕ). value_of (get_or work (number_of z q) 0)) (raster_row z i j h))
 
-  pub band_rows_laid : band_rows z ≤ i → LevelLaid z (depths z) work out out₁
+  pub band_rows_laid : band_rows z ≤ i → LevelLaid z (levels z) work out out₁
   band_rows_laid h = let L : Legal z = legal z p.0.legal in band_laid z L (band_size z L) (banding_all B h)

@@ -1,6 +1,6 @@
 // Between the pyramid, row by row, and the workspace, in tree order: the pyramid copied in, and what was drawn laid out.
 ghost use Rattle.std.specs.Prelude.{◌≡◌, true, ◌+◌, ◌*◌, ◌/◌, ◌%◌, ◌^◌, ◌≤◌, ◌<◌, length, get_or, pos};
-ghost use Rattle.rules.specs.Document.Pyramid.{greatest_side, legal_size, depths, area, index};
+ghost use Rattle.rules.specs.Document.Pyramid.{legal_size, levels, area, index};
 ghost use Rattle.trees.specs.Places.{band_width};
 ghost use Rattle.trees.specs.Run.{number_of};
 ghost use Rattle.stretches.specs.Levels.{blocks_from};
@@ -9,8 +9,7 @@ ghost use Rattle.placing.specs.Stores.{Put, corner_of, rank_of, Apart, Under, Sm
 ghost use Rattle.placing.specs.Placing.{Roomy, BlocksOf, Blocks, LevelPlaced, Placed, Given, LevelCopied, LevelsCopied, CopiedIn};
 ghost use Rattle.placing.specs.Placing.{LevelLaid, LevelsLaid, LaidOut, LevelCleared, Cleared};
 
-use rules::Size;
-use shape::Depth;
+use rules::{Level, Size};
 
 // The tree number of the coefficient at a row and a column of the LL band: a group's even, even one, or one of its three roots.
 pub fn band_number(z: Size, row: usize, column: usize) -> usize
@@ -28,16 +27,16 @@ pub fn band_number(z: Size, row: usize, column: usize) -> usize
 }
 
 // Where a level's maxima begin in the workspace.
-fn blocks_from(z: Size, k: Depth) -> usize
-    requires { (legal_size z ≡ true) × (1 ≤ k.0) × (k.0 ≤ depths z) }
-    ensures { (result ≡ blocks_from z (depths z) k.0) × (result < 2 ^ 32) }
+fn blocks_from(z: Size, k: Level) -> usize
+    requires { (legal_size z ≡ true) × (1 ≤ k.0) × (k.0 ≤ levels z) }
+    ensures { (result ≡ blocks_from z k.0) × (result < 2 ^ 32) }
 {
-    stretches::depth_from(z, k) + stretches::maxima_from(shape::depth_size(z, k))
+    stretches::stretch_from(z, k) + stretches::maxima_from(shape::level_size(z, k))
 }
 
 // The blocks of a group's roots: right, below and diagonal.
 fn set_roots(work: &mut [u32], at: usize, p: u32, right: u32, below: u32)
-    requires { (at + 3 ≤ length work.old) × (p < 2 ^ 28) × (right < 2 ^ 28) × (below < 2 ^ 28) }
+    requires { (at + 3 ≤ length work.old) × (p < 2 ^ 20) × (right < 2 ^ 20) × (below < 2 ^ 20) }
     ensures { Put 0 (λ m. at + m) 3 (rank_of right below p) work.old work.new }
 {
     work[at] = p + right;
@@ -47,7 +46,7 @@ fn set_roots(work: &mut [u32], at: usize, p: u32, right: u32, below: u32)
 
 // A row of groups, the first one's place at p.
 fn place_row(work: &mut [u32], to: usize, across: usize, p: u32, right: u32, below: u32)
-    requires { (to + 3 * across ≤ length work.old) × (p + 2 * across < 2 ^ 28) × (right < 2 ^ 28) × (below < 2 ^ 28) }
+    requires { (to + 3 * across ≤ length work.old) × (p + 2 * across < 2 ^ 20) × (right < 2 ^ 20) × (below < 2 ^ 20) }
     ensures { Put 0 (λ t. to + t) (3 * across) (λ t. rank_of right below (p + 2 * (t / 3)) (t % 3)) work.old work.new }
 {
     let mut j = 0;
@@ -60,7 +59,7 @@ fn place_row(work: &mut [u32], to: usize, across: usize, p: u32, right: u32, bel
 
 // So many rows of groups, in a pyramid with rows of w.
 fn place_groups(work: &mut [u32], to: usize, rows: usize, across: usize, w: usize)
-    requires { (to + 3 * (rows * across) ≤ length work.old) × (rows ≤ greatest_side) × (across ≤ greatest_side) × (w ≤ greatest_side) }
+    requires { (to + 3 * (rows * across) ≤ length work.old) × (rows ≤ 512) × (across ≤ 512) × (w ≤ 512) }
     ensures { Put 0 (λ t. to + t) (3 * (rows * across))
         (λ t. rank_of (2 * across) (2 * rows * w) (2 * (t / 3 / across) * w + 2 * (t / 3 % across)) (t % 3)) work.old work.new }
 {
@@ -87,7 +86,7 @@ fn place_roots(z: Size, work: &mut [u32])
     let half = z.n + 1;
     place_groups(
         work,
-        blocks_from(z, Depth(z.n)),
+        blocks_from(z, Level(z.n)),
         z.h >> half,
         z.w >> half,
         z.w,
@@ -96,7 +95,7 @@ fn place_roots(z: Size, work: &mut [u32])
 
 // The four blocks under one whose place is p.
 fn set_under(work: &mut [u32], at: usize, p: u32, w: u32)
-    requires { (at + 4 ≤ length work.old) × (p < 2 ^ 28) × (w < 2 ^ 28) }
+    requires { (at + 4 ≤ length work.old) × (p < 2 ^ 20) × (w < 2 ^ 20) }
     ensures { Put 0 (λ f. at + f) 4 (λ f. 2 * corner_of w p f) work.old work.new }
 {
     work[at] = 2 * p;
@@ -107,7 +106,7 @@ fn set_under(work: &mut [u32], at: usize, p: u32, w: u32)
 
 // Those under so many.
 fn place_under(work: &mut [u32], from: usize, blocks: usize, to: usize, w: u32)
-    requires { (from + blocks ≤ to) × (to + 4 * blocks ≤ length work.old) × Under (2 ^ 28) blocks work.old from × (w < 2 ^ 28) }
+    requires { (from + blocks ≤ to) × (to + 4 * blocks ≤ length work.old) × Under (2 ^ 20) blocks work.old from × (w < 2 ^ 20) }
     ensures { Put 0 (λ t. to + t) (4 * blocks) (λ t. 2 * corner_of w (get_or work.old (from + t / 4) 0) (t % 4)) work.old
         work.new }
 {
@@ -121,12 +120,12 @@ fn place_under(work: &mut [u32], from: usize, blocks: usize, to: usize, w: u32)
 }
 
 // The blocks of a level, from those of the next coarser one.
-fn place_level(z: Size, k: Depth, work: &mut [u32])
+fn place_level(z: Size, k: Level, work: &mut [u32])
     requires { Roomy z work.old × (1 ≤ k.0) × (k.0 < z.n) × BlocksOf z (k.0 + 1) work.old }
     ensures { LevelPlaced z k.0 work.old work.new }
 {
-    let coarser = Depth(k.0 + 1);
-    let blocks = shape::depth_size(z, coarser) / 4;
+    let coarser = Level(k.0 + 1);
+    let blocks = shape::level_size(z, coarser) / 4;
     place_under(
         work,
         blocks_from(z, coarser),
@@ -136,7 +135,7 @@ fn place_level(z: Size, k: Depth, work: &mut [u32])
     );
 }
 
-// Where the blocks stand, for all depths, coarsest first.
+// Where the blocks stand, for all levels, coarsest first.
 fn place_blocks(z: Size, work: &mut [u32])
     requires { Roomy z work.old }
     ensures { Placed z work.old work.new }
@@ -145,7 +144,7 @@ fn place_blocks(z: Size, work: &mut [u32])
     let mut k = z.n;
     while 1 < k {
         k -= 1;
-        place_level(z, Depth(k), work);
+        place_level(z, Level(k), work);
     }
 }
 
@@ -158,7 +157,7 @@ fn word_at(pyramid: &[i32], q: usize) -> u32
 
 // The words of the block whose place is p.
 fn copy_block(pyramid: &[i32], p: usize, w: usize, work: &mut [u32], at: usize)
-    requires { Small pyramid.now × (p < 2 ^ 28) × (w < 2 ^ 28) × (at + 4 ≤ length work.old) }
+    requires { Small pyramid.now × (p < 2 ^ 20) × (w < 2 ^ 20) × (at + 4 ≤ length work.old) }
     ensures { Put 0 (λ f. at + f) 4 (λ f. worded (get_or pyramid.now (corner_of w p f) (pos 0))) work.old work.new }
 {
     work[at] = word_at(pyramid, p);
@@ -169,7 +168,7 @@ fn copy_block(pyramid: &[i32], p: usize, w: usize, work: &mut [u32], at: usize)
 
 // Those of so many blocks, whose places stand from `from` on.
 fn copy_blocks(pyramid: &[i32], w: usize, work: &mut [u32], from: usize, blocks: usize, to: usize)
-    requires { Small pyramid.now × (w < 2 ^ 28) × (to + 4 * blocks ≤ from) × (from + blocks ≤ length work.old) × Under (2 ^ 28) blocks work.old from }
+    requires { Small pyramid.now × (w < 2 ^ 20) × (to + 4 * blocks ≤ from) × (from + blocks ≤ length work.old) × Under (2 ^ 20) blocks work.old from }
     ensures { Put 0 (λ t. to + t) (4 * blocks)
         (λ t. worded (get_or pyramid.now (corner_of w (get_or work.old (from + t / 4) 0) (t % 4)) (pos 0))) work.old
         work.new }
@@ -183,18 +182,18 @@ fn copy_blocks(pyramid: &[i32], w: usize, work: &mut [u32], from: usize, blocks:
     }
 }
 
-fn copy_level(pyramid: &[i32], z: Size, k: Depth, work: &mut [u32])
+fn copy_level(pyramid: &[i32], z: Size, k: Level, work: &mut [u32])
     requires { Given pyramid.now z work.old × (1 ≤ k.0) × (k.0 ≤ z.n) × BlocksOf z k.0 work.old }
     ensures { LevelCopied pyramid.now z k.0 work.old work.new }
 {
-    let blocks = shape::depth_size(z, k) / 4;
+    let blocks = shape::level_size(z, k) / 4;
     copy_blocks(
         pyramid,
         z.w,
         work,
         blocks_from(z, k),
         blocks,
-        stretches::depth_from(z, k),
+        stretches::stretch_from(z, k),
     );
 }
 
@@ -204,7 +203,7 @@ fn copy_levels(pyramid: &[i32], z: Size, work: &mut [u32])
 {
     let mut k = z.n;
     while 0 < k {
-        copy_level(pyramid, z, Depth(k), work);
+        copy_level(pyramid, z, Level(k), work);
         k -= 1;
     }
 }
@@ -227,7 +226,7 @@ fn copy_row(pyramid: &[i32], z: Size, row: usize, work: &mut [u32])
 
 fn copy_band(pyramid: &[i32], z: Size, work: &mut [u32])
     requires { Given pyramid.now z work.old }
-    ensures { LevelCopied pyramid.now z (depths z) work.old work.new }
+    ensures { LevelCopied pyramid.now z (levels z) work.old work.new }
 {
     let end = z.h >> z.n;
     let mut row = 0;
@@ -281,16 +280,16 @@ fn lay_blocks(work: &[u32], from: usize, blocks: usize, words: usize, out: &mut 
     }
 }
 
-fn lay_level(z: Size, k: Depth, work: &[u32], out: &mut [i32])
+fn lay_level(z: Size, k: Level, work: &[u32], out: &mut [i32])
     requires { Roomy z work.now × (length out.old ≡ area z) × (1 ≤ k.0) × (k.0 ≤ z.n) × BlocksOf z k.0 work.now }
     ensures { LevelLaid z k.0 work.now out.old out.new }
 {
-    let blocks = shape::depth_size(z, k) / 4;
+    let blocks = shape::level_size(z, k) / 4;
     lay_blocks(
         work,
         blocks_from(z, k),
         blocks,
-        stretches::depth_from(z, k),
+        stretches::stretch_from(z, k),
         out,
         z.w,
     );
@@ -302,7 +301,7 @@ fn lay_levels(z: Size, work: &[u32], out: &mut [i32])
 {
     let mut k = z.n;
     while 0 < k {
-        lay_level(z, Depth(k), work, out);
+        lay_level(z, Level(k), work, out);
         k -= 1;
     }
 }
@@ -326,7 +325,7 @@ fn lay_row(z: Size, row: usize, work: &[u32], out: &mut [i32])
 
 fn lay_band(z: Size, work: &[u32], out: &mut [i32])
     requires { Roomy z work.now × (length out.old ≡ area z) }
-    ensures { LevelLaid z (depths z) work.now out.old out.new }
+    ensures { LevelLaid z (levels z) work.now out.old out.new }
 {
     let end = z.h >> z.n;
     let mut row = 0;
@@ -347,12 +346,12 @@ pub fn lay_out(z: Size, work: &mut [u32], out: &mut [i32])
     lay_band(z, work, out);
 }
 
-fn clear_level(z: Size, k: Depth, work: &mut [u32])
-    requires { Roomy z work.old × (1 ≤ k.0) × (k.0 ≤ depths z) }
+fn clear_level(z: Size, k: Level, work: &mut [u32])
+    requires { Roomy z work.old × (1 ≤ k.0) × (k.0 ≤ levels z) }
     ensures { LevelCleared z k.0 work.old work.new }
 {
-    let from = stretches::depth_from(z, k);
-    memory::zero_u32(&mut work[from..from + shape::depth_size(z, k)]);
+    let from = stretches::stretch_from(z, k);
+    memory::zero_u32(&mut work[from..from + shape::level_size(z, k)]);
 }
 
 // Before anything is drawn.
@@ -362,7 +361,7 @@ pub fn clear(z: Size, work: &mut [u32])
 {
     let mut k = z.n + 1;
     while 0 < k {
-        clear_level(z, Depth(k), work);
+        clear_level(z, Level(k), work);
         k -= 1;
     }
 }

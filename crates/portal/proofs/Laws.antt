@@ -10,14 +10,9 @@ use Rattle.rules.specs.declared.Coded.{Coded}
 use Rattle.rules.specs.declared.Served.{Served}
 use Rattle.rules.specs.declared.Decoded.{Decoded}
 use Rattle.rules.specs.Document.Notation.{zeros}
-use Rattle.rules.specs.Document.Calls.{Result, returned, reported, lent_out, code_places, coding, code_out, code_answer, code_numbers, Coding, AfsCode}
-use Rattle.rules.specs.Document.Calls.{Portion, serve_places, serving, serve_out, serve_answer, serve_numbers}
-use Rattle.rules.specs.Document.Calls.{Serving, AfsServe, decode_places, decoding, decode_answer}
-use Rattle.rules.specs.Document.Calls.{decode_numbers, Decoding, AfsDecode}
+use Rattle.rules.specs.Document.Calls.{returned, reported, lent_out, code_places, coding, code_answer, code_numbers, Coding, AfsCode, serve_places, serving}
+use Rattle.rules.specs.Document.Calls.{serve_answer, serve_numbers, Serving, AfsServe, decode_places, decoding, decode_answer, decode_numbers, Decoding, AfsDecode}
 use Rattle.joins.specs.Document.Joining.{joining, Joining, AfsJoin}
-use Rattle.indexes.specs.Document.Indexing.{indexing, Indexing, AfsIndex, serving_by, ServingBy, AfsServeBy}
-use Rattle.checks.specs.declared.Checked.{Checked}
-use Rattle.checks.specs.Document.Checking.{check_places, checking, check_answer, check_numbers, Checking, AfsCheck}
 use Rattle.survey.specs.declared.Survey.{Survey}
 use Rattle.survey.specs.Surveyed.{survey_places, survey_of, survey_numbers, AfsSurvey}
 use Rattle.pictures.specs.declared.GreyRead.{GreyRead}
@@ -25,11 +20,6 @@ use Rattle.pictures.specs.declared.GreyWritten.{GreyWritten}
 use Rattle.pictures.specs.Document.Netpbm.{read_file}
 use Rattle.pictures.specs.Document.Calls.{grey_in, grey_in_answer, GreyIn, grey_out, grey_out_answer, GreyOut, grey_size, GreySize}
 use Rattle.pictures.specs.Document.Calls.{grey_read_numbers, grey_written_numbers, grey_places, AfsGreyIn, AfsGreyOut, AfsGreySize}
-use Rattle.pictures.specs.declared.Near.{Near}
-use Rattle.pictures.specs.Document.Nearness.{nearing, near_answer, near_numbers, near_places, Nearness, AfsNearness}
-use Rattle.stairs.specs.Document.Stair.{serving_planes, ServingPlanes, AfsServePlanes}
-use Rattle.pictures.specs.declared.GreyFramed.{GreyFramed}
-use Rattle.pictures.specs.Document.Widening.{GreyFrame, frame_answer, Framing, framed_numbers, frame_places, AfsFraming}
 use Rattle.answers.specs.Report.{Reported}
 
 -- What `too_short` leaves.
@@ -86,113 +76,46 @@ module _ (pyramid : List ℤ) (z : Size) (out work answer out' work' answer' : L
         clears = v.clears;
       }
 
--- A call that answers as serving does, whatever it comes to.
-module _ (y : Result Portion) (out answer out' answer' : List ℕ) (n : ℕ) where
-  abbrev Serves : Type 0
-  Serves =
-      (n ≡ returned serve_places answer (serve_numbers (serve_answer y))) × (answer' ≡ reported serve_places answer (serve_numbers (serve_answer y)))
-      × (out' ≡ lent_out serve_places answer (serve_out (length out) y) (zeros (length out)))
-
-  served_short : length answer < serve_places → out' ≡ zeros (length out) → TooShort answer n answer' → Serves
-  served_short l e r =
-      let numbers = serve_numbers (serve_answer y) in (
-        returned_short serve_places answer numbers n answer' l r,
-        reported_short serve_places answer numbers n answer' l r,
-        e ∙ lent_short serve_places answer numbers _ _ l,
-      )
-
-  served_long : (a : Served) → serve_places ≤ length answer → a ≡ serve_answer y → out' ≡ serve_out (length out) y → Reported (serve_numbers a) answer n answer'
-      → Serves
-  served_long a l answers writes r =
-      let e : serve_numbers a ≡ serve_numbers (serve_answer y) = ap serve_numbers answers in (
-        returned_long serve_places answer (serve_numbers a) n answer' l r ∙ ap (returned serve_places answer) e,
-        reported_long serve_places answer (serve_numbers a) n answer' l r ∙ ap (reported serve_places answer) e,
-        writes ∙ lent_long serve_places answer (serve_numbers a) _ _ l,
-      )
-
 module _ (s : List ℕ) (level plane : ℕ) (out answer out' answer' : List ℕ) where
   pub serve_short : (n : ℕ) → length answer < serve_places → out' ≡ zeros (length out) → TooShort answer n answer'
       → AfsServe s level plane out answer n out' answer'
   serve_short n l e r =
-      let t = served_short (serving s level plane (length out)) out answer out' answer' n l e r in
-      record { returns = t.0; reports = t.1; writes = t.2 }
+      let numbers = serve_numbers (serve_answer (serving s level plane (length out))) in
+      record {
+        returns = returned_short serve_places answer numbers n answer' l r;
+        reports = reported_short serve_places answer numbers n answer' l r;
+        writes = e ∙ lent_short serve_places answer numbers _ _ l;
+      }
 
   pub serve_long : (a : Served) (n : ℕ) → serve_places ≤ length answer → Serving s level plane out a out' → Reported (serve_numbers a) answer n answer'
       → AfsServe s level plane out answer n out' answer'
-  serve_long a n l v told =
-      let t = served_long (serving s level plane (length out)) out answer out' answer' n a l v.answers v.writes told in
-      record { returns = t.0; reports = t.1; writes = t.2 }
+  serve_long a n l v r =
+      let e : serve_numbers a ≡ serve_numbers (serve_answer (serving s level plane (length out))) = ap serve_numbers v.answers in
+      record {
+        returns = returned_long serve_places answer (serve_numbers a) n answer' l r ∙ ap (returned serve_places answer) e;
+        reports = reported_long serve_places answer (serve_numbers a) n answer' l r ∙ ap (reported serve_places answer) e;
+        writes = v.writes ∙ lent_long serve_places answer (serve_numbers a) _ _ l;
+      }
 
-module _ (s planes out answer out' answer' : List ℕ) where
-  pub planes_short : (n : ℕ) → length answer < serve_places → out' ≡ zeros (length out) → TooShort answer n answer'
-      → AfsServePlanes s planes out answer n out' answer'
-  planes_short n l e r =
-      let t = served_short (serving_planes s planes (length out)) out answer out' answer' n l e r in
-      record { returns = t.0; reports = t.1; writes = t.2 }
+module _ (a b out answer out' answer' : List ℕ) where
+  pub join_short : (n : ℕ) → length answer < code_places → out' ≡ zeros (length out) → TooShort answer n answer' → AfsJoin a b out answer n out' answer'
+  join_short n l e r =
+      let numbers = code_numbers (code_answer (joining a b (length out))) in
+      record {
+        returns = returned_short code_places answer numbers n answer' l r;
+        reports = reported_short code_places answer numbers n answer' l r;
+        writes = e ∙ lent_short code_places answer numbers _ _ l;
+      }
 
-  pub planes_long : (a : Served) (n : ℕ) → serve_places ≤ length answer → ServingPlanes s planes out a out' → Reported (serve_numbers a) answer n answer'
-      → AfsServePlanes s planes out answer n out' answer'
-  planes_long a n l v told =
-      let t = served_long (serving_planes s planes (length out)) out answer out' answer' n a l v.answers v.writes told in
-      record { returns = t.0; reports = t.1; writes = t.2 }
-
--- A call that answers as coding does and has no workspace, whatever it comes to.
-module _ (y : Result (List ℕ)) (out answer out' answer' : List ℕ) (n : ℕ) where
-  abbrev Tells : Type 0
-  Tells =
-      (n ≡ returned code_places answer (code_numbers (code_answer y))) × (answer' ≡ reported code_places answer (code_numbers (code_answer y)))
-      × (out' ≡ lent_out code_places answer (code_out (length out) y) (zeros (length out)))
-
-  coded_short : length answer < code_places → out' ≡ zeros (length out) → TooShort answer n answer' → Tells
-  coded_short l e r =
-      let numbers = code_numbers (code_answer y) in (
-        returned_short code_places answer numbers n answer' l r,
-        reported_short code_places answer numbers n answer' l r,
-        e ∙ lent_short code_places answer numbers _ _ l,
-      )
-
-  coded_long : (a : Coded) → code_places ≤ length answer → a ≡ code_answer y → out' ≡ code_out (length out) y → Reported (code_numbers a) answer n answer' → Tells
-  coded_long a l v w r =
-      let e : code_numbers a ≡ code_numbers (code_answer y) = ap code_numbers v in (
-        returned_long code_places answer (code_numbers a) n answer' l r ∙ ap (returned code_places answer) e,
-        reported_long code_places answer (code_numbers a) n answer' l r ∙ ap (reported code_places answer) e,
-        w ∙ lent_long code_places answer (code_numbers a) _ _ l,
-      )
-
-module _ (a b out answer out' answer' : List ℕ) (n : ℕ) where
-  pub join_short : length answer < code_places → out' ≡ zeros (length out) → TooShort answer n answer' → AfsJoin a b out answer n out' answer'
-  join_short l e r =
-      let t = coded_short (joining a b (length out)) out answer out' answer' n l e r in record { returns = t.0; reports = t.1; writes = t.2 }
-
-  pub join_long : (r : Coded) → code_places ≤ length answer → Joining a b out r out' → Reported (code_numbers r) answer n answer'
+  pub join_long : (r : Coded) (n : ℕ) → code_places ≤ length answer → Joining a b out r out' → Reported (code_numbers r) answer n answer'
       → AfsJoin a b out answer n out' answer'
-  join_long r l v told =
-      let t = coded_long (joining a b (length out)) out answer out' answer' n r l v.answers v.writes told in
-      record { returns = t.0; reports = t.1; writes = t.2 }
-
-module _ (s out answer out' answer' : List ℕ) (n : ℕ) where
-  pub index_short : length answer < code_places → out' ≡ zeros (length out) → TooShort answer n answer' → AfsIndex s out answer n out' answer'
-  index_short l e r =
-      let t = coded_short (indexing s (length out)) out answer out' answer' n l e r in record { returns = t.0; reports = t.1; writes = t.2 }
-
-  pub index_long : (a : Coded) → code_places ≤ length answer → Indexing s out a out' → Reported (code_numbers a) answer n answer'
-      → AfsIndex s out answer n out' answer'
-  index_long a l v told =
-      let t = coded_long (indexing s (length out)) out answer out' answer' n a l v.answers v.writes told in
-      record { returns = t.0; reports = t.1; writes = t.2 }
-
-module _ (s index : List ℕ) (level plane : ℕ) (out answer out' answer' : List ℕ) (n : ℕ) where
-  pub serve_by_short : length answer < code_places → out' ≡ zeros (length out) → TooShort answer n answer'
-      → AfsServeBy s index level plane out answer n out' answer'
-  serve_by_short l e r =
-      let t = coded_short (serving_by s index level plane (length out)) out answer out' answer' n l e r in
-      record { returns = t.0; reports = t.1; writes = t.2 }
-
-  pub serve_by_long : (a : Coded) → code_places ≤ length answer → ServingBy s index level plane out a out' → Reported (code_numbers a) answer n answer'
-      → AfsServeBy s index level plane out answer n out' answer'
-  serve_by_long a l v told =
-      let t = coded_long (serving_by s index level plane (length out)) out answer out' answer' n a l v.answers v.writes told in
-      record { returns = t.0; reports = t.1; writes = t.2 }
+  join_long r n l v t =
+      let e : code_numbers r ≡ code_numbers (code_answer (joining a b (length out))) = ap code_numbers v.answers in
+      record {
+        returns = returned_long code_places answer (code_numbers r) n answer' l t ∙ ap (returned code_places answer) e;
+        reports = reported_long code_places answer (code_numbers r) n answer' l t ∙ ap (reported code_places answer) e;
+        writes = v.writes ∙ lent_long code_places answer (code_numbers r) _ _ l;
+      }
 
 module _ (s : List ℕ) (out : List ℤ) (work answer : List ℕ) (out' : List ℤ) (work' answer' : List ℕ) where
   pub decode_short : (n : ℕ) → length answer < decode_places → out' ≡ replicate (length out) (pos 0) → work' ≡ zeros (length work) → TooShort answer n answer'
@@ -214,29 +137,6 @@ module _ (s : List ℕ) (out : List ℤ) (work answer : List ℕ) (out' : List �
         returns = returned_long decode_places answer (decode_numbers a) n answer' l r ∙ ap (returned decode_places answer) e;
         reports = reported_long decode_places answer (decode_numbers a) n answer' l r ∙ ap (reported decode_places answer) e;
         writes = v.writes ∙ lent_long decode_places answer (decode_numbers a) _ _ l;
-        clears = v.clears;
-      }
-
-module _ (s : List ℕ) (out : List ℤ) (work answer : List ℕ) (out' : List ℤ) (work' answer' : List ℕ) where
-  pub check_short : (n : ℕ) → length answer < check_places → out' ≡ replicate (length out) (pos 0) → work' ≡ zeros (length work) → TooShort answer n answer'
-      → AfsCheck s out work answer n out' work' answer'
-  check_short n l e g r =
-      let numbers = check_numbers (check_answer (checking s (length out) (length work))) in
-      record {
-        returns = returned_short check_places answer numbers n answer' l r;
-        reports = reported_short check_places answer numbers n answer' l r;
-        writes = e ∙ lent_short check_places answer numbers _ _ l;
-        clears = g;
-      }
-
-  pub check_long : (a : Checked) (n : ℕ) → check_places ≤ length answer → Checking s out work a out' work' → Reported (check_numbers a) answer n answer'
-      → AfsCheck s out work answer n out' work' answer'
-  check_long a n l v r =
-      let e : check_numbers a ≡ check_numbers (check_answer (checking s (length out) (length work))) = ap check_numbers v.answers in
-      record {
-        returns = returned_long check_places answer (check_numbers a) n answer' l r ∙ ap (returned check_places answer) e;
-        reports = reported_long check_places answer (check_numbers a) n answer' l r ∙ ap (reported check_places answer) e;
-        writes = v.writes ∙ lent_long check_places answer (check_numbers a) _ _ l;
         clears = v.clears;
       }
 
@@ -322,43 +222,4 @@ module _ (file answer answer' : List ℕ) where
       record {
         returns = returned_long grey_places answer (grey_read_numbers a) n answer' l r ∙ ap (returned grey_places answer) e;
         reports = reported_long grey_places answer (grey_read_numbers a) n answer' l r ∙ ap (reported grey_places answer) e;
-      }
-
-module _ (z : Size) (reached : List ℕ) (s : ℕ) (answer answer' : List ℕ) where
-  pub near_short : (n : ℕ) → length answer < near_places → TooShort answer n answer' → AfsNearness z reached s answer n answer'
-  near_short n l r =
-      let numbers = near_numbers (near_answer (nearing z reached s)) in
-      record {
-        returns = returned_short near_places answer numbers n answer' l r;
-        reports = reported_short near_places answer numbers n answer' l r;
-      }
-
-  pub near_long : (a : Near) (n : ℕ) → near_places ≤ length answer → Nearness z reached s a → Reported (near_numbers a) answer n answer'
-      → AfsNearness z reached s answer n answer'
-  near_long a n l v r =
-      let e : near_numbers a ≡ near_numbers (near_answer (nearing z reached s)) = ap near_numbers v.answers in
-      record {
-        returns = returned_long near_places answer (near_numbers a) n answer' l r ∙ ap (returned near_places answer) e;
-        reports = reported_long near_places answer (near_numbers a) n answer' l r ∙ ap (reported near_places answer) e;
-      }
-
--- Widening and cutting, whatever they come to.
-module _ (y : Result GreyFrame) (out answer out' answer' : List ℕ) where
-  pub frame_short : (n : ℕ) → length answer < frame_places → out' ≡ zeros (length out) → TooShort answer n answer' → AfsFraming y out answer n out' answer'
-  frame_short n l e r =
-      let numbers = framed_numbers (frame_answer y) in
-      record {
-        returns = returned_short frame_places answer numbers n answer' l r;
-        reports = reported_short frame_places answer numbers n answer' l r;
-        writes = e ∙ lent_short frame_places answer numbers _ _ l;
-      }
-
-  pub frame_long : (a : GreyFramed) (n : ℕ) → frame_places ≤ length answer → Framing y out a out' → Reported (framed_numbers a) answer n answer'
-      → AfsFraming y out answer n out' answer'
-  frame_long a n l v r =
-      let e : framed_numbers a ≡ framed_numbers (frame_answer y) = ap framed_numbers v.answers in
-      record {
-        returns = returned_long frame_places answer (framed_numbers a) n answer' l r ∙ ap (returned frame_places answer) e;
-        reports = reported_long frame_places answer (framed_numbers a) n answer' l r ∙ ap (reported frame_places answer) e;
-        writes = v.writes ∙ lent_long frame_places answer (framed_numbers a) _ _ l;
       }

@@ -26,10 +26,10 @@ use Rattle.rules.specs.Laws.Rounding.Run.{map_from}
 abbrev pub reached_at : List Plane → ℕ → ℕ
 reached_at reached k = plane_in reached (k - 1)
 
--- Beyond the last place there is nothing.
+-- Beyond the sixth place there is nothing.
 pub reached_at_beyond : (planes : List Plane) (k : ℕ) → length planes ≡ level_places → level_places ≤ k - 1 → 0 ≡ reached_at planes k
 unfolding plane_in
-reached_at_beyond planes k places l = ap (λ (p : Plane). p.0) (sym (get_or-eq_default planes (record { 0 = 0 }) {n = k - 1} (omega arith)))
+reached_at_beyond planes k six l = ap (λ (p : Plane). p.0) (sym (get_or-eq_default planes (record { 0 = 0 }) {n = k - 1} (omega arith)))
 
 -- The test: own and coarser are what was found of the part's level and of the next.
 module _ (R : ℕ → ℕ) (p : PartName) (own coarser : ℕ) (o : own ≡ R p.level) (c : coarser ≡ R (p.level + 1)) where
@@ -69,14 +69,14 @@ from_set f g q (suc m) (suc i) x e h =
     (from_set f g (suc q) m i x (e ∙ ap g n) (λ j l d. h j (omega arith) (λ a. d (omega arith))))
 
 pub size_levels : (z : Size) → legal_size z ≡ true → levels z ≤ level_places
-size_levels z l = omega (arith, (legal z l).few, (legal z l).few_levels)
+size_levels z l = omega (arith, (legal z l).few)
 
 module _ (h : Header) (there : List PartName) where
-  pub reached_planes_places : length (reached_planes h there) ≡ level_places
+  pub six_planes : length (reached_planes h there) ≡ level_places
   unfolding reached_planes from
-  reached_planes_places = refl
+  six_planes = refl
 
-  -- what a place holds
+  -- what a place of six holds
   plane_at : (k : ℕ) → 1 ≤ k → k ≤ level_places → reached_at (reached_planes h there) k ≡ (reached_plane h there k).0
   unfolding plane_in reached_planes
   plane_at k f l =
@@ -100,7 +100,7 @@ module _ (h : Header) (there : List PartName) where
       cases : Dec (k ≤ level_places) → reached_at (reached_planes h there) k ≡ reached (top_level h) h.planes there k
       cases (yes l) = plane_at k f l ∙ plane_reached k
       cases (no l) =
-          sym (reached_at_beyond (reached_planes h there) k reached_planes_places (omega arith))
+          sym (reached_at_beyond (reached_planes h there) k six_planes (omega arith))
           ∙ sym (reached_beyond (top_level h) h.planes there k (omega (arith, size_levels h.size lawful)))
 
 -- One part more: a usable one changes what its level reached, one that is not changes nothing.
@@ -140,10 +140,10 @@ pub record Begun (h : Header) (levels done : ℕ) (found : List Plane) : Type 0 
   pub holds : found ≡ map (not_reached h.planes done) (from 1 level_places)
 
 module _ (h : Header) {levels : ℕ} where
-  pub begun_none : legal_size h.size ≡ true → levels ≡ top_level h → Begun h levels 0 (replicate level_places (record { 0 = 0 }))
+  pub begun_none : legal_size h.size ≡ true → levels ≡ h.size.n + 1 → Begun h levels 0 (replicate level_places (record { 0 = 0 }))
   unfolding not_reached from
   begun_none l e =
-      record { every = e; few = omega (arith, size_levels h.size l); within = omega arith; holds = refl }
+      record { every = omega arith; few = omega (arith, size_levels h.size l); within = omega arith; holds = refl }
 
   module _ {done : ℕ} {found : List Plane} (b : Begun h levels done found) where
     pub begun_more : done < levels → Begun h levels (done + 1) (set found done (record { 0 = h.planes }))

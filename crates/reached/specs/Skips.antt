@@ -32,9 +32,9 @@ module _ (h : Header) (there : List PartName) where
   unfolding skipped_by skipped_counts skipped_parts
   skipped_by_all = refl
 
-  pub skipped_by_places : (seen : List PartName) → length (skipped_by seen) ≡ level_places
+  pub skipped_by_six : (seen : List PartName) → length (skipped_by seen) ≡ level_places
   unfolding skipped_by
-  skipped_by_places seen = map_length (λ k. count (skips k) seen) 1 level_places
+  skipped_by_six seen = map_length (λ k. count (skips k) seen) 1 level_places
 
   skipped_at : (seen : List PartName) (i : ℕ) → i < level_places → count_in (skipped_by seen) i ≡ count (skips (1 + i)) seen
   unfolding skipped_by count_in
@@ -46,7 +46,7 @@ module _ (h : Header) (there : List PartName) where
     where
       by : Dec (i < level_places) → get_or (skipped_by seen) i 0 ≤ length seen
       by (yes l) = omega (arith, skipped_at seen i l, count_most (skips (1 + i)) seen)
-      by (no l) = omega (arith, get_or-eq_default (skipped_by seen) 0 {n = i} (omega (arith, skipped_by_places seen)))
+      by (no l) = omega (arith, get_or-eq_default (skipped_by seen) 0 {n = i} (omega (arith, skipped_by_six seen)))
 
   -- One part more: a usable one changes nothing, another is counted at its level.
   module _ (seen : List PartName) (p : PartName) where

@@ -65,7 +65,7 @@ pub fn none_reached(h: Header) -> [Plane; LEVEL_PLACES]
     requires { legal_size h.size ≡ true }
     ensures { result ≡ reached_planes h [] }
 {
-    let levels = shape::levels(h.size);
+    let levels = h.size.n + 1;
     let mut reached = [Plane(0); LEVEL_PLACES];
     let mut done = 0;
     while done < levels {

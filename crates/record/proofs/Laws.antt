@@ -14,8 +14,6 @@ use mir.Syntax.{w64}
 use mir.Val.{Fits}
 use denote.Enum.Declared.{tag_of}
 use Rattle.rules.specs.contracts.Number.{the_type}
-use Rattle.rules.specs.contracts.PartRead as read-part
-use Rattle.rules.specs.declared.Merged.TheVariants.{Never, From}
 use Rattle.rules.specs.declared.Size.{Size}
 use Rattle.rules.specs.declared.Header.{Header}
 use Rattle.rules.specs.declared.Part.{Part}
@@ -30,16 +28,13 @@ use Rattle.rules.specs.declared.HeaderRead.{HeaderRead}
 use Rattle.rules.specs.declared.HeaderRead.TheVariants as header
 use Rattle.rules.specs.Document.Pyramid.{legal_size, most_planes, most_area, area}
 use Rattle.rules.specs.Document.Passes.{PartName}
-use Rattle.rules.specs.Document.Layout.{read_number, bytes_for, pad_clear, body_of, bits_there, name_of}
-use Rattle.rules.specs.Document.Numbers.{head_number, judged_header, most_bits, part_number, follows, legal_head, judged_part, headed, read_part, top_level, part_most}
-use Rattle.rules.specs.Document.Numbers.{judged_head, read_head}
-use Rattle.rules.specs.Document.Calls.{legal_ask}
+use Rattle.rules.specs.Document.Layout.{read_number, version, bytes_for, pad_clear, body_of, bits_there, name_of}
+use Rattle.rules.specs.Document.Numbers.{head_number, judged_header, most_bits, part_number, follows, legal_head, judged_part, top_level, part_most}
 use Rattle.record.specs.declared.Name.{Name}
-use Rattle.record.specs.Named.{name_by, named, unread_header, judged_rest, unread, whole_part}
+use Rattle.record.specs.Named.{name_by, named, unread_header, unread, whole_part}
 use Rattle.rules.specs.Laws.Family.Sizes.{legal, area_bound}
 use Rattle.rules.specs.Laws.Counting.Booleans.{both_right}
 use Rattle.rules.specs.Laws.Reading.Stands.{read_number_stands}
-use Rattle.rules.specs.Laws.Reading.PartCases.{head_found}
 
 abbrev pub NoValue : Number → Type 0
 NoValue x = OneOf (1 ∷ 2 ∷ 3 ∷ []) (tag_of the_type x)
@@ -68,27 +63,11 @@ pub head_step : (at : ℕ) (x y : Number) (go : ℕ → ℕ → HeaderRead) (v e
 unfolding head_number
 head_step at x y go v end r e f h = h ∙ ap (λ (n : Number). head_number at n go) (sym f ∙ e)
 
--- the version decides
-module _ (v : ℕ) (one two wrong : HeaderRead) where
-  pub version_1 : (r : HeaderRead) → v ≡ 1 → r ≡ one → r ≡ cond (eqb v 1) one (cond (eqb v 2) two wrong)
-  version_1 r e h = rw (eq-eqb v 1 e) h
+pub version_right : (v : ℕ) (r other wrong : HeaderRead) → v ≡ version → r ≡ other → r ≡ cond (eqb v version) other wrong
+version_right v r other wrong e h = rw (eq-eqb v version e) h
 
-  pub version_2 : (r : HeaderRead) → (v ≡ 1 → ⊥) → v ≡ 2 → r ≡ two → r ≡ cond (eqb v 1) one (cond (eqb v 2) two wrong)
-  version_2 r d e h = rw (ne_eqb v 1 d, eq-eqb v 2 e) h
-
-  pub version_other : (v ≡ 1 → ⊥) → (v ≡ 2 → ⊥) → wrong ≡ cond (eqb v 1) one (cond (eqb v 2) two wrong)
-  version_other d e = rw (ne_eqb v 1 d, ne_eqb v 2 e)
-
--- behind the four numbers
-module _ (b : Bool) (s : List ℕ) (w h n planes at : ℕ) (r : HeaderRead) where
-  pub rest_second : b ≡ true → r ≡ head_number at (read_number s at) (λ k end. judged_header (record { w = w; h = h; n = n; merged = From k }) planes end)
-      → r ≡ judged_rest b s w h n planes at
-  unfolding judged_rest
-  rest_second t e = rw t e
-
-  pub rest_first : b ≡ false → r ≡ judged_header (record { w = w; h = h; n = n; merged = Never }) planes at → r ≡ judged_rest b s w h n planes at
-  unfolding judged_rest
-  rest_first t e = rw t e
+pub version_wrong : (v : ℕ) (other wrong : HeaderRead) → (v ≡ version → ⊥) → wrong ≡ cond (eqb v version) other wrong
+version_wrong v other wrong e = rw (ne_eqb v version e)
 
 -- A header's size and planes judged. b is what was found of the size.
 module _ (z : Size) (planes end : ℕ) (b : Bool) (found : b ≡ legal_size z) where
@@ -152,9 +131,9 @@ module _ (before : Name) (plane : Plane) (level : Level) where
     unfolding legal_head
     head_low l = rw (lt-leb 1 level.0 l, and-false (ltb plane.0 h.planes))
 
-    pub head_high : (top : ℕ) → top ≡ top_level h → top < level.0 → false ≡ legal_head h (named before) (name_by plane level) bits
+    pub head_high : h.size.n + 1 < level.0 → false ≡ legal_head h (named before) (name_by plane level) bits
     unfolding legal_head
-    head_high top e l =
+    head_high l =
         rw (lt-leb level.0 (top_level h) (omega arith), and-false (ltb plane.0 h.planes && leb 1 level.0))
 
     pub head_bits : (most : ℕ) → most ≡ most_bits h.size → most < bits → false ≡ legal_head h (named before) (name_by plane level) bits
@@ -162,10 +141,10 @@ module _ (before : Name) (plane : Plane) (level : Level) where
     head_bits most m l =
         rw (lt-leb bits (most_bits h.size) (omega arith)) (sym (and-false (of_name h (named before) (name_by plane level))))
 
-    pub head_order : (b : Bool) (top most : ℕ) → top ≡ top_level h → most ≡ most_bits h.size → b ≡ follows (named before) (name_by plane level)
-        → plane.0 < h.planes → 1 ≤ level.0 → level.0 ≤ top → bits ≤ most → b ≡ legal_head h (named before) (name_by plane level) bits
+    pub head_order : (b : Bool) (most : ℕ) → most ≡ most_bits h.size → b ≡ follows (named before) (name_by plane level)
+        → plane.0 < h.planes → 1 ≤ level.0 → level.0 ≤ h.size.n + 1 → bits ≤ most → b ≡ legal_head h (named before) (name_by plane level) bits
     unfolding legal_head
-    head_order b top most t m e n k j l =
+    head_order b most m e n k j l =
         rw (
           lt-ltb plane.0 h.planes n,
           le-leb 1 level.0 k,
@@ -173,7 +152,7 @@ module _ (before : Name) (plane : Plane) (level : Level) where
           le-leb bits (most_bits h.size) (omega arith),
         ) (e ∙ sym (and-true _))
 
-pub depth_small : (z : Size) → legal_size z ≡ true → z.n < 2 ^ 32
+pub depth_small : (z : Size) → legal_size z ≡ true → z.n + 1 < 2 ^ 64
 depth_small z l = omega (arith, (legal z l).few)
 
 -- A part's number: one that has no value decides, one that has leads on. x is what was read of y.
@@ -207,14 +186,14 @@ module _ (s : List ℕ) (p : Part) where
   unfolding whole_part
   whole_padded b body l e f t = rw (le-leb p.end (length s) l, ap (λ (x : List ℕ). pad_clear x p.bits) (sym e) ∙ sym f ∙ t)
 
-module _ (h : Header) (before : PartName) (p : Part) (b : Bool) (found : b ≡ legal_head h before (name_of p) p.bits) where
-  pub head_told : (r : PartRead) → b ≡ true → r ≡ part.Part p → r ≡ judged_head h before p
-  unfolding judged_head
-  head_told r t e = rw (sym found ∙ t) e
+module _ (h : Header) (s : List ℕ) (before : PartName) (p : Part) (b : Bool) (found : b ≡ legal_head h before (name_of p) p.bits) where
+  pub judged_whole : (r : PartRead) → b ≡ true → r ≡ whole_part s p → r ≡ judged_part h s before p
+  unfolding judged_part whole_part
+  judged_whole r t e = rw (sym found ∙ t) e
 
-  pub head_refused : (r : PartRead) → b ≡ false → r ≡ part.Refused (refusal.Part p.place) → r ≡ judged_head h before p
-  unfolding judged_head
-  head_refused r t e = rw (sym found ∙ t) e
+  pub judged_head : (r : PartRead) → b ≡ false → r ≡ part.Refused (refusal.Part p.place) → r ≡ judged_part h s before p
+  unfolding judged_part
+  judged_head r t e = rw (sym found ∙ t) e
 
 -- What is known of a part with a legal head: its bits are few, its body begins within the bytes, so that its end fits.
 module _ (h : Header) (before p : PartName) (bits : ℕ) (b : Bool) (l : legal_size h.size ≡ true) (e : b ≡ legal_head h before p bits) (t : b ≡ true) where
@@ -228,80 +207,11 @@ module _ (h : Header) (before p : PartName) (bits : ℕ) (b : Bool) (l : legal_s
   pub bits_fit : Fits w64 (bits + 7)
   bits_fit = record { fits = omega (arith, head_few) }
 
+  pub bits_small : bits < 2 ^ 40
+  bits_small = omega (arith, head_few)
+
   pub end_fits : (s : List ℕ) (x : Number) (at body : ℕ) → length s * 1 < 2 ^ 63 → x ≡ read_number s at → x ≡ Value bits body
       → Fits w64 (body + (bits + 7) / 8)
   end_fits s x at body few r v =
       let within : body ≤ length s = (read_number_stands s at bits body (sym r ∙ v)).within in
       record { fits = omega (arith, head_few) }
-
--- A part by its head: where there is none it is what was found, else the body decides.
-abbrev on_head : List ℕ → PartRead → PartRead
-on_head s (part.Part p) = whole_part s p
-on_head s (part.Cut p) = part.Cut p
-on_head s part.Tail = part.Tail
-on_head s (part.Refused r) = part.Refused r
-
-abbrev pub NoPart : PartRead → Type 0
-NoPart x = OneOf (1 ∷ 2 ∷ 3 ∷ []) (tag_of read-part.the_type x)
-
-module _ (h : Header) (s : List ℕ) (before : PartName) (place : ℕ) where
-  by_number : (x : Number) (go found : ℕ → ℕ → PartRead) → ((v end : ℕ) → go v end ≡ on_head s (found v end))
-      → part_number place x go ≡ on_head s (part_number place x found)
-  unfolding part_number
-  by_number (Value v end) go found e = e v end
-  by_number TooManyBytes go found e = refl
-  by_number LongForm go found e = refl
-  by_number CutOff go found e = refl
-
-  by_head : (p : Part) → judged_part h s before p ≡ on_head s (judged_head h before p)
-  unfolding judged_part judged_head whole_part
-  by_head p = cases (legal_head h before (name_of p) p.bits)
-    where
-      cases : (b : Bool)
-          → cond b (whole_part s p) (part.Refused (refusal.Part p.place)) ≡ on_head s (cond b (part.Part p) (part.Refused (refusal.Part p.place)))
-      cases true = refl
-      cases false = refl
-
-  part_of_head : read_part h s before place ≡ on_head s (read_head h s before place)
-  unfolding read_part read_head
-  part_of_head =
-      by_number (read_number s place) _ _ (λ n a.
-      by_number (read_number s a) _ _ (λ k b.
-      by_number (read_number s b) _ _ (λ bits body.
-      by_head (headed place n k bits body))))
-
-  module _ (found : PartRead) (e : found ≡ read_head h s before place) where
-    pub part_without : NoPart found → found ≡ read_part h s before place
-    part_without o = same found o ∙ ap (on_head s) e ∙ sym part_of_head
-      where
-        same : (x : PartRead) → NoPart x → x ≡ on_head s x
-        same (part.Part p) (inl d) = absurd (omega arith)
-        same (part.Part p) (inr (inl d)) = absurd (omega arith)
-        same (part.Part p) (inr (inr d)) = absurd (omega arith)
-        same (part.Cut p) o = refl
-        same part.Tail o = refl
-        same (part.Refused r) o = refl
-
-    module _ (p : Part) (f : found ≡ part.Part p) where
-      pub part_with : (r : PartRead) → r ≡ whole_part s p → r ≡ read_part h s before place
-      part_with r g = g ∙ ap (on_head s) (sym f ∙ e) ∙ sym part_of_head
-
-      pub part_ends : p.end ≡ p.body + bytes_for p.bits
-      part_ends = (head_found h s before place p (sym e ∙ f)).0.ends
-
-      pub part_few : legal_size h.size ≡ true → p.bits < 2 ^ 40
-      part_few l = omega (arith, (head_found h s before place p (sym e ∙ f)).1.bits_most, area_bound h.size l)
-
--- The request, cause by cause.
-module _ (h : Header) (level : Level) (plane : Plane) where
-  pub ask_low : level.0 < 1 → false ≡ legal_ask h level.0 plane.0
-  unfolding legal_ask
-  ask_low l = rw (lt-leb 1 level.0 l)
-
-  pub ask_high : (top : ℕ) → top ≡ top_level h → 1 ≤ level.0 → top < level.0 → false ≡ legal_ask h level.0 plane.0
-  unfolding legal_ask
-  ask_high top e k l = rw (le-leb 1 level.0 k, lt-leb level.0 (top_level h) (omega arith))
-
-  pub ask_plane : (top : ℕ) → top ≡ top_level h → 1 ≤ level.0 → level.0 ≤ top → leb plane.0 h.planes ≡ legal_ask h level.0 plane.0
-  unfolding legal_ask
-  ask_plane top e k l = rw (le-leb 1 level.0 k, le-leb level.0 (top_level h) (omega arith))

@@ -1,5 +1,5 @@
 -- Numbers written one after the other, and the head put before a body.
-use mathlib.Core.Path.{◌≡◌, refl, sym, ap, ap₂, ◌∙◌, subst}
+use mathlib.Core.Path.{◌≡◌, refl, sym, ap, ap₂, ◌∙◌}
 use mathlib.Core.Bool.{true}
 use mathlib.Core.List.{List, [], ◌∷◌, ◌++◌, append-nil}
 use Prim.Native.Nat.{ℕ, ◌+◌, ◌-◌, ◌/◌, ◌^◌, ◌≤◌, ◌<◌}
@@ -8,14 +8,12 @@ use lib.ListN.{length, take, drop, length-append}
 use lib.Seq.{sets}
 use mir.Syntax.{w64}
 use mir.Val.{Fits}
-use Rattle.rules.specs.declared.Merged.{Merged}
-use Rattle.rules.specs.declared.Merged.TheVariants.{Never, From}
 use Rattle.rules.specs.declared.Size.{Size}
 use Rattle.rules.specs.declared.Plane.{Plane}
 use Rattle.rules.specs.declared.Level.{Level}
 use Rattle.rules.specs.Document.Notation.{flat}
-use Rattle.rules.specs.Document.Pyramid.{legal_size, levels_from}
-use Rattle.rules.specs.Document.Layout.{number_bytes, bytes_for, version_of, merged_numbers, header_numbers}
+use Rattle.rules.specs.Document.Pyramid.{legal_size}
+use Rattle.rules.specs.Document.Layout.{number_bytes, bytes_for}
 use Rattle.rules.specs.Laws.Counting.Sums.{flat_append}
 use Rattle.rules.specs.Laws.Bytes.Numbers.{number_bytes_length}
 use Rattle.rules.specs.Laws.Family.Sizes.{legal}
@@ -63,43 +61,14 @@ pub wrote_three : (out : List ℕ) (at a b c e₁ e₂ e₃ : ℕ) (o₁ o₂ o�
 wrote_three out at a b c e₁ e₂ e₃ o₁ o₂ o₃ z z' y y' x x' =
     wrote_more (wrote_more (wrote_more (wrote_none out at) a e₁ o₁ (x, x')) b e₂ o₂ (y, y')) c e₃ o₃ (z, z')
 
--- A header: the version, three numbers, the planes, and what says from where on levels are one.
-module _ (out : List ℕ) (z : Size) (v p e₁ e₂ e₃ e₄ : ℕ) (o₁ o₂ o₃ o₄ : List ℕ) where
-  pub wrote_header : Wrote o₃ e₃ (merged_numbers z.merged) e₄ o₄ → e₃ ≡ e₂ + length (number_bytes p) → o₃ ≡ sets o₂ e₂ (number_bytes p)
-      → Wrote o₁ e₁ (z.w ∷ z.h ∷ z.n ∷ []) e₂ o₂ → e₁ ≡ 0 + length (number_bytes v) → o₁ ≡ sets out 0 (number_bytes v) → v ≡ version_of z.merged
-      → Wrote out 0 (header_numbers z p) e₄ o₄
-  unfolding header_numbers
-  wrote_header a c c' y x x' e =
+-- A header: the version, three numbers, the planes.
+module _ (out : List ℕ) (v w h n p e₁ e₂ e₃ : ℕ) (o₁ o₂ o₃ : List ℕ) where
+  pub wrote_header : e₃ ≡ e₂ + length (number_bytes p) → o₃ ≡ sets o₂ e₂ (number_bytes p) → Wrote o₁ e₁ (w ∷ h ∷ n ∷ []) e₂ o₂
+      → e₁ ≡ 0 + length (number_bytes v) → o₁ ≡ sets out 0 (number_bytes v) → Wrote out 0 (v ∷ w ∷ h ∷ n ∷ p ∷ []) e₃ o₃
+  unfolding flat
+  wrote_header z z' y x x' =
       let first : Wrote out 0 (v ∷ []) e₁ o₁ = wrote_more (wrote_none out 0) v e₁ o₁ (x, x') in
-      let five : Wrote out 0 (v ∷ z.w ∷ z.h ∷ z.n ∷ p ∷ []) e₃ o₃ = wrote_more (wrote_both first y) p e₃ o₃ (c, c') in
-      subst (λ (u : ℕ). Wrote out 0 (u ∷ z.w ∷ z.h ∷ z.n ∷ p ∷ merged_numbers z.merged) e₄ o₄) e (wrote_both five a)
-
--- what is written of a size whose levels are one from k on, and of one whose aren't
-module _ (z : Size) (out : List ℕ) (at : ℕ) where
-  pub wrote_never : z.merged ≡ Never → Wrote out at (merged_numbers z.merged) at out
-  unfolding merged_numbers
-  wrote_never e = subst (λ (m : Merged). Wrote out at (merged_numbers m) at out) (sym e) (wrote_none out at)
-
-  pub wrote_from : (k end : ℕ) (out' : List ℕ) → z.merged ≡ From k → end ≡ at + length (number_bytes k) → out' ≡ sets out at (number_bytes k)
-      → Wrote out at (merged_numbers z.merged) end out'
-  unfolding merged_numbers
-  wrote_from k end out' e x x' =
-      subst (λ (m : Merged). Wrote out at (merged_numbers m) end out') (sym e) (wrote_more (wrote_none out at) k end out' (x, x'))
-
-pub version_never : (m : Merged) → m ≡ Never → 1 ≡ version_of m
-unfolding version_of
-version_never m e = sym (ap version_of e)
-
-pub version_small : (v : ℕ) (m : Merged) → v ≡ version_of m → v < 2 ^ 28
-version_small v m e = omega (arith, few m)
-  where
-    few : (m : Merged) → version_of m ≤ 2
-    few Never = unfold version_of in omega arith
-    few (From k) = unfold version_of in omega arith
-
-pub version_from : (m : Merged) (k : ℕ) → m ≡ From k → 2 ≡ version_of m
-unfolding version_of
-version_from m k e = sym (ap version_of e)
+      wrote_more (wrote_both first y) p e₃ o₃ (z, z')
 
 -- The place after a few numbers stays small: what each added, from the last back to the first.
 pub after_one : (at a e₁ : ℕ) → e₁ ≡ at + length (number_bytes a) → at ≤ place_most → e₁ < 2 ^ 62
@@ -111,10 +80,6 @@ after_two at a b e₁ e₂ y x l = omega (arith, number_bytes_length a, number_b
 pub after_version : (v e : ℕ) → e ≡ 0 + length (number_bytes v) → e ≤ place_most
 after_version v e x = omega (arith, number_bytes_length v)
 
-pub after_planes : (out : List ℕ) (at v w h n p e e' : ℕ) (out' : List ℕ) → e' ≡ e + length (number_bytes p) → Wrote out at (w ∷ h ∷ n ∷ []) e out'
-    → at ≡ 0 + length (number_bytes v) → e' ≤ place_most
-after_planes out at v w h n p e e' out' x y a = omega (arith, wrote_near y, number_bytes_length p, number_bytes_length v)
-
 pub after_three : (out : List ℕ) (at w h n end : ℕ) (out' : List ℕ) → Wrote out at (w ∷ h ∷ n ∷ []) end out' → at ≤ place_most → end < 2 ^ 62
 after_three out at w h n end out' y l = omega (arith, wrote_near y)
 
@@ -125,10 +90,6 @@ module _ (z : Size) (l : legal_size z ≡ true) where
 
   pub height_small : z.h < 2 ^ 28
   height_small = omega (arith, (legal z l).height.most)
-
-  pub merged_small : (k : ℕ) → z.merged ≡ From k → k < 2 ^ 28
-  unfolding levels_from
-  merged_small k e = omega (arith, (legal z l).few, rw e at (legal z l).few_levels)
 
   pub count_small : z.n < 2 ^ 28
   count_small = omega (arith, (legal z l).few)

@@ -1,15 +1,14 @@
 -- A part's name in the definitions, by what the code has of it; and what is left to judge behind a legal head.
-use Rattle.std.specs.Prelude.{List, Bool, true, false, cond, ℕ, leb, length}
+use Rattle.std.specs.Prelude.{List, cond, ℕ, leb, length}
 use Rattle.rules.specs.declared.Refusal.TheVariants as refusal
-use Rattle.rules.specs.declared.Merged.TheVariants.{Never, From}
 use Rattle.rules.specs.declared.Number.{Number}
 use Rattle.rules.specs.declared.HeaderRead.{HeaderRead}
 use Rattle.rules.specs.declared.HeaderRead.TheVariants as header
 use Rattle.rules.specs.declared.Part.{Part}
 use Rattle.rules.specs.declared.PartRead.{PartRead}
 use Rattle.rules.specs.declared.PartRead.TheVariants as part
-use Rattle.rules.specs.Document.Layout.{read_number, pad_clear, body_of}
-use Rattle.rules.specs.Document.Numbers.{head_number, judged_header, part_number}
+use Rattle.rules.specs.Document.Layout.{pad_clear, body_of}
+use Rattle.rules.specs.Document.Numbers.{head_number, part_number}
 use Rattle.rules.specs.declared.Plane.{Plane}
 use Rattle.rules.specs.declared.Level.{Level}
 use Rattle.record.specs.declared.Name.{Name}
@@ -27,12 +26,6 @@ unread_header at x = head_number at x (λ v end. header.Refused (refusal.Head at
 
 unfoldable pub unread : ℕ → Number → PartRead
 unread place x = part_number place x (λ v end. part.Tail)
-
--- What is left to read and judge of a header behind its four numbers, in version 1 and in version 2.
-unfoldable pub judged_rest : Bool → List ℕ → ℕ → ℕ → ℕ → ℕ → ℕ → HeaderRead
-judged_rest false s w h n planes end = judged_header (record { w = w; h = h; n = n; merged = Never }) planes end
-judged_rest true s w h n planes at =
-    head_number at (read_number s at) (λ k end. judged_header (record { w = w; h = h; n = n; merged = From k }) planes end)
 
 -- What is left to judge of a part whose head is legal.
 unfoldable pub whole_part : List ℕ → Part → PartRead

@@ -5,9 +5,6 @@ pub mod write;
 
 use rules::{Level, Plane};
 
-// Of a record some of whose levels are one.
-pub const VERSION_2: usize = 2;
-
 // A part's plane and level.
 #[derive(Drop)]
 pub struct Name {

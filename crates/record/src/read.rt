@@ -1,15 +1,13 @@
 // Reading: a record's header, and the part that stands at a place, its body handed back as the portion of the caller's record that holds it.
 ghost use Rattle.std.specs.Prelude.{◌≡◌, true, ◌+◌, ◌^◌, ◌≤◌, ◌<◌, length};
 ghost use Rattle.rules.specs.Document.Layout.{bytes_for, body_of, bits_there};
-ghost use Rattle.rules.specs.Document.Numbers.{judged_header, read_sizes, read_header, follows, legal_head, read_head, read_part};
-ghost use Rattle.rules.specs.Document.Calls.{legal_ask};
+ghost use Rattle.rules.specs.Document.Numbers.{judged_header, read_sizes, read_header, follows, legal_head, read_part};
 ghost use Rattle.rules.specs.Document.Pyramid.{legal_size};
-ghost use Rattle.record.specs.Named.{named, name_by, unread_header, judged_rest, unread, whole_part};
+ghost use Rattle.record.specs.Named.{named, name_by, unread_header, unread, whole_part};
 
-use crate::{Name, VERSION_2};
+use crate::Name;
 use rules::{
-    Header, HeaderRead, Level, MOST_PLANES, Merged, Number, Part, PartRead, Plane, Refusal, Size,
-    VERSION,
+    Header, HeaderRead, Level, MOST_PLANES, Number, Part, PartRead, Plane, Refusal, Size, VERSION,
 };
 
 fn judged_header(z: Size, planes: usize, end: usize) -> HeaderRead
@@ -39,49 +37,9 @@ fn no_header_value(number: Number, at: usize) -> HeaderRead
     }
 }
 
-// Behind those four: in version 2 a number more, from which level on the levels are one.
-fn rest(
-    bytes: &[u8],
-    merges: bool,
-    w: usize,
-    h: usize,
-    n: usize,
-    planes: usize,
-    at: usize,
-) -> HeaderRead
-    ensures { result ≡ judged_rest merges bytes.now w h n planes at }
-{
-    if merges {
-        let last = numbers::read_number(bytes, at);
-        let Number::Value(k, end) = last else {
-            return no_header_value(last, at);
-        };
-        return judged_header(
-            Size {
-                w,
-                h,
-                n,
-                merged: Merged::From(k),
-            },
-            planes,
-            end,
-        );
-    }
-    judged_header(
-        Size {
-            w,
-            h,
-            n,
-            merged: Merged::Never,
-        },
-        planes,
-        at,
-    )
-}
-
-// Width, height, decomposition count and planes, then what is left.
-fn sizes(bytes: &[u8], merges: bool, at: usize) -> HeaderRead
-    ensures { result ≡ read_sizes bytes.now at (judged_rest merges bytes.now) }
+// Width, height, decomposition count and planes.
+fn sizes(bytes: &[u8], at: usize) -> HeaderRead
+    ensures { result ≡ read_sizes bytes.now at }
 {
     let width = numbers::read_number(bytes, at);
     let Number::Value(w, second) = width else {
@@ -99,7 +57,7 @@ fn sizes(bytes: &[u8], merges: bool, at: usize) -> HeaderRead
     let Number::Value(planes, end) = depth else {
         return no_header_value(depth, fourth);
     };
-    rest(bytes, merges, w, h, n, planes, end)
+    judged_header(Size { w, h, n }, planes, end)
 }
 
 pub fn header(bytes: &[u8]) -> HeaderRead
@@ -110,30 +68,14 @@ pub fn header(bytes: &[u8]) -> HeaderRead
         return no_header_value(first, 0);
     };
     if version == VERSION {
-        return sizes(bytes, false, at);
+        sizes(bytes, at)
+    } else {
+        HeaderRead::Refused(Refusal::Version)
     }
-    if version == VERSION_2 {
-        return sizes(bytes, true, at);
-    }
-    HeaderRead::Refused(Refusal::Version)
-}
-
-// Whether a record with this header can be served for a level and a plane.
-pub fn legal_ask(h: Header, level: Level, plane: Plane) -> bool
-    requires { legal_size h.size ≡ true }
-    ensures { result ≡ legal_ask h level.0 plane.0 }
-{
-    if level.0 < 1 {
-        return false;
-    }
-    if shape::levels(h.size) < level.0 {
-        return false;
-    }
-    plane.0 <= h.planes
 }
 
 // Whether a part comes after the one before it in the order: planes downward, levels downward in a plane.
-pub fn comes_after(before: Name, plane: Plane, level: Level) -> bool
+fn comes_after(before: Name, plane: Plane, level: Level) -> bool
     ensures { result ≡ follows (named before) (name_by plane level) }
 {
     let earlier = before.plane;
@@ -155,8 +97,7 @@ fn legal_head(h: Header, before: Name, plane: Plane, level: Level, bits: usize) 
     if level.0 < 1 {
         return false;
     }
-    let top = shape::levels(size);
-    if top < level.0 {
+    if size.n + 1 < level.0 {
         return false;
     }
     if shape::most_bits(size) < bits {
@@ -227,10 +168,10 @@ fn whole_part(bytes: &[u8], p: Part) -> PartRead
     }
 }
 
-// The head that stands at a place, behind the part before it: a part as its head tells it, be its body there or not.
-pub fn head(bytes: &[u8], h: Header, before: Name, place: usize) -> PartRead
+// The part that stands at a place, behind the one before it.
+pub fn part(bytes: &[u8], h: Header, before: Name, place: usize) -> PartRead
     requires { legal_size h.size ≡ true }
-    ensures { result ≡ read_head h bytes.now (named before) place }
+    ensures { result ≡ read_part h bytes.now (named before) place }
 {
     let first = numbers::read_number(bytes, place);
     let Number::Value(n, second_at) = first else {
@@ -248,27 +189,18 @@ pub fn head(bytes: &[u8], h: Header, before: Name, place: usize) -> PartRead
     let level = Level(k);
     if legal_head(h, before, plane, level, bits) {
         let end = body + (bits + 7) / 8;
-        PartRead::Part(Part {
-            plane,
-            level,
-            bits,
-            place,
-            body,
-            end,
-        })
+        whole_part(
+            bytes,
+            Part {
+                plane,
+                level,
+                bits,
+                place,
+                body,
+                end,
+            },
+        )
     } else {
         PartRead::Refused(Refusal::Part(place))
     }
-}
-
-// The part that stands at a place, behind the one before it.
-pub fn part(bytes: &[u8], h: Header, before: Name, place: usize) -> PartRead
-    requires { legal_size h.size ≡ true }
-    ensures { result ≡ read_part h bytes.now (named before) place }
-{
-    let found = head(bytes, h, before, place);
-    let PartRead::Part(p) = found else {
-        return found;
-    };
-    whole_part(bytes, p)
 }

@@ -1,11 +1,10 @@
 // Writing: a record's header and the head of a part, from a place of the output on. What falls past its end is left out; the place goes on counting.
 ghost use Rattle.std.specs.Prelude.{◌≡◌, [], ◌∷◌, true, ◌≤◌};
 ghost use Rattle.rules.specs.Document.Pyramid.{legal_size, most_planes};
-ghost use Rattle.rules.specs.Document.Layout.{version_of, merged_numbers, header_numbers};
+ghost use Rattle.rules.specs.Document.Layout.{version};
 ghost use Rattle.record.specs.Write.{place_most, Wrote, HeadFits, Headed};
 
-use crate::VERSION_2;
-use rules::{Level, Merged, Plane, Size, VERSION};
+use rules::{Level, Plane, Size, VERSION};
 
 // Bytes of a part's head whose bit count takes one byte.
 pub const SHORT_HEAD: usize = 3;
@@ -20,37 +19,14 @@ fn dimensions(z: Size, out: &mut [u8], at: usize) -> usize
     numbers::write_number(out, after_h, z.n)
 }
 
-fn version_of(z: Size) -> usize
-    ensures { result ≡ version_of z.merged }
-{
-    let merged = z.merged;
-    match merged {
-        Merged::Never => VERSION,
-        Merged::From(_) => VERSION_2,
-    }
-}
-
-// From which level on the levels are one, in a header that says it. Answers the place after it.
-fn merged_from(z: Size, out: &mut [u8], at: usize) -> usize
-    requires { (legal_size z ≡ true) × (at ≤ place_most) }
-    ensures { Wrote out.old at (merged_numbers z.merged) result out.new }
-{
-    let merged = z.merged;
-    match merged {
-        Merged::Never => at,
-        Merged::From(k) => numbers::write_number(out, at, k),
-    }
-}
-
 // The header, at the front. Answers the place after it.
 pub fn header(z: Size, planes: usize, out: &mut [u8]) -> usize
     requires { (legal_size z ≡ true) × (planes ≤ most_planes) }
-    ensures { Wrote out.old 0 (header_numbers z planes) result out.new }
+    ensures { Wrote out.old 0 (version ∷ z.w ∷ z.h ∷ z.n ∷ planes ∷ []) result out.new }
 {
-    let after_version = numbers::write_number(out, 0, version_of(z));
+    let after_version = numbers::write_number(out, 0, VERSION);
     let after_size = dimensions(z, out, after_version);
-    let after_planes = numbers::write_number(out, after_size, planes);
-    merged_from(z, out, after_planes)
+    numbers::write_number(out, after_size, planes)
 }
 
 // The head of a part. Answers the place after it.

@@ -2,16 +2,12 @@
 
 pub const VERSION: usize = 1;
 
-pub const LEAST_SIDE: usize = 4;
-
-pub const GREATEST_SIDE: usize = 4096;
-
-pub const MOST_DECOMPOSITIONS: usize = 8;
+pub const GREATEST_SIDE: usize = 512;
 
 pub const MOST_PLANES: usize = 17;
 
 // Places for one number a level: as many as a record can have levels.
-pub const LEVEL_PLACES: usize = 9;
+pub const LEVEL_PLACES: usize = 6;
 
 // The lengths of the answers of coding, serving and decoding.
 pub const CODE_PLACES: usize = 3;
@@ -27,20 +23,12 @@ pub struct Plane(pub usize);
 #[derive(Drop)]
 pub struct Level(pub usize);
 
-// From which level on the levels are one: in a record of version 1 never, in one of version 2 from level K on.
-#[derive(Drop)]
-pub enum Merged {
-    Never,
-    From(usize),
-}
-
-// Width, height and decomposition count, and which levels are one.
+// Width, height and decomposition count.
 #[derive(Drop)]
 pub struct Size {
     pub w: usize,
     pub h: usize,
     pub n: usize,
-    pub merged: Merged,
 }
 
 // What a call is refused for, with the place where one is reported.
@@ -61,8 +49,6 @@ pub enum Refusal {
     Grey,
     Mixed,
     Clash(usize),
-    Index(usize),
-    Foreign,
 }
 
 #[derive(Drop)]

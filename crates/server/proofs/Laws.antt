@@ -1,15 +1,13 @@
--- Serving step by step: one part kept, and what is left of the walk.
-use mathlib.Core.Path.{◌≡◌, refl, ap, ap₂, sym, ◌∙◌, subst, subst₂}
+-- Serving step by step: the request, one part kept, and what is left of the walk.
+use mathlib.Core.Path.{◌≡◌, refl, ap, ap₂, sym, ◌∙◌}
 use mathlib.Core.List.{List, [], ◌∷◌, ◌++◌, append_assoc, append-nil}
 use mathlib.Core.Bool.{Bool, true, false, cond, ◌&&◌}
 use Prim.Native.Nat.{ℕ, ◌+◌, ◌-◌, ◌≤◌, ◌<◌}
-use mathlib.Core.Logic.{◌≢◌}
 use native.Mathlib.Omega.{arith}
-use native.Mathlib.Decide.{dec_le}
 use lib.Dec.{leb}
 use lib.ListN.{length, take, drop, replicate, length-append, length-replicate}
 use lib.Seq.{sets, length-sets, length-take-le}
-use borrow.Author.Tests.{le-leb, lt-leb, eq-eqb, ne_eqb}
+use borrow.Author.Tests.{le-leb, lt-leb}
 use Rattle.rules.specs.declared.Refusal.{Refusal}
 use Rattle.rules.specs.declared.Refusal.TheVariants as refusal
 use Rattle.rules.specs.declared.Verdict.TheVariants.{Accepted}
@@ -22,61 +20,66 @@ use Rattle.rules.specs.declared.PartRead.{PartRead}
 use Rattle.rules.specs.declared.PartRead.TheVariants as part
 use Rattle.rules.specs.declared.Plane.{Plane}
 use Rattle.rules.specs.declared.Level.{Level}
-use Rattle.rules.specs.Document.Notation.{every, flat, zeros}
-use Rattle.rules.specs.Document.Pyramid.{legal_size, levels}
-use Rattle.rules.specs.Document.Passes.{PartName}
-use Rattle.rules.specs.Document.Layout.{whole_of, name_of}
+use Rattle.rules.specs.Document.Notation.{flat, zeros}
+use Rattle.rules.specs.Document.Pyramid.{legal_size}
+use Rattle.rules.specs.Document.Layout.{whole_of}
 use Rattle.rules.specs.Document.Numbers.{Ending, tail, fault, Reading, read_header, read_parts, top_level}
-use Rattle.rules.specs.Document.Calls.{refused, accepted, unless, on_header, on_ending, asked, kept_by, selected_bytes, portioned, serve_out, serve_answer}
-use Rattle.rules.specs.Promises.Vocabulary.{Request}
-use Rattle.rules.specs.Laws.Serving.Requests.{serving_for, ServingFor}
+use Rattle.rules.specs.Document.Calls.{refused, accepted, unless, on_header, on_ending, legal_ask, kept_of, served_bytes, portioned}
+use Rattle.rules.specs.Document.Calls.{serving, serve_out, serve_answer, Serving}
 use Rattle.rules.specs.Laws.Counting.Sums.{flat_append}
 use Rattle.rules.specs.Laws.Bytes.Output.{clipped, clipped_nothing, clipped_length, clipped_append, clipped_fits}
 use Rattle.rules.specs.Laws.Serving.Selection.{whole_length}
-use Rattle.stairs.specs.Document.Stair.{plane_for, legal_stair, stair}
 use Rattle.record.specs.declared.walk.Cursor.{Cursor}
 use Rattle.record.specs.Walk.{first_of, next_of, past_of, Stands, stands_first, stands_legal, next_stands, Short, stands_past, stands_short, stands_fault}
 use Rattle.server.specs.declared.Ended.{Ended}
 use Rattle.server.specs.declared.Ended.TheVariants.{Whole, Fault}
-use Rattle.server.specs.Walk.{Refusing, Copies, Copied, Kept, Begun, end_of, result, Walked, Finished}
+use Rattle.server.specs.Walk.{Refusing, Copies, Kept, Begun, end_of, result, Walked}
 
--- One part: what a test says of it.
-module _ (s : List ℕ) (p : Part) (test : PartName → Bool) (out : List ℕ) (written : ℕ) where
-  pub kept_nothing : (b : Bool) → b ≡ test (name_of p) → b ≡ false → Kept s p test out written written out
-  unfolding kept_by
-  kept_nothing b e f =
-      let none : kept_by s test p ≡ [] = rw (sym e ∙ f) in
+-- The request, cause by cause.
+module _ (h : Header) (level : Level) (plane : Plane) where
+  pub ask_low : level.0 < 1 → false ≡ legal_ask h level.0 plane.0
+  unfolding legal_ask
+  ask_low l = rw (lt-leb 1 level.0 l)
+
+  pub ask_high : 1 ≤ level.0 → h.size.n < level.0 - 1 → false ≡ legal_ask h level.0 plane.0
+  unfolding legal_ask
+  ask_high k l = rw (le-leb 1 level.0 k, lt-leb level.0 (top_level h) (omega arith))
+
+  pub ask_plane : 1 ≤ level.0 → level.0 - 1 ≤ h.size.n → leb plane.0 h.planes ≡ legal_ask h level.0 plane.0
+  unfolding legal_ask
+  ask_plane k l = rw (le-leb 1 level.0 k, le-leb level.0 (top_level h) (omega arith))
+
+-- One part.
+module _ (s : List ℕ) (p : Part) (level : Level) (plane : Plane) (out : List ℕ) (written : ℕ) where
+  kept_nothing : kept_of s level.0 plane.0 p ≡ [] → Kept s p level plane out written written out
+  kept_nothing e =
       record {
-        counts = let n : written ≡ written + 0 = omega arith in n ∙ ap (λ (l : List ℕ). written + length l) (sym none);
-        copies = ap (λ (l : List ℕ). sets out written l) (sym none);
+        counts = let f : written ≡ written + 0 = omega arith in f ∙ ap (λ (l : List ℕ). written + length l) (sym e);
+        copies = ap (λ (l : List ℕ). sets out written l) (sym e);
       }
 
-  pub kept_whole : (b : Bool) → b ≡ test (name_of p) → b ≡ true → (more : ℕ) (out' : List ℕ) → Copied s p out written more out'
-      → Kept s p test out written more out'
-  unfolding kept_by
-  kept_whole b e f more out' c =
-      let all : kept_by s test p ≡ whole_of s p = rw (sym e ∙ f) in
-      record { counts = c.counts ∙ ap (λ (l : List ℕ). written + length l) (sym all); copies = c.copies ∙ ap (λ (l : List ℕ). sets out written l) (sym all) }
+  pub kept_coarse : p.level.0 < level.0 → Kept s p level plane out written written out
+  unfolding kept_of
+  kept_coarse l = kept_nothing (rw (lt-leb level.0 p.level.0 l))
 
-pub copied_whole : (s : List ℕ) (p : Part) (out : List ℕ) (written : ℕ) → Copies s p written → (out' : List ℕ)
-    → out' ≡ sets out written (take (p.end - p.place) (drop p.place s)) → Copied s p out written (written + (p.end - p.place)) out'
-unfolding whole_of
-copied_whole s p out written c out' e =
-    record { counts = ap (λ (n : ℕ). written + n) (sym (whole_length s p c.ordered c.within)); copies = e }
+  pub kept_low : level.0 ≤ p.level.0 → p.plane.0 < plane.0 → Kept s p level plane out written written out
+  unfolding kept_of
+  kept_low k l = kept_nothing (rw (le-leb level.0 p.level.0 k, lt-leb plane.0 p.plane.0 l))
 
--- The test for a level and a plane.
-module _ (p : Part) (level : Level) (plane : Plane) where
-  pub asked_coarse : p.level.0 < level.0 → false ≡ asked level.0 plane.0 (name_of p)
-  unfolding name_of
-  asked_coarse l = rw (lt-leb level.0 p.level.0 l)
+  pub kept_whole : Copies s p written → level.0 ≤ p.level.0 → plane.0 ≤ p.plane.0 → (out' : List ℕ)
+      → out' ≡ sets out written (take (p.end - p.place) (drop p.place s)) → Kept s p level plane out written (written + (p.end - p.place)) out'
+  unfolding kept_of whole_of
+  kept_whole c k l out' e =
+      let f : kept_of s level.0 plane.0 p ≡ whole_of s p = rw (le-leb level.0 p.level.0 k, le-leb plane.0 p.plane.0 l) in
+      record {
+        counts = ap (λ (n : ℕ). written + n) (sym (whole_length s p c.ordered c.within) ∙ ap length (sym f));
+        copies = e ∙ ap (λ (l : List ℕ). sets out written l) (sym f);
+      }
 
-  pub asked_plane : level.0 ≤ p.level.0 → leb plane.0 p.plane.0 ≡ asked level.0 plane.0 (name_of p)
-  unfolding name_of
-  asked_plane l = rw (le-leb level.0 p.level.0 l)
-
-kept_most : (s : List ℕ) (p : Part) (test : PartName → Bool) → p.place ≤ p.end → p.end ≤ length s → length (kept_by s test p) ≤ p.end - p.place
-unfolding kept_by
-kept_most s p test o l = go (test (name_of p))
+kept_most : (s : List ℕ) (p : Part) (level : Level) (plane : Plane) → p.place ≤ p.end → p.end ≤ length s
+    → length (kept_of s level.0 plane.0 p) ≤ p.end - p.place
+unfolding kept_of
+kept_most s p level plane o l = go (leb level.0 p.level.0 && leb plane.0 p.plane.0)
   where
     go : (b : Bool) → length (cond b (whole_of s p) []) ≤ p.end - p.place
     go true = omega (arith, whole_length s p o l)
@@ -86,29 +89,29 @@ ending_clash : (q : Refusal) (n : ℕ) → fault q ≡ tail n → ◌≡◌ {A =
 ending_clash q n e = cc
 
 -- The walk: what the parts that it came past come to is written.
-pub record Walking (s : List ℕ) (h : Header) (test : PartName → Bool) (room : ℕ) (out : List ℕ) (c : Cursor) (written : ℕ) : Type 0 where
+pub record Walking (s : List ℕ) (h : Header) (level : Level) (plane : Plane) (room : ℕ) (out : List ℕ) (c : Cursor) (written : ℕ) : Type 0 where
   pub seen : List Part
   pub stands : Stands h s c seen
-  pub count : written ≡ length (selected_bytes h s test seen)
-  pub holds : out ≡ clipped room (selected_bytes h s test seen)
+  pub count : written ≡ length (served_bytes h s level.0 plane.0 seen)
+  pub holds : out ≡ clipped room (served_bytes h s level.0 plane.0 seen)
   pub behind : written ≤ c.place
 
-module _ (s : List ℕ) (h : Header) (test : PartName → Bool) where
+module _ (s : List ℕ) (h : Header) (level : Level) (plane : Plane) where
   abbrev bytes : List Part → List ℕ
-  bytes ps = selected_bytes h s test ps
+  bytes ps = served_bytes h s level.0 plane.0 ps
 
   served_none : bytes [] ≡ take h.end s
-  unfolding selected_bytes flat
+  unfolding served_bytes flat
   served_none = append-nil (take h.end s)
 
-  served_more : (ps : List Part) (p : Part) → bytes (ps ++ (p ∷ [])) ≡ bytes ps ++ kept_by s test p
-  unfolding selected_bytes flat
+  served_more : (ps : List Part) (p : Part) → bytes (ps ++ (p ∷ [])) ≡ bytes ps ++ kept_of s level.0 plane.0 p
+  unfolding served_bytes flat
   served_more ps p =
-      let f = kept_by s test in
+      let f = kept_of s level.0 plane.0 in
       ap (λ (x : List ℕ). take h.end s ++ x) (flat_append f ps (p ∷ []) ∙ ap (λ (x : List ℕ). flat f ps ++ x) (append-nil (f p)))
       ∙ sym (append_assoc (take h.end s) (flat f ps) (f p))
 
-  pub walking_first : (c : Cursor) (out : List ℕ) → Begun s h out → c ≡ first_of h → Walking s h test (length out) out c h.end
+  pub walking_first : (c : Cursor) (out : List ℕ) → Begun s h out → c ≡ first_of h → Walking s h level plane (length out) out c h.end
   walking_first c out b e =
       let st : Stands h s c [] = stands_first h s c b.read e in
       let at : c.place ≡ h.end = ap (λ (x : Cursor). x.place) e in
@@ -121,7 +124,7 @@ module _ (s : List ℕ) (h : Header) (test : PartName → Bool) where
         behind = omega (arith, at);
       }
 
-  module _ (room : ℕ) (out : List ℕ) (c : Cursor) (written : ℕ) (w : Walking s h test room out c written) where
+  module _ (room : ℕ) (out : List ℕ) (c : Cursor) (written : ℕ) (w : Walking s h level plane room out c written) where
     pub walking_legal : legal_size h.size ≡ true
     walking_legal = stands_legal h s c w.seen w.stands
 
@@ -132,9 +135,9 @@ module _ (s : List ℕ) (h : Header) (test : PartName → Bool) where
           record { behind = omega (arith, w.behind, st.placed); ordered = omega (arith, st.placed, st.after, st.end); within = st.within }
 
       pub walking_past : (p : Part) (d : Cursor) (more : ℕ) (out' : List ℕ) → found ≡ part.Part p → d ≡ past_of p
-          → Kept s p test out written more out' → Walking s h test room out' d more
+          → Kept s p level plane out written more out' → Walking s h level plane room out' d more
       walking_past p d more out' f g k =
-          let own = kept_by s test p in
+          let own = kept_of s level.0 plane.0 p in
           let copies : Copies s p written = walking_copies p f in
           let at : d.place ≡ p.end = ap (λ (x : Cursor). x.place) g in
           let longer : length (bytes (w.seen ++ (p ∷ []))) ≡ written + length own
@@ -146,7 +149,7 @@ module _ (s : List ℕ) (h : Header) (test : PartName → Bool) where
             holds =
                 k.copies ∙ ap₂ (λ (l : List ℕ) (n : ℕ). sets l n own) w.holds w.count ∙ clipped_append room (bytes w.seen) own
                 ∙ ap (clipped room) (sym (served_more w.seen p));
-            behind = omega (arith, k.counts, kept_most s p test copies.ordered copies.within, copies.behind, copies.ordered, at);
+            behind = omega (arith, k.counts, kept_most s p level plane copies.ordered copies.within, copies.behind, copies.ordered, at);
           }
 
     -- The walk's two ends, for whoever lent the output as `first`.
@@ -155,7 +158,7 @@ module _ (s : List ℕ) (h : Header) (test : PartName → Bool) where
       walking_same = ap length w.holds ∙ clipped_length room (bytes w.seen) ∙ lent
 
       module _ (found : PartRead) (e : found ≡ next_of h s c) where
-        pub walking_whole : Short found → Walked s h test first (Whole written (length s - c.place)) out
+        pub walking_whole : Short found → Walked s h level plane first (Whole written (length s - c.place)) out
         unfolding end_of
         walking_whole f =
             let all : read_parts h s ≡ record { parts = w.seen; ending = tail (length s - c.place) } = stands_short h s c found e w.seen w.stands f in
@@ -165,7 +168,7 @@ module _ (s : List ℕ) (h : Header) (test : PartName → Bool) where
               holds = λ n u. rw all (w.holds ∙ ap (λ (k : ℕ). clipped k (bytes w.seen)) lent);
             }
 
-        pub walking_fault : (q : Refusal) → found ≡ part.Refused q → Walked s h test first (Fault q) out
+        pub walking_fault : (q : Refusal) → found ≡ part.Refused q → Walked s h level plane first (Fault q) out
         unfolding end_of
         walking_fault q f =
             let all : read_parts h s ≡ record { parts = w.seen; ending = fault q } = stands_fault h s c found e w.seen w.stands q f in
@@ -187,136 +190,71 @@ ended_whole (tail u) bytes n t e = (cc, cc)
 ended_whole (fault r) bytes n t e = absurd (let z : ◌≡◌ {A = ℕ} 0 1 = cc in omega arith)
 
 -- The call as a whole, for a header that was read and a request that was judged.
-module _ (s : List ℕ) (q : Request) (out : List ℕ) where
+module _ (s : List ℕ) (level : Level) (plane : Plane) (out : List ℕ) where
   -- refused with r, the output cleared by whoever had it then, as long as it was lent
   refusing : (r : Refusal) (a : Served) (then out' : List ℕ) → length then ≡ length out → Refusing r then a out'
-      → serving_for q s (length out) ≡ refused r → ServingFor q s out a out'
+      → serving s level.0 plane.0 (length out) ≡ refused r → Serving s level.0 plane.0 out a out'
   unfolding serve_answer serve_out
   refusing r a then out' l f e =
       record { answers = f.answers ∙ ap serve_answer (sym e); writes = f.clears ∙ ap zeros l ∙ ap (serve_out (length out)) (sym e) }
 
   pub unheaded : (x : HeaderRead) (r : Refusal) (a : Served) (out' : List ℕ) → x ≡ read_header s → x ≡ header.Refused r → Refusing r out a out'
-      → ServingFor q s out a out'
-  unfolding serving_for on_header
+      → Serving s level.0 plane.0 out a out'
+  unfolding serving on_header
   unheaded x r a out' e f g = refusing r a out out' refl g (rw (sym e ∙ f))
 
   module _ (h : Header) (read : read_header s ≡ header.Header h) where
-    pub unasked : (b : Bool) (a : Served) (out' : List ℕ) → b ≡ q.legal h → b ≡ false → Refusing refusal.Ask out a out'
-        → ServingFor q s out a out'
-    unfolding serving_for on_header unless
+    pub unasked : (b : Bool) (a : Served) (out' : List ℕ) → b ≡ legal_ask h level.0 plane.0 → b ≡ false → Refusing refusal.Ask out a out'
+        → Serving s level.0 plane.0 out a out'
+    unfolding serving on_header unless
     unasked b a out' e f g = refusing refusal.Ask a out out' refl g (rw (read, sym e ∙ f))
 
-    -- The walk, from an output as long on, has ended.
-    module _ (begun : List ℕ) (lent : length begun ≡ length out) (b : Bool) (judged : b ≡ q.legal h) (legal : b ≡ true) (e : Ended) (out₁ : List ℕ)
-        (w : Walked s h q.asks begun e out₁) where
-      faulted : (r : Refusal) (a : Served) (out' : List ℕ) → e ≡ Fault r → Refusing r out₁ a out' → ServingFor q s out a out'
-      unfolding serving_for on_header unless on_ending
-      faulted r a out' f g =
-          let y : (read_parts h s).ending ≡ fault r = ended_fault _ (result s h q.asks) r (sym w.ends ∙ f) in
-          refusing r a out₁ out' (w.same ∙ lent) g (rw (read, sym judged ∙ legal, y))
+    -- The output zeroed, and the header copied to its front.
+    module _ (zeroed copied : List ℕ) (zeroes : zeroed ≡ replicate (length out) 0) (copies : copied ≡ sets zeroed 0 (take h.end (drop 0 s))) where
+      copied_is : copied ≡ sets (zeros (length out)) 0 (take h.end s)
+      copied_is = copies ∙ ap (λ (x : List ℕ). sets x 0 (take h.end s)) zeroes
 
-      roomless : (n t : ℕ) (a : Served) (out' : List ℕ) → e ≡ Whole n t → length out₁ < n → Refusing refusal.Room out₁ a out' → ServingFor q s out a out'
-      unfolding serving_for on_header unless on_ending portioned
-      roomless n t a out' f l g =
-          let y = ended_whole _ (result s h q.asks) n t (sym w.ends ∙ f) in
-          let m : length out < length (result s h q.asks) = omega (arith, lent, w.same, y.1) in
-          refusing refusal.Room a out₁ out' (w.same ∙ lent) g
-          (rw (read, sym judged ∙ legal, y.0, lt-leb (length (result s h q.asks)) (length out) m))
+      lent : length copied ≡ length out
+      lent = ap length copied_is ∙ length-sets (zeros (length out)) 0 (take h.end s) ∙ length-replicate (length out) 0
 
-      served : (n t : ℕ) → e ≡ Whole n t → n ≤ length out₁ → ServingFor q s out (record { verdict = Accepted; length = n; tail = t }) out₁
-      unfolding serving_for on_header unless on_ending portioned serve_answer serve_out
-      served n t f l =
-          let y = ended_whole _ (result s h q.asks) n t (sym w.ends ∙ f) in
-          let m : length (result s h q.asks) ≤ length out = omega (arith, lent, w.same, y.1) in
-          let v : serving_for q s (length out) ≡ accepted (record { bytes = result s h q.asks; tail = t })
-          = rw (read, sym judged ∙ legal, y.0, le-leb (length (result s h q.asks)) (length out) m) in
+      pub begun : Begun s h copied
+      begun =
           record {
-            answers = ap (λ (k : ℕ). record { verdict = Accepted; length = k; tail = t }) y.1 ∙ ap serve_answer (sym v);
-            writes =
-                w.holds t y.0 ∙ ap (λ (k : ℕ). clipped k (result s h q.asks)) lent
-                ∙ clipped_fits (length out) (result s h q.asks) m ∙ ap (serve_out (length out)) (sym v);
+            read = read;
+            copied =
+                copied_is ∙ ap (λ (x : List ℕ). sets x 0 (take h.end s)) (sym (clipped_nothing (length out)))
+                ∙ clipped_append (length out) [] (take h.end s) ∙ ap (λ (n : ℕ). clipped n (take h.end s)) (sym lent);
           }
 
-      pub finished : (a : Served) (out' : List ℕ) → Finished e out₁ a out' → ServingFor q s out a out'
-      finished a out' f = by e refl
-        where
-          by : (y : Ended) → e ≡ y → ServingFor q s out a out'
-          by (Fault r) c = faulted r a out' c (f.faulted r c)
-          by (Whole n t) c = room (dec_le n (length out₁))
-            where
-              room : Dec (n ≤ length out₁) → ServingFor q s out a out'
-              room (yes l) =
-                  let g = f.whole n t c l in
-                  subst₂ (λ (x : Served) (o : List ℕ). ServingFor q s out x o) (sym g.0) (sym g.1) (served n t c l)
-              room (no l) = roomless n t a out' c (omega arith) (f.roomless n t c (omega arith))
+      -- The walk has ended.
+      module _ (b : Bool) (asked : b ≡ legal_ask h level.0 plane.0) (legal_ask_lem : b ≡ true) (e : Ended) (out₁ : List ℕ)
+          (w : Walked s h level plane copied e out₁) where
+        pub faulted : (q : Refusal) (a : Served) (out' : List ℕ) → e ≡ Fault q → Refusing q out₁ a out' → Serving s level.0 plane.0 out a out'
+        unfolding serving on_header unless on_ending
+        faulted q a out' f g =
+            let y : (read_parts h s).ending ≡ fault q = ended_fault _ (result s h level plane) q (sym w.ends ∙ f) in
+            refusing q a out₁ out' (w.same ∙ lent) g (rw (read, sym asked ∙ legal_ask_lem, y))
 
--- The output zeroed, and the header copied to its front.
-module _ (s : List ℕ) (h : Header) (read : read_header s ≡ header.Header h) (out zeroed copied : List ℕ) (zeroes : zeroed ≡ replicate (length out) 0)
-    (copies : copied ≡ sets zeroed 0 (take h.end (drop 0 s))) where
-  copied_is : copied ≡ sets (zeros (length out)) 0 (take h.end s)
-  copied_is = copies ∙ ap (λ (x : List ℕ). sets x 0 (take h.end s)) zeroes
+        pub roomless : (n t : ℕ) (a : Served) (out' : List ℕ) → e ≡ Whole n t → length out₁ < n → Refusing refusal.Room out₁ a out'
+            → Serving s level.0 plane.0 out a out'
+        unfolding serving on_header unless on_ending portioned
+        roomless n t a out' f l g =
+            let y = ended_whole _ (result s h level plane) n t (sym w.ends ∙ f) in
+            let m : length out < length (result s h level plane) = omega (arith, lent, w.same, y.1) in
+            refusing refusal.Room a out₁ out' (w.same ∙ lent) g
+            (rw (read, sym asked ∙ legal_ask_lem, y.0, lt-leb (length (result s h level plane)) (length out) m))
 
-  pub lent : length copied ≡ length out
-  lent = ap length copied_is ∙ length-sets (zeros (length out)) 0 (take h.end s) ∙ length-replicate (length out) 0
-
-  pub begun : Begun s h copied
-  begun =
-      record {
-        read = read;
-        copied =
-            copied_is ∙ ap (λ (x : List ℕ). sets x 0 (take h.end s)) (sym (clipped_nothing (length out)))
-            ∙ clipped_append (length out) [] (take h.end s) ∙ ap (λ (n : ℕ). clipped n (take h.end s)) (sym lent);
-      }
-
--- How a walk ended decides what is answered.
-module _ (e : Ended) (out : List ℕ) where
-  pub finished_fault : (r : Refusal) → e ≡ Fault r → (a : Served) (out' : List ℕ) → Refusing r out a out' → Finished e out a out'
-  finished_fault r f a out' g =
-      record {
-        faulted = λ k c. let same : r ≡ k = fault_same (sym f ∙ c) in subst (λ (x : Refusal). Refusing x out a out') same g;
-        roomless = λ n t c l. absurd (let z : ◌≡◌ {A = ℕ} 0 1 = fault_whole (sym f ∙ c) in omega arith);
-        whole = λ n t c l. absurd (let z : ◌≡◌ {A = ℕ} 0 1 = fault_whole (sym f ∙ c) in omega arith);
-      }
-    where
-      fault_same : {k : Refusal} → Fault r ≡ Fault k → r ≡ k
-      fault_same c = cc
-
-      fault_whole : {n t : ℕ} → Fault r ≡ Whole n t → ◌≡◌ {A = ℕ} 0 1
-      fault_whole c = cc
-
-  module _ (n t : ℕ) (f : e ≡ Whole n t) where
-    whole_fault : {k : Refusal} → e ≡ Fault k → ◌≡◌ {A = ℕ} 0 1
-    whole_fault c = let x : Whole n t ≡ Fault _ = sym f ∙ c in cc
-
-    whole_same : {m u : ℕ} → e ≡ Whole m u → (n ≡ m) × (t ≡ u)
-    whole_same c = let x : Whole n t ≡ Whole _ _ = sym f ∙ c in (cc, cc)
-
-    pub finished_roomless : length out < n → (a : Served) (out' : List ℕ) → Refusing refusal.Room out a out' → Finished e out a out'
-    finished_roomless l a out' g =
-        record {
-          faulted = λ k c. absurd (let z : ◌≡◌ {A = ℕ} 0 1 = whole_fault c in omega arith);
-          roomless = λ m u c k. g;
-          whole = λ m u c k. absurd (omega (arith, (whole_same c).0));
-        }
-
-    pub finished_whole : n ≤ length out → Finished e out (record { verdict = Accepted; length = n; tail = t }) out
-    finished_whole l =
-        record {
-          faulted = λ k c. absurd (let z : ◌≡◌ {A = ℕ} 0 1 = whole_fault c in omega arith);
-          roomless = λ m u c k. absurd (omega (arith, (whole_same c).0));
-          whole = λ m u c k. let x = whole_same c in (ap₂ (λ (i j : ℕ). record { verdict = Accepted; length = i; tail = j }) x.0 x.1, refl);
-        }
-
--- The test of a plane for each level.
-pub wanted_plane : (p : Part) (planes : List ℕ) (n : ℕ) → n ≡ plane_for planes p.level.0 → leb n p.plane.0 ≡ stair planes (name_of p)
-unfolding stair name_of
-wanted_plane p planes n e = ap (λ (k : ℕ). leb k p.plane.0) e
-
-module _ (h : Header) (planes : List ℕ) (top : ℕ) (e : top ≡ levels h.size) where
-  pub planes_uncounted : length planes ≢ top → false ≡ legal_stair h planes
-  unfolding legal_stair
-  planes_uncounted n = sym (ap (λ b. b && every (λ p. leb p h.planes) planes) (ne_eqb (length planes) (top_level h) (λ m. n (m ∙ sym e))))
-
-  pub planes_judged : length planes ≡ top → (b : Bool) → b ≡ every (λ p. leb p h.planes) planes → b ≡ legal_stair h planes
-  unfolding legal_stair
-  planes_judged m b f = f ∙ sym (ap (λ c. c && every (λ p. leb p h.planes) planes) (eq-eqb (length planes) (top_level h) (m ∙ e)))
+        pub served : (n t : ℕ) → e ≡ Whole n t → n ≤ length out₁
+            → Serving s level.0 plane.0 out (record { verdict = Accepted; length = n; tail = t }) out₁
+        unfolding serving on_header unless on_ending portioned serve_answer serve_out
+        served n t f l =
+            let y = ended_whole _ (result s h level plane) n t (sym w.ends ∙ f) in
+            let m : length (result s h level plane) ≤ length out = omega (arith, lent, w.same, y.1) in
+            let v : serving s level.0 plane.0 (length out) ≡ accepted (record { bytes = result s h level plane; tail = t })
+            = rw (read, sym asked ∙ legal_ask_lem, y.0, le-leb (length (result s h level plane)) (length out) m) in
+            record {
+              answers = ap (λ (k : ℕ). record { verdict = Accepted; length = k; tail = t }) y.1 ∙ ap serve_answer (sym v);
+              writes =
+                  w.holds t y.0 ∙ ap (λ (k : ℕ). clipped k (result s h level plane)) lent
+                  ∙ clipped_fits (length out) (result s h level plane) m ∙ ap (serve_out (length out)) (sym v);
+            }

@@ -8,9 +8,9 @@ use native.Mathlib.Omega.{arith}
 use lib.ListN.{length, get_or, set, length-set, get_or-eq_default}
 use lib.Seq.{get_or-set_other, set_out}
 use Rattle.rules.specs.declared.Size.{Size}
-use Rattle.rules.specs.Document.Pyramid.{legal_size, depths, levels}
+use Rattle.rules.specs.Document.Pyramid.{legal_size, levels}
 use Rattle.rules.specs.Document.Calls.{work_for}
-use Rattle.rules.specs.Laws.Family.Sizes.{level_start, level_size, level_end, depth_start, depth_size, legal, area_bound, size_of_end, depth_size_end}
+use Rattle.rules.specs.Laws.Family.Sizes.{level_start, level_size, level_end, legal, area_bound, level_size_end}
 use Rattle.stretches.specs.Seg.{seg, seg_set}
 use Rattle.stretches.specs.Levels.{level_ends}
 use Rattle.stretches.specs.Cut.{maxima_from, values_in, maxima_in, ValueSet, SetOr, MaximumSet, maxima_length, maxima_at}
@@ -70,20 +70,10 @@ maximum_kept n s i v h l =
 -- no level ends behind the pyramid
 module _ (z : Size) (k : ℕ) (e : legal_size z ≡ true) (h : 1 ≤ k) (l : k ≤ levels z) where
   pub stretch_ends : level_start z k + level_size z k ≡ level_end z k
-  stretch_ends = let Z = legal z e in size_of_end z Z (levels z) Z.some_levels Z.few_levels k h l
+  stretch_ends = level_size_end z (legal z e) k h l
 
   pub stretch_inside : 4 * level_end z k ≤ work_for z
-  stretch_inside = let Z = legal z e in omega (arith, level_ends z Z (levels z) Z.some_levels Z.few_levels k h l)
+  stretch_inside = omega (arith, level_ends z (legal z e) k h l)
 
   pub stretch_small : 4 * level_end z k < 2 ^ 32
-  stretch_small = omega (arith, stretch_inside, area_bound z e)
-
-module _ (z : Size) (k : ℕ) (e : legal_size z ≡ true) (h : 1 ≤ k) (l : k ≤ depths z) where
-  pub depth_ends : depth_start z k + depth_size z k ≡ level_end z k
-  depth_ends = depth_size_end z (legal z e) k h l
-
-  pub depth_inside : 4 * level_end z k ≤ work_for z
-  depth_inside = omega (arith, level_ends z (legal z e) (depths z) (omega arith) (omega arith) k h l)
-
-  pub depth_small : 4 * level_end z k < 2 ^ 32
-  depth_small = omega (arith, depth_inside, area_bound z e)
+  stretch_small = omega (arith, level_ends z (legal z e) k h l, area_bound z e)

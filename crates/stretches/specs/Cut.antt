@@ -11,8 +11,7 @@
 use Rattle.std.specs.Prelude.{◌≡◌, Bool, true, false, List, ℕ, ◌+◌, ◌*◌, ◌/◌, ◌%◌, ◌≤◌, ◌<◌, length, get_or, set}
 use Rattle.std.proofs.Common.{ap, ◌∙◌, zero-add, arith}
 use Rattle.rules.specs.declared.Size.{Size}
-use Rattle.rules.specs.Document.Pyramid.{levels}
-use Rattle.rules.specs.Laws.Family.Sizes.{start_of, size_of}
+use Rattle.rules.specs.Laws.Family.Sizes.{level_start, level_size}
 use Rattle.stretches.specs.Seg.{seg, seg_length, seg_at, seg_same}
 
 unfoldable pub set_room : ℕ → ℕ
@@ -44,13 +43,9 @@ largest_d m = m % 32
 unfoldable pub largest_l : ℕ → ℕ
 largest_l m = m / 32
 
--- The stretch of level k where the levels from t on are one: four numbers for each of its coefficients, the levels one after another, coarsest first.
-unfoldable pub stretch_at : Size → ℕ → ℕ → List ℕ → List ℕ
-stretch_at z t k work = seg (4 * start_of z t k) (4 * size_of z t k) work
-
--- for the levels of parts, and with no levels made one
-abbrev pub stretch_of : Size → ℕ → List ℕ → List ℕ
-stretch_of z k work = stretch_at z (levels z) k work
+-- The stretch of level k: four numbers for each of its coefficients, the levels one after another, coarsest first.
+unfoldable pub stretch_of : Size → ℕ → List ℕ → List ℕ
+stretch_of z k work = seg (4 * level_start z k) (4 * level_size z k) work
 
 -- A value was set; all else is as it was.
 pub record ValueSet (n : ℕ) (s : List ℕ) (i v : ℕ) (s' : List ℕ) : Type 0 where

@@ -3,154 +3,145 @@
 --   words_from z k     where the words of level k begin: that of its coefficient t is t places on
 --   blocks_from z k    where its maxima begin: that of block b is b places on
 use Rattle.std.specs.Prelude.{◌≡◌, refl, List, ◌++◌, length, take}
-use Rattle.std.proofs.Common.{sym, ◌∙◌, arith, take_at, drop_at, length-take-le, get_or-take, get_or-drop}
+use Rattle.std.proofs.Common.{sym, ◌∙◌, subst, take_at, drop_at, length-take-le, get_or-take, get_or-drop}
 use Rattle.std.proofs.Math.Path.{ap}
-use Prim.Native.Nat.{ℕ, zero, suc, ◌+◌, ◌-◌, ◌*◌, ◌/◌, ◌≤◌, ◌<◌, min}
-use Rattle.std.proofs.Math.Decide.{dec_lt}
+use Prim.Native.Nat.{ℕ, zero, suc, ◌+◌, ◌-◌, ◌*◌, ◌/◌, ◌≤◌, ◌<◌}
+use native.Mathlib.Omega.{arith}
+use Rattle.std.proofs.Math.Decide.{dec_le}
 use Rattle.std.proofs.Math.ListN.{get_or}
 use borrow.Rule.Slice.PartMut.{post_of, put_mid, take_put, drop_put}
 use Rattle.rules.specs.declared.Size.{Size}
-use Rattle.rules.specs.Document.Pyramid.{area, depths}
+use Rattle.rules.specs.Document.Pyramid.{area, levels}
 use Rattle.rules.specs.Document.Calls.{work_for}
 use Rattle.rules.specs.Promises.Vocabulary.{Legal}
-use Rattle.rules.specs.Laws.Family.Sizes.{span, start_of, level_end, size_of, size_of_end, size_of_fine, size_of_top, level_end_next, level_end_start, start_of_fine}
-use Rattle.rules.specs.Laws.Family.Sizes.{start_of_top, span_whole, span_some, span_most, span_quarter}
-use Rattle.trees.specs.Family.{tree_level, span_falls}
-use Rattle.trees.specs.Members.{over_span, span_over}
+use Rattle.rules.specs.Laws.Family.Sizes.{span, level_start, level_end, level_size, level_size_end, level_end_next, level_end_start, level_start_fine}
+use Rattle.rules.specs.Laws.Family.Sizes.{level_start_top, span_some, span_most, level_size_fine, level_size_top, span_quarter}
+use Rattle.trees.specs.Family.{tree_level, Lies, lies, level_at_lem, span_falls}
 use Rattle.stretches.specs.Seg.{seg, seg_at, seg_length}
-use Rattle.stretches.specs.Cut.{maxima_from, stretch_at, maxima_at}
-use Rattle.stretches.specs.Workspace.{word_of, maximum_of}
+use Rattle.stretches.specs.Cut.{maxima_from, stretch_of, maxima_at}
+use Rattle.stretches.specs.Workspace.{word_in, maximum_in}
 
-abbrev pub words_from : Size → ℕ → ℕ → ℕ
-words_from z t k = 4 * start_of z t k
+abbrev pub words_from : Size → ℕ → ℕ
+words_from z k = 4 * level_start z k
 
-unfoldable pub blocks_from : Size → ℕ → ℕ → ℕ
-blocks_from z t k = 4 * start_of z t k + maxima_from (size_of z t k)
+unfoldable pub blocks_from : Size → ℕ → ℕ
+blocks_from z k = 4 * level_start z k + maxima_from (level_size z k)
 
--- where the levels from t on are one
-module _ (z : Size) (Z : Legal z) (t : ℕ) (T : 1 ≤ t) (few : t ≤ depths z) where
-  pub level_ends : (k : ℕ) → 1 ≤ k → k ≤ t → level_end z k ≤ area z
+module _ (z : Size) (Z : Legal z) where
+  pub level_ends : (k : ℕ) → 1 ≤ k → k ≤ levels z → level_end z k ≤ area z
   level_ends zero a b = absurd (omega arith)
   level_ends (suc k) a b = omega (arith, level_end_next z k, span_most z Z k (omega arith))
 
   -- the next finer level has four times as many and begins where the level ends; a coarser level ends before a finer one begins
-  pub next_size : (k : ℕ) → 2 ≤ k → k < t → size_of z t (k - 1) ≡ 4 * size_of z t k
+  pub next_size : (k : ℕ) → 2 ≤ k → k ≤ z.n → level_size z (k - 1) ≡ 4 * level_size z k
   next_size k a b =
       let i : suc (k - 1) ≡ k = omega arith in
       let q : span z (k - 1) ≡ 4 * span z k = span_quarter z Z (k - 1) (omega arith) ∙ ap (λ (j : ℕ). 4 * span z j) i in
-      omega (arith, size_of_fine z Z t T few (k - 1) (omega arith) (omega arith), size_of_fine z Z t T few k (omega arith) b)
+      omega (arith, level_size_fine z Z (k - 1) (omega arith) (omega arith), level_size_fine z Z k (omega arith) b)
 
-  pub next_start : (k : ℕ) → 2 ≤ k → k ≤ t → start_of z t (k - 1) ≡ start_of z t k + size_of z t k
+  pub next_start : (k : ℕ) → 2 ≤ k → k ≤ levels z → level_start z (k - 1) ≡ level_start z k + level_size z k
   next_start k a b =
       let i : suc (k - 1) ≡ k = omega arith in
-      sym (level_end_start z t (k - 1) (omega arith)) ∙ ap (level_end z) i ∙ sym (size_of_end z Z t T few k (omega arith) b)
+      sym (level_end_start z (k - 1) (omega arith)) ∙ ap (level_end z) i ∙ sym (level_size_end z Z k (omega arith) b)
 
-  pub level_before : (j k : ℕ) → 1 ≤ k → k < j → j ≤ t → start_of z t j + size_of z t j ≤ start_of z t k
+  pub level_before : (j k : ℕ) → 1 ≤ k → k < j → j ≤ levels z → level_start z j + level_size z j ≤ level_start z k
   level_before zero k a h b = absurd (omega arith)
   level_before (suc j) k a h b =
-      omega (arith, size_of_end z Z t T few (suc j) (omega arith) b, level_end_next z j, start_of_fine z t k (omega arith), span_falls z k j (omega arith))
+      omega (arith, level_size_end z Z (suc j) (omega arith) b, level_end_next z j, level_start_fine z k (omega arith), span_falls z k j (omega arith))
 
-  pub stretch_room : (k : ℕ) → 1 ≤ k → k ≤ t → 4 * start_of z t k + 4 * size_of z t k ≤ work_for z
-  stretch_room k a b = omega (arith, size_of_end z Z t T few k a b, level_ends k a b)
+  pub stretch_room : (k : ℕ) → 1 ≤ k → k ≤ levels z → 4 * level_start z k + 4 * level_size z k ≤ work_for z
+  stretch_room k a b = omega (arith, level_size_end z Z k a b, level_ends k a b)
 
   -- a level has blocks, and they are whole
-  level_fours : (k : ℕ) → 1 ≤ k → k ≤ t → (m : ℕ) × (1 ≤ m) × (size_of z t k ≡ 4 * m)
-  level_fours k a b = go (dec_lt k t)
+  level_fours : (k : ℕ) → 1 ≤ k → k ≤ levels z → (m : ℕ) × (1 ≤ m) × (level_size z k ≡ 4 * m)
+  level_fours k a b = go (dec_le k z.n)
     where
-      go : Dec (k < t) → (m : ℕ) × (1 ≤ m) × (size_of z t k ≡ 4 * m)
+      go : Dec (k ≤ z.n) → (m : ℕ) × (1 ≤ m) × (level_size z k ≡ 4 * m)
       go (yes l) =
           let s : 1 ≤ span z (suc k) = span_some z Z (suc k) (omega arith) in
-          (3 * span z (suc k), omega arith, omega (arith, size_of_fine z Z t T few k a l, span_quarter z Z k (omega arith)))
+          (3 * span z (suc k), omega arith, omega (arith, level_size_fine z Z k a l, span_quarter z Z k l))
       go (no l) =
-          let e : k ≡ t = omega arith in
-          let i : suc (t - 1) ≡ t = omega arith in
-          let q : span z (t - 1) ≡ 4 * span z t = span_quarter z Z (t - 1) (omega arith) ∙ ap (λ (j : ℕ). 4 * span z j) i in
-          (span z t, span_some z Z t few, rw e (size_of_top z Z t T few ∙ q))
+          let e : k ≡ levels z = omega arith in
+          (span z (levels z), span_some z Z (levels z) (omega arith), rw e (level_size_top z Z ∙ span_quarter z Z z.n (omega arith)))
 
-  pub size_some : (k : ℕ) → 1 ≤ k → k ≤ t → 1 ≤ size_of z t k
+  pub size_some : (k : ℕ) → 1 ≤ k → k ≤ levels z → 1 ≤ level_size z k
   size_some k a b = let f = level_fours k a b in omega (arith, f.1, f.2)
 
-  pub level_blocks : (k : ℕ) → 1 ≤ k → k ≤ t → 4 * (size_of z t k / 4) ≡ size_of z t k
+  pub level_blocks : (k : ℕ) → 1 ≤ k → k ≤ levels z → 4 * (level_size z k / 4) ≡ level_size z k
   level_blocks k a b = let f = level_fours k a b in omega (arith, f.2)
 
   -- the tree numbers of a level, and that every one is in its level
-  pub place_level : (k x : ℕ) → 1 ≤ k → k ≤ t → start_of z t k ≤ x → x < start_of z t k + size_of z t k → min (tree_level z x) t ≡ k
+  pub place_level : (k x : ℕ) → 1 ≤ k → k ≤ levels z → level_start z k ≤ x → x < level_start z k + level_size z k → tree_level z x ≡ k
   place_level zero x a b h l = absurd (omega arith)
-  place_level (suc k) x a b h l = by (dec_lt (suc k) t)
-    where
-      over : k < tree_level z x
-      over = span_over z Z k x (omega arith) (omega (arith, size_of_end z Z t T few (suc k) a b, level_end_next z k))
+  place_level (suc k) x a b h l =
+      level_at_lem z k x (omega arith) (omega (arith, level_size_end z Z (suc k) a b, level_end_next z k)) (λ m. omega (arith, level_start_fine z (suc k) m))
 
-      by : Dec (suc k < t) → min (tree_level z x) t ≡ suc k
-      by (no i) = omega (arith, over)
-      by (yes i) = at (dec_lt (suc k) (tree_level z x))
-        where
-          at : Dec (suc k < tree_level z x) → min (tree_level z x) t ≡ suc k
-          at (yes o) = absurd (omega (arith, over_span z Z (suc k) x (omega arith) o, start_of_fine z t (suc k) i))
-          at (no o) = omega (arith, over)
-
-  pub level_place : (k x : ℕ) → min (tree_level z x) t ≡ k → 1 ≤ k → (k ≤ t) × (start_of z t k ≤ x) × (x < start_of z t k + size_of z t k)
+  pub level_place : (k x : ℕ) → tree_level z x ≡ k → 1 ≤ k → (k ≤ levels z) × (level_start z k ≤ x) × (x < level_start z k + level_size z k)
+  unfolding Lies
   level_place zero x e a = absurd (omega arith)
-  level_place (suc k) x e a =
-      let u : x < span z k = over_span z Z k x (omega arith) (omega arith) in
-      (omega arith, first (dec_lt (suc k) t), omega (arith, u, size_of_end z Z t T few (suc k) a (omega arith), level_end_next z k))
+  level_place (suc k) x e a = by (subst (λ (j : ℕ). Lies z j x) e (lies z x)) (dec_le (suc k) z.n)
     where
-      first : Dec (suc k < t) → start_of z t (suc k) ≤ x
-      first (no m) = let i : suc k ≡ t = omega arith in omega (arith, ap (start_of z t) i, start_of_top z t)
-      first (yes m) = under (dec_lt x (span z (suc k)))
+      by : Lies z (suc k) x → Dec (suc k ≤ z.n)
+          → (suc k ≤ levels z) × (level_start z (suc k) ≤ x) × (x < level_start z (suc k) + level_size z (suc k))
+      by l d = (omega (arith, l.2), first d, omega (arith, l.0, level_size_end z Z (suc k) a (omega (arith, l.2)), level_end_next z k))
         where
-          under : Dec (x < span z (suc k)) → start_of z t (suc k) ≤ x
-          under (yes h) = absurd (omega (arith, span_over z Z (suc k) x (omega arith) h))
-          under (no h) = omega (arith, start_of_fine z t (suc k) m)
+          first : Dec (suc k ≤ z.n) → level_start z (suc k) ≤ x
+          first (yes m) = omega (arith, level_start_fine z (suc k) m, l.1 m)
+          first (no m) = let i : suc k ≡ levels z = omega (arith, l.2) in omega (arith, ap (level_start z) i, level_start_top z)
 
-  pub level_some : (x : ℕ) → x < area z → 1 ≤ min (tree_level z x) t
-  level_some x h = omega (arith, span_over z Z 0 x (omega arith) (omega (arith, span_whole z)))
+  pub level_some : (x : ℕ) → x < area z → 1 ≤ tree_level z x
+  unfolding Lies
+  level_some x h = by (tree_level z x) (lies z x)
+    where
+      by : (k : ℕ) → Lies z k x → 1 ≤ k
+      by zero l = absurd (omega arith)
+      by (suc k) l = omega arith
 
   pub record Numbered (x : ℕ) : Type 0 where
-    pub some : 1 ≤ min (tree_level z x) t
-    pub most : min (tree_level z x) t ≤ t
-    pub from : start_of z t (min (tree_level z x) t) ≤ x
-    pub under : x - start_of z t (min (tree_level z x) t) < size_of z t (min (tree_level z x) t)
+    pub some : 1 ≤ tree_level z x
+    pub most : tree_level z x ≤ levels z
+    pub from : level_start z (tree_level z x) ≤ x
+    pub under : x - level_start z (tree_level z x) < level_size z (tree_level z x)
 
   pub numbered : (x : ℕ) → x < area z → Numbered x
   numbered x h =
-      let p = level_place (min (tree_level z x) t) x refl (level_some x h) in
+      let p = level_place (tree_level z x) x refl (level_some x h) in
       record { some = level_some x h; most = p.0; from = p.1; under = omega (arith, p.1, p.2) }
 
   -- a level's stretch
-  pub stretch_at_lem : (work : List ℕ) (k i : ℕ) → i < 4 * size_of z t k → get_or (stretch_at z t k work) i 0 ≡ get_or work (4 * start_of z t k + i) 0
-  unfolding stretch_at
-  stretch_at_lem work k i h = seg_at (4 * start_of z t k) (4 * size_of z t k) work i h
+  pub stretch_at : (work : List ℕ) (k i : ℕ) → i < 4 * level_size z k → get_or (stretch_of z k work) i 0 ≡ get_or work (4 * level_start z k + i) 0
+  unfolding stretch_of
+  stretch_at work k i h = seg_at (4 * level_start z k) (4 * level_size z k) work i h
 
-  pub stretch_length : (work : List ℕ) (k : ℕ) → 1 ≤ k → k ≤ t → work_for z ≤ length work → length (stretch_at z t k work) ≡ 4 * size_of z t k
-  unfolding stretch_at
-  stretch_length work k a b h = seg_length (4 * start_of z t k) (4 * size_of z t k) work (omega (arith, stretch_room k a b))
+  pub stretch_length : (work : List ℕ) (k : ℕ) → 1 ≤ k → k ≤ levels z → work_for z ≤ length work → length (stretch_of z k work) ≡ 4 * level_size z k
+  unfolding stretch_of
+  stretch_length work k a b h = seg_length (4 * level_start z k) (4 * level_size z k) work (omega (arith, stretch_room k a b))
 
   -- The words and the maxima of a level, by their places in the workspace and in its stretch.
-  pub word_level : (work : List ℕ) (k x : ℕ) → min (tree_level z x) t ≡ k → 1 ≤ k → word_of z t work x ≡ get_or work (words_from z t k + (x - start_of z t k)) 0
-  unfolding word_of
+  pub word_level : (work : List ℕ) (k x : ℕ) → tree_level z x ≡ k → 1 ≤ k → word_in z work x ≡ get_or work (words_from z k + (x - level_start z k)) 0
+  unfolding word_in
   word_level work k x e a =
-      ap (λ (j : ℕ). get_or work (3 * start_of z t j + x) 0) e ∙ ap (λ (p : ℕ). get_or work p 0) (omega (arith, (level_place k x e a).1))
+      ap (λ (j : ℕ). get_or work (3 * level_start z j + x) 0) e ∙ ap (λ (p : ℕ). get_or work p 0) (omega (arith, (level_place k x e a).1))
 
-  pub word_place_lem : (work : List ℕ) (k u : ℕ) → 1 ≤ k → k ≤ t → u < size_of z t k → word_of z t work (start_of z t k + u) ≡ get_or work (words_from z t k + u) 0
-  word_place_lem work k u a b h =
-      word_level work k (start_of z t k + u) (place_level k (start_of z t k + u) a b (omega arith) (omega arith)) a
-      ∙ ap (λ (i : ℕ). get_or work (words_from z t k + i) 0) (omega arith)
+  pub word_place_lem : (work : List ℕ) (k t : ℕ) → 1 ≤ k → k ≤ levels z → t < level_size z k → word_in z work (level_start z k + t) ≡ get_or work (words_from z k + t) 0
+  word_place_lem work k t a b h =
+      word_level work k (level_start z k + t) (place_level k (level_start z k + t) a b (omega arith) (omega arith)) a
+      ∙ ap (λ (i : ℕ). get_or work (words_from z k + i) 0) (omega arith)
 
   pub word_numbered : (work : List ℕ) (x : ℕ) → x < area z
-      → word_of z t work x ≡ get_or work (words_from z t (min (tree_level z x) t) + (x - start_of z t (min (tree_level z x) t))) 0
-  word_numbered work x h = word_level work (min (tree_level z x) t) x refl (level_some x h)
+      → word_in z work x ≡ get_or work (words_from z (tree_level z x) + (x - level_start z (tree_level z x))) 0
+  word_numbered work x h = word_level work (tree_level z x) x refl (level_some x h)
 
-  pub word_in_lem : (work : List ℕ) (k x : ℕ) → min (tree_level z x) t ≡ k → 1 ≤ k → word_of z t work x ≡ get_or (stretch_at z t k work) (x - start_of z t k) 0
+  pub word_in_lem : (work : List ℕ) (k x : ℕ) → tree_level z x ≡ k → 1 ≤ k → word_in z work x ≡ get_or (stretch_of z k work) (x - level_start z k) 0
   word_in_lem work k x e a =
       let p = level_place k x e a in
-      word_level work k x e a ∙ sym (stretch_at_lem work k (x - start_of z t k) (omega (arith, p.1, p.2)))
+      word_level work k x e a ∙ sym (stretch_at work k (x - level_start z k) (omega (arith, p.1, p.2)))
 
-  pub maximum_place : (work : List ℕ) (k i : ℕ) → i < size_of z t k / 4 → maximum_of z t work k i ≡ get_or work (blocks_from z t k + i) 0
-  unfolding maximum_of blocks_from maxima_from
+  pub maximum_place : (work : List ℕ) (k i : ℕ) → i < level_size z k / 4 → maximum_in z work k i ≡ get_or work (blocks_from z k + i) 0
+  unfolding maximum_in blocks_from maxima_from
   maximum_place work k i h =
-      let n : ℕ = size_of z t k in
-      maxima_at n (stretch_at z t k work) i h ∙ stretch_at_lem work k (n + n + n + 3 * n / 4 + i) (omega arith) ∙ ap (λ (p : ℕ). get_or work p 0) (omega arith)
+      let n : ℕ = level_size z k in
+      maxima_at n (stretch_of z k work) i h ∙ stretch_at work k (n + n + n + 3 * n / 4 + i) (omega arith) ∙ ap (λ (p : ℕ). get_or work p 0) (omega arith)
 
 -- a part that was lent and came back: itself, and what lies before and behind it
 pub put_own : (a e : ℕ) (s ys : List ℕ) → a ≤ length s → length ys ≡ e - a → seg a (e - a) (put_mid a (e - a) s ys) ≡ ys

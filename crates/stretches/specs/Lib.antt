@@ -2,4 +2,3 @@ pub mod Seg
 pub mod Cut
 pub mod Workspace
 pub mod Levels
-pub mod Depths

@@ -1,12 +1,11 @@
 // A level's stretch of the workspace: where it lies, and what stands in it beside the lists: the level's values as words, and the maxima of sets.
 ghost use Rattle.std.specs.Prelude.{◌≡◌, true, cond, ◌+◌, ◌*◌, ◌^◌, ◌≤◌, ◌<◌, length, get_or};
-ghost use Rattle.rules.specs.Document.Pyramid.{legal_size, depths, levels};
+ghost use Rattle.rules.specs.Document.Pyramid.{legal_size, levels};
 ghost use Rattle.rules.specs.Document.Calls.{work_for};
-ghost use Rattle.rules.specs.Laws.Family.Sizes.{level_start, level_size, depth_start, depth_size};
+ghost use Rattle.rules.specs.Laws.Family.Sizes.{level_start, level_size};
 ghost use Rattle.stretches.specs.Cut.{maxima_from, values_in, maxima_in, ValueSet, SetOr, MaximumSet};
 
 use rules::{Level, Size};
-use shape::Depth;
 
 // Where a level's stretch begins and where it ends.
 pub fn stretch_from(z: Size, k: Level) -> usize
@@ -21,21 +20,6 @@ pub fn stretch_to(z: Size, k: Level) -> usize
     ensures { (result ≡ 4 * level_start z k.0 + 4 * level_size z k.0) × (result ≤ work_for z) × (result < 2 ^ 32) }
 {
     4 * shape::level_end(z, k)
-}
-
-// The same of one depth, where no levels are made one.
-pub fn depth_from(z: Size, k: Depth) -> usize
-    requires { (legal_size z ≡ true) × (1 ≤ k.0) × (k.0 ≤ depths z) }
-    ensures { (result ≡ 4 * depth_start z k.0) × (result + 4 * depth_size z k.0 ≤ work_for z) × (result < 2 ^ 32) }
-{
-    4 * shape::depth_start(z, k)
-}
-
-pub fn depth_to(z: Size, k: Depth) -> usize
-    requires { (legal_size z ≡ true) × (1 ≤ k.0) × (k.0 ≤ depths z) }
-    ensures { (result ≡ 4 * depth_start z k.0 + 4 * depth_size z k.0) × (result ≤ work_for z) × (result < 2 ^ 32) }
-{
-    4 * shape::depth_end(z, k)
 }
 
 // The i-th value of a stretch for n coefficients.

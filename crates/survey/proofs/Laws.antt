@@ -1,8 +1,8 @@
 -- The walk of a survey: it counts the parts that it came past.
-use mathlib.Core.Path.{◌≡◌, ap, ap₂, sym, ◌∙◌}
+use mathlib.Core.Path.{◌≡◌, ap, sym, ◌∙◌}
 use mathlib.Core.List.{List, [], ◌∷◌, ◌++◌}
 use mathlib.Core.Bool.{true}
-use Prim.Native.Nat.{ℕ, ◌+◌, ◌-◌, ◌^◌, ◌<◌}
+use Prim.Native.Nat.{ℕ, ◌+◌, ◌-◌}
 use native.Mathlib.Omega.{arith}
 use lib.ListN.{length, length-append}
 use Rattle.rules.specs.declared.Refusal.{Refusal}
@@ -14,8 +14,7 @@ use Rattle.rules.specs.declared.Part.{Part}
 use Rattle.rules.specs.declared.PartRead.{PartRead}
 use Rattle.rules.specs.declared.PartRead.TheVariants as part
 use Rattle.rules.specs.Document.Pyramid.{legal_size}
-use Rattle.rules.specs.Document.Numbers.{top_level, read_header, read_parts}
-use Rattle.rules.specs.Laws.Family.Sizes.{legal}
+use Rattle.rules.specs.Document.Numbers.{read_header, read_parts}
 use Rattle.record.specs.declared.walk.Cursor.{Cursor}
 use Rattle.record.specs.Walk.{first_of, next_of, past_of, Stands, stands_first, stands_legal, Short, stands_past, stands_short, stands_fault}
 use Rattle.survey.specs.declared.Survey.{Survey}
@@ -33,9 +32,6 @@ module _ (s : List ℕ) (h : Header) (c : Cursor) (parts : ℕ) (v : Surveying s
   pub surveying_legal : legal_size h.size ≡ true
   surveying_legal = stands_legal h s c v.seen v.stands
 
-  pub surveying_few : h.size.n < 2 ^ 32
-  surveying_few = omega (arith, (legal h.size surveying_legal).few)
-
   module _ (found : PartRead) (e : found ≡ next_of h s c) where
     pub surveying_past : (p : Part) (d : Cursor) → found ≡ part.Part p → d ≡ past_of p → Surveying s h d (parts + 1)
     surveying_past p d f g =
@@ -46,10 +42,10 @@ module _ (s : List ℕ) (h : Header) (c : Cursor) (parts : ℕ) (v : Surveying s
           counts = omega (arith, one, v.counts);
         }
 
-    pub surveying_whole : (top : ℕ) → top ≡ top_level h → Short found
-        → record { verdict = Accepted; header = h; parts = parts; tail = length s - c.place; levels = top } ≡ walked_with h (read_parts h s)
-    surveying_whole top t f =
-        ap₂ (λ (n k : ℕ). record { verdict = Accepted; header = h; parts = n; tail = length s - c.place; levels = k }) v.counts t
+    pub surveying_whole : Short found
+        → record { verdict = Accepted; header = h; parts = parts; tail = length s - c.place } ≡ walked_with h (read_parts h s)
+    surveying_whole f =
+        ap (λ (n : ℕ). record { verdict = Accepted; header = h; parts = n; tail = length s - c.place }) v.counts
         ∙ ap (walked_with h) (sym (stands_short h s c found e v.seen v.stands f))
 
     pub surveying_fault : (q : Refusal) (a : Survey) → found ≡ part.Refused q → a ≡ refused_with q → a ≡ walked_with h (read_parts h s)

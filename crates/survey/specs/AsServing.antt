@@ -13,10 +13,8 @@ use Rattle.rules.specs.declared.HeaderRead.TheVariants as header
 use Rattle.rules.specs.declared.Part.{Part}
 use Rattle.rules.specs.declared.PartRead.{PartRead}
 use Rattle.rules.specs.declared.PartRead.TheVariants as part
-use Rattle.rules.specs.Document.Numbers.{Ending, tail, fault, top_level, read_header, read_parts}
+use Rattle.rules.specs.Document.Numbers.{Ending, tail, fault, read_header, read_parts}
 use Rattle.rules.specs.Document.Calls.{Result, refused, unless, on_header, on_ending, Portion, portioned, serving, serve_answer, Serving}
-use Rattle.rules.specs.Laws.Family.Sizes.{legal}
-use Rattle.rules.specs.Laws.Reading.Stands.{read_header_stands, header_legal}
 use Rattle.rules.specs.Laws.Serving.Served.{asks_all, serving_all}
 use Rattle.record.specs.declared.walk.Cursor.{Cursor}
 use Rattle.record.specs.Walk.{past_of, next_falls}
@@ -37,7 +35,7 @@ pub record Alike (found : Survey) (answer : Served) : Type 0 where
 pub survey_of_case : (P : Survey → Type 0) (s : List ℕ) → ((r : Refusal) → read_header s ≡ header.Refused r → P (refused_with r))
     → ((h : Header) (r : Refusal) → read_header s ≡ header.Header h → (read_parts h s).ending ≡ fault r → P (refused_with r))
     → ((h : Header) (t : ℕ) → read_header s ≡ header.Header h → (read_parts h s).ending ≡ tail t
-    → P (record { verdict = Accepted; header = h; parts = length (read_parts h s).parts; tail = t; levels = top_level h }))
+    → P (record { verdict = Accepted; header = h; parts = length (read_parts h s).parts; tail = t }))
     → P (survey_of s)
 unfolding survey_of
 survey_of_case P s headless faulty whole = headed (read_header s) refl
@@ -54,11 +52,8 @@ survey_of_case P s headless faulty whole = headed (read_header s) refl
 pub serving_surveyed : (s : List ℕ) (room : ℕ) → serving s 1 0 room ≡ whole_by s (survey_of s).tail room (survey_of s).verdict
 unfolding whole_by serving on_header on_ending unless
 serving_surveyed s room =
-    survey_of_case (λ a. serving s 1 0 room ≡ whole_by s a.tail room a.verdict) s (λ r f. rw f) (λ h r f g. rw (f, asks_all h (some_level h f), g))
+    survey_of_case (λ a. serving s 1 0 room ≡ whole_by s a.tail room a.verdict) s (λ r f. rw f) (λ h r f g. rw (f, asks_all h, g))
     (λ h t f g. serving_all s h t room f g)
-  where
-    some_level : (h : Header) → read_header s ≡ header.Header h → 1 ≤ top_level h
-    some_level h f = (legal h.size (header_legal (read_header_stands s h f))).some_levels
 
 -- With room for the record a survey says what serving it whole says.
 pub survey_as_serving : {s out out' : List ℕ} {answer : Served} → Serving s 1 0 out answer out' → length s ≤ length out → Alike (survey_of s) answer

@@ -46,17 +46,15 @@ survey_lends s work e l =
     let z = (survey_of s).header.size in
     rw (survey_header s e, eq-eqb (area z) (area z) refl, le-leb (work_for z) work l)
 
--- The document's record: in full; part (1,2) lost; its first 29 bytes; its first 4. An all zero pyramid's, in version 1 and with one level in
--- version 2. A version that is neither 1 nor 2.
+-- The document's record: in full; part (1,2) lost; its first 29 bytes; its first 4. An all zero pyramid's. A version that is not 1.
 pub surveyed_cases : map (λ s. survey_numbers (survey_of s))
-    (thirty ∷ without12 ∷ take 29 thirty ∷ take 4 thirty ∷ (1 ∷ 4 ∷ 4 ∷ 1 ∷ 0 ∷ []) ∷ (2 ∷ 4 ∷ 4 ∷ 1 ∷ 0 ∷ 1 ∷ []) ∷ (3 ∷ 4 ∷ 4 ∷ 1 ∷ 0 ∷ []) ∷ [])
-    ≡ (0 ∷ 0 ∷ 4 ∷ 4 ∷ 1 ∷ 3 ∷ 6 ∷ 0 ∷ 2 ∷ [])
-    ∷ (0 ∷ 0 ∷ 4 ∷ 4 ∷ 1 ∷ 3 ∷ 5 ∷ 0 ∷ 2 ∷ [])
-    ∷ (0 ∷ 0 ∷ 4 ∷ 4 ∷ 1 ∷ 3 ∷ 5 ∷ 4 ∷ 2 ∷ [])
-    ∷ (6 ∷ 4 ∷ 0 ∷ 0 ∷ 0 ∷ 0 ∷ 0 ∷ 0 ∷ 0 ∷ [])
-    ∷ (0 ∷ 0 ∷ 4 ∷ 4 ∷ 1 ∷ 0 ∷ 0 ∷ 0 ∷ 2 ∷ [])
-    ∷ (0 ∷ 0 ∷ 4 ∷ 4 ∷ 1 ∷ 0 ∷ 0 ∷ 0 ∷ 1 ∷ [])
-    ∷ (7 ∷ 0 ∷ 0 ∷ 0 ∷ 0 ∷ 0 ∷ 0 ∷ 0 ∷ 0 ∷ [])
+    (thirty ∷ without12 ∷ take 29 thirty ∷ take 4 thirty ∷ (1 ∷ 4 ∷ 4 ∷ 1 ∷ 0 ∷ []) ∷ (2 ∷ 4 ∷ 4 ∷ 1 ∷ 0 ∷ []) ∷ [])
+    ≡ (0 ∷ 0 ∷ 4 ∷ 4 ∷ 1 ∷ 3 ∷ 6 ∷ 0 ∷ [])
+    ∷ (0 ∷ 0 ∷ 4 ∷ 4 ∷ 1 ∷ 3 ∷ 5 ∷ 0 ∷ [])
+    ∷ (0 ∷ 0 ∷ 4 ∷ 4 ∷ 1 ∷ 3 ∷ 5 ∷ 4 ∷ [])
+    ∷ (6 ∷ 4 ∷ 0 ∷ 0 ∷ 0 ∷ 0 ∷ 0 ∷ 0 ∷ [])
+    ∷ (0 ∷ 0 ∷ 4 ∷ 4 ∷ 1 ∷ 0 ∷ 0 ∷ 0 ∷ [])
+    ∷ (7 ∷ 0 ∷ 0 ∷ 0 ∷ 0 ∷ 0 ∷ 0 ∷ 0 ∷ [])
     ∷ []
 unfolding survey_numbers survey_of opens_example opens_pyramid opens_bytes opens_record opens_reading
 surveyed_cases = refl

@@ -1,6 +1,5 @@
 -- What a survey says: the header, the number of whole parts and the tail of a record that serving accepts, or its refusal.
 use Rattle.std.specs.Prelude.{◌≡◌, List, [], ◌∷◌, cond, ℕ, leb, length}
-use Rattle.rules.specs.declared.Merged.TheVariants.{Never}
 use Rattle.rules.specs.declared.Refusal.{Refusal}
 use Rattle.rules.specs.declared.Refusal.TheVariants as refusal
 use Rattle.rules.specs.declared.Verdict.TheVariants.{Accepted, Refused}
@@ -9,23 +8,17 @@ use Rattle.rules.specs.declared.HeaderRead.{HeaderRead}
 use Rattle.rules.specs.declared.HeaderRead.TheVariants as header
 use Rattle.rules.specs.declared.PartRead.{PartRead}
 use Rattle.rules.specs.declared.PartRead.TheVariants as part
-use Rattle.rules.specs.Document.Numbers.{verdict_number, verdict_place, Ending, tail, fault, Reading, top_level, read_header, read_parts}
+use Rattle.rules.specs.Document.Numbers.{verdict_number, verdict_place, Ending, tail, fault, Reading, read_header, read_parts}
 use Rattle.rules.specs.Document.Calls.{returned, reported}
 use Rattle.record.specs.declared.walk.Cursor.{Cursor}
 use Rattle.record.specs.Walk.{next_of}
 use Rattle.survey.specs.declared.Survey.{Survey}
 
 abbrev pub refused_with : Refusal → Survey
-refused_with r = record {
-  verdict = Refused r;
-  header = record { size = record { w = 0; h = 0; n = 0; merged = Never }; planes = 0; end = 0 };
-  parts = 0;
-  tail = 0;
-  levels = 0;
-}
+refused_with r = record { verdict = Refused r; header = record { size = record { w = 0; h = 0; n = 0 }; planes = 0; end = 0 }; parts = 0; tail = 0 }
 
 abbrev pub ended_with : Header → ℕ → Ending → Survey
-ended_with h n (tail t) = record { verdict = Accepted; header = h; parts = n; tail = t; levels = top_level h }
+ended_with h n (tail t) = record { verdict = Accepted; header = h; parts = n; tail = t }
 ended_with h n (fault r) = refused_with r
 
 abbrev pub walked_with : Header → Reading → Survey
@@ -53,15 +46,15 @@ part_behind s c (header.Refused r) = part.Refused r
 unfoldable pub part_at : List ℕ → Cursor → PartRead
 part_at s c = part_behind s c (read_header s)
 
--- What the export `afs_survey` answers and leaves, beside Calls.AfsServe and its like: number, place, W, H, N, planes, whole parts, tail length,
--- levels of parts, by the same rules for an answer slice. It is lent no output.
+-- What the export `afs_survey` answers and leaves, beside Calls.AfsServe and its like: number, place, W, H, N, planes, whole parts, tail length, by
+-- the same rules for an answer slice. It is lent no output.
 unfoldable pub survey_numbers : Survey → List ℕ
 survey_numbers a =
     let z = a.header.size in
-    verdict_number a.verdict ∷ verdict_place a.verdict ∷ z.w ∷ z.h ∷ z.n ∷ a.header.planes ∷ a.parts ∷ a.tail ∷ a.levels ∷ []
+    verdict_number a.verdict ∷ verdict_place a.verdict ∷ z.w ∷ z.h ∷ z.n ∷ a.header.planes ∷ a.parts ∷ a.tail ∷ []
 
 abbrev pub survey_places : ℕ
-survey_places = 9
+survey_places = 8
 
 pub record AfsSurvey (s answer : List ℕ) (number : ℕ) (answer' : List ℕ) : Type 0 where
   pub returns : number ≡ returned survey_places answer (survey_numbers (survey_of s))

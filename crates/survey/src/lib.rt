@@ -6,13 +6,13 @@ ghost use Rattle.survey.specs.Surveyed.{refused_with, walked_with, survey_of, li
 
 use record::read;
 use record::walk::Cursor;
-use rules::{Header, HeaderRead, Merged, PartRead, Refusal, Size, Verdict};
+use rules::{Header, HeaderRead, PartRead, Refusal, Size, Verdict};
 
 // The longest input that partlist takes.
 pub const LONGEST: usize = 16384;
 
 // The length of what afs_survey answers.
-pub const SURVEY_PLACES: usize = 9;
+pub const SURVEY_PLACES: usize = 8;
 
 #[derive(Drop)]
 pub struct Survey {
@@ -20,7 +20,6 @@ pub struct Survey {
     pub header: Header,
     pub parts: usize,
     pub tail: usize,
-    pub levels: usize,
 }
 
 fn refused(refusal: Refusal) -> Survey
@@ -29,18 +28,12 @@ fn refused(refusal: Refusal) -> Survey
     Survey {
         verdict: Verdict::Refused(refusal),
         header: Header {
-            size: Size {
-                w: 0,
-                h: 0,
-                n: 0,
-                merged: Merged::Never,
-            },
+            size: Size { w: 0, h: 0, n: 0 },
             planes: 0,
             end: 0,
         },
         parts: 0,
         tail: 0,
-        levels: 0,
     }
 }
 
@@ -58,7 +51,6 @@ fn walk(bytes: &[u8], h: Header) -> Survey
                     header: h,
                     parts,
                     tail: bytes.len() - cursor.place,
-                    levels: shape::levels(h.size),
                 };
             }
             PartRead::Refused(r) => return refused(r),

@@ -2,7 +2,7 @@
 use mathlib.Core.Path.{◌≡◌, refl, sym, ap, ap₂, ◌∙◌, subst}
 use mathlib.Core.Bool.{Bool, true, false}
 use mathlib.Core.List.{List, [], ◌∷◌, ◌++◌, map}
-use Prim.Native.Nat.{ℕ, ◌+◌, ◌-◌, ◌*◌, ◌≤◌, ◌<◌}
+use Prim.Native.Nat.{ℕ, ◌+◌, ◌*◌, ◌≤◌, ◌<◌}
 use native.Mathlib.Omega.{arith}
 use lib.ListN.{length, length-append}
 use Rattle.bits.specs.declared.BitPosition.{BitPosition}
@@ -23,7 +23,7 @@ use Rattle.testing.specs.declared.Ends.{Ends}
 use Rattle.testing.specs.Exchange.{Chan, chan, codes_reads, noted_values, side, notes, Replied, Noted, Around, quiet_to_lip}
 use Rattle.testing.specs.Exchange.{around_then, around_beside, around_noted, side_same}
 use Rattle.testing.specs.Telling.{Answered, NotedBy}
-use Rattle.testing.specs.Finding.{course_of, course, ends_of, moved_to, Testing, Grouping, Tested, stood, tested_none}
+use Rattle.testing.specs.Finding.{course_of, course, ends_of, moved_to, Testing, Tested, stood, tested_none}
 
 one_tried : {S : Type 0} (C : Side S) (p : ℕ) (s : S) → tried_all C (p ∷ []) s ≡ tried C p s
 unfolding tried_all
@@ -231,93 +231,49 @@ tested_on {run} {body} {ps} {qs} {s} {out} {s₁} {out₁} {s₂} {w = w} {w₁}
       place = omega (arith, a.place, b.place);
     }
 
--- What waits, from a place on: those behind the first i of them are as they were when these are tested.
-pub testing_groups : {run : Run} {m : ℕ} {s : List ℕ} {w : Stand} → Testing run m s w → Grouping run w.fill.lip m s w
-testing_groups {m = m} {w = w} H =
-    record {
-      plane = H.plane;
-      size = H.size;
-      fits = fits_fewer m H.fits;
-      behind = omega arith;
-      last = omega (arith, H.room);
-      room = H.room;
-      place = H.place;
-      inside = H.inside;
-      marked = λ i h. H.fits.marked (w.fill.lip + i) (omega arith);
-    }
-
-module _ {run : Run} {body : List ℕ} {from m : ℕ} (i : ℕ) {s out : List ℕ} {w : Stand} {s₁ out₁ : List ℕ} {w₁ : Stand} (G : Grouping run from m s w)
-    (T : Tested run body (waiting run.stretch.n from i s) s out w s₁ out₁ w₁) where
+-- the loop: the next entry is the one that waited there at the beginning
+module _ (run : Run) {body : List ℕ} {m i : ℕ} {s out : List ℕ} {w : Stand} {s₁ out₁ : List ℕ} {w₁ : Stand} (H : Testing run m s w)
+    (T : Tested run body (waiting run.stretch.n w.fill.lip i s) s out w s₁ out₁ w₁) (more : i < m) where
   abbrev size : ℕ
   size = run.stretch.n
 
-  pub group_length : i ≤ m → length (waiting size from i s) ≡ i
-  group_length l = waiting_length size from i s G.fits.room (omega (arith, G.last))
+  abbrev first : ℕ
+  first = w.fill.lip
 
-  module _ (k : ℕ) (more : i + k ≤ m) where
-    waits_there : (j : ℕ) → j < k → lip_at size (from + i + j) s₁ ≡ lip_at size (from + (i + j)) s
-    waits_there j h =
-        T.ahead (from + i + j) (omega (arith, G.behind, group_length (omega arith))) (omega (arith, G.last))
-        ∙ ap (λ (x : ℕ). lip_at size x s) (omega arith)
+  pub each-length : length (waiting size first i s) ≡ i
+  each-length = waiting_length size first i s H.fits.room (omega (arith, H.room))
 
-    waits_same : waiting size (from + i) k s₁ ≡ waiting size (from + i) k s
-    unfolding waiting lip_at lip_from
-    waits_same =
-        ap (map coefficient)
-        (seg_same (size + (from + i)) k s s₁ T.around.long (λ x a b.
-        let j = x - (size + (from + i)) in
-        let e : size + (from + i + j) ≡ x = omega arith in
-        let d : size + (from + (i + j)) ≡ x = omega arith in
-        rw (e, d) at (waits_there j (omega arith))))
+  pub each_there : (4 * size ≤ length s₁) × (first + i < size)
+  each_there = (T.fits.room, omega (arith, H.room))
 
-    pub group_rest : Grouping run (from + i) k s₁ w₁
-    group_rest =
-        let far = group_length (omega arith) in
-        record {
-          plane = G.plane;
-          size = G.size;
-          fits = T.fits;
-          behind = omega (arith, G.behind, T.both, T.lsp, far);
-          last = omega (arith, G.last);
-          room = omega (arith, G.room, T.both, far);
-          place = omega (arith, G.place, T.place, far);
-          inside = λ j h. subst (λ (e : ℕ). Inside run.stretch (coefficient e)) (sym (waits_there j h)) (G.inside (i + j) (omega arith));
-          marked = λ j h.
-              marked_same (λ c. T.around.values (codes_reads run.stretch.role c))
-              (subst (Marked run.stretch s) (sym (waits_there j h)) (G.marked (i + j) (omega arith)));
-        }
+  module _ {e : ℕ} (at : e ≡ lip_at size (first + i) s₁) where
+    each-is : e ≡ lip_at size (first + i) s
+    each-is = at ∙ T.ahead (first + i) (omega (arith, each-length)) each_there.1
 
-    pub group_on : {s₂ out₂ : List ℕ} {w₂ : Stand} → Tested run body (waiting size (from + i) k s₁) s₁ out₁ w₁ s₂ out₂ w₂
-        → Tested run body (waiting size from (i + k) s) s out w s₂ out₂ w₂
-    group_on {s₂} {out₂} {w₂} U =
-        let a : waiting size from i s ++ waiting size (from + i) k s₁ ≡ waiting size from (i + k) s =
-        ap (λ z. waiting size from i s ++ z) waits_same ∙ sym (waiting_add size from i k s) in
+    pub each_inside : Inside run.stretch (coefficient e)
+    each_inside = subst (λ (y : ℕ). Inside run.stretch (coefficient y)) (sym each-is) (H.inside i more)
+
+    pub each_marked : Marked run.stretch s₁ e
+    each_marked =
+        marked_same (λ c. T.around.values (codes_reads run.stretch.role c))
+        (subst (Marked run.stretch s) (sym each-is) (H.fits.marked (first + i) (omega arith)))
+
+    pub each_next : {s₂ out₂ : List ℕ} {w₂ : Stand} → Tested run body (coefficient e ∷ []) s₁ out₁ w₁ s₂ out₂ w₂
+        → Tested run body (waiting size first (i + 1) s) s out w s₂ out₂ w₂
+    each_next {s₂} {out₂} {w₂} U =
+        let one = waiting_one size (first + i) s H.fits.room each_there.1 ∙ ap (λ (y : ℕ). coefficient y ∷ []) (sym each-is) in
+        let a : waiting size first i s ++ (coefficient e ∷ []) ≡ waiting size first (i + 1) s =
+        sym (waiting_add size first i 1 s ∙ ap (λ z. waiting size first i s ++ z) one) in
         subst (λ ps. Tested run body ps s out w s₂ out₂ w₂) a (tested_on T U)
 
--- the entry that waits first
-module _ {run : Run} {from m : ℕ} {s : List ℕ} {w : Stand} (G : Grouping run from m s w) (more : 0 < m) {e : ℕ}
-    (at : e ≡ lip_at run.stretch.n from s) where
-  here : lip_at run.stretch.n (from + 0) s ≡ e
-  here = ap (λ (x : ℕ). lip_at run.stretch.n x s) (omega arith) ∙ sym at
+pub each_none : (run : Run) (body s out : List ℕ) (w : Stand) {m : ℕ} → Testing run m s w
+    → Tested run body (waiting run.stretch.n w.fill.lip 0 s) s out w s out w
+each_none run body s out w {m} H =
+    subst (λ ps. Tested run body ps s out w s out w) (sym (waiting_none run.stretch.n w.fill.lip s))
+    (tested_none run body s out w (fits_fewer m H.fits))
 
-  pub first_inside : Inside run.stretch (coefficient e)
-  first_inside = subst (λ (y : ℕ). Inside run.stretch (coefficient y)) here (G.inside 0 more)
-
-  pub first_marked : Marked run.stretch s e
-  first_marked = subst (Marked run.stretch s) here (G.marked 0 more)
-
-  pub first_tested : {body out s' out' : List ℕ} {r : Stand} → Tested run body (coefficient e ∷ []) s out w s' out' r
-      → Tested run body (waiting run.stretch.n from 1 s) s out w s' out' r
-  first_tested {body} {out} {s'} {out'} {r} U =
-      let one = waiting_one run.stretch.n from s G.fits.room (omega (arith, G.last)) ∙ ap (λ (y : ℕ). coefficient y ∷ []) (sym at) in
-      subst (λ ps. Tested run body ps s out w s' out' r) (sym one) U
-
-pub each_none : {run : Run} (body : List ℕ) {s : List ℕ} (out : List ℕ) {w : Stand} {from m : ℕ} → Grouping run from m s w
-    → Tested run body (waiting run.stretch.n from 0 s) s out w s out w
-each_none {run} body {s} out {w} {from} G =
-    subst (λ ps. Tested run body ps s out w s out w) (sym (waiting_none run.stretch.n from s)) (tested_none run body s out w G.fits)
-
-pub each_done : {run : Run} {body : List ℕ} (from i m : ℕ) {s out : List ℕ} {w : Stand} {s₁ out₁ : List ℕ} {w₁ : Stand} → i ≡ m
-    → Tested run body (waiting run.stretch.n from i s) s out w s₁ out₁ w₁ → Tested run body (waiting run.stretch.n from m s) s out w s₁ out₁ w₁
-each_done {run} {body} from i m {s} {out} {w} {s₁} {out₁} {w₁} e T =
-    subst (λ (j : ℕ). Tested run body (waiting run.stretch.n from j s) s out w s₁ out₁ w₁) e T
+pub each_done : {run : Run} {body : List ℕ} (i m : ℕ) {s out : List ℕ} {w : Stand} {s₁ out₁ : List ℕ} {w₁ : Stand} → i ≡ m
+    → Tested run body (waiting run.stretch.n w.fill.lip i s) s out w s₁ out₁ w₁
+    → Tested run body (waiting run.stretch.n w.fill.lip m s) s out w s₁ out₁ w₁
+each_done {run} {body} i m {s} {out} {w} {s₁} {out₁} {w₁} e T =
+    subst (λ (j : ℕ). Tested run body (waiting run.stretch.n w.fill.lip j s) s out w s₁ out₁ w₁) e T

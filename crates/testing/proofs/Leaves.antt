@@ -10,6 +10,7 @@ use borrow.Author.Tests.{le-leb, lt-leb}
 use native.Mathlib.Nat.{add-zero}
 use native.Mathlib.Decide.{dec_le}
 use lib.Seq.{set-get_or}
+use Rattle.bits.specs.declared.BitPosition.{BitPosition}
 use Rattle.rules.specs.Document.Pyramid.{planes_of, most_planes}
 use Rattle.rules.specs.Document.Passes.{Entry, significant?, negative?, bit?, set?, Event, to_lsp, refined}
 use Rattle.trees.specs.Measure.{planes_tell}
@@ -24,7 +25,8 @@ use Rattle.lists.specs.Besides.{spared_none, spared_at}
 use Rattle.lists.specs.declared.Role.TheVariants.{Codes, Reads}
 use Rattle.testing.specs.declared.Run.{Run}
 use Rattle.testing.specs.Exchange.{Tells, local_word, word_at, largest_at, words_tell, answer, drawn, noted, Noted, reading, reads, reads_codes}
-use Rattle.testing.specs.Telling.{Drew, NotedBy}
+use Rattle.testing.specs.declared.Told.{Told}
+use Rattle.testing.specs.Telling.{ReadFound, SaidFound, AnsweredBy, NotedBy, told_read, told_said}
 use Rattle.testing.specs.Growing.{word_local}
 
 pub word_inside : (first : ℕ) (vs : List ℕ) (x : ℕ) {r : ℕ} → first ≤ x → r ≡ get_or vs (x - first) 0 → r ≡ local_word first vs x
@@ -65,11 +67,11 @@ module _ (run : Run) (s : List ℕ) where
     unfolding mark_of
     marked_parts = let m : e % 64 ≡ 2 * planes_of (w / 2) + w % 2 = T (ap reading r) in (omega arith, omega arith)
 
-    pub says_significant : run.plane.0 < most_planes → ltb run.plane.0 (e / 2 % 32) ≡ answer run s (significant? (coefficient e))
+    says_significant : run.plane.0 < most_planes → ltb run.plane.0 (e / 2 % 32) ≡ answer run s (significant? (coefficient e))
     unfolding answer words_tell
     says_significant h = ap (ltb run.plane.0) marked_parts.0 ∙ planes_tell run.plane.0 (w / 2) (omega arith)
 
-    pub says_negative : eqb (e % 2) 1 ≡ answer run s (negative? (coefficient e))
+    says_negative : eqb (e % 2) 1 ≡ answer run s (negative? (coefficient e))
     unfolding answer words_tell
     says_negative = ap (λ (x : ℕ). eqb x 1) marked_parts.1
 
@@ -80,6 +82,15 @@ module _ (run : Run) (s : List ℕ) where
   pub says_set : {m : ℕ} (e : Entry) → m ≡ largest_at run s e → ltb (run.plane.0 + 1) m ≡ answer run s (set? e)
   unfolding answer words_tell
   says_set e i = rw i
+
+module _ (run : Run) (body : List ℕ) (e : ℕ) (out : List ℕ) (at : BitPosition) {r : Told} where
+  pub answered_read : run.stretch.role ≡ Reads → ReadFound body at r → AnsweredBy run body e out at r out
+  answered_read h R = record { answered = λ s T. told_read run s body out at (coefficient e) r h R }
+
+  pub answered_said : {out' : List ℕ} → run.stretch.role ≡ Codes → run.plane.0 < most_planes
+      → SaidFound (ltb run.plane.0 (e / 2 % 32)) (eqb (e % 2) 1) out at r out' → AnsweredBy run body e out at r out'
+  answered_said h l S =
+      record { answered = λ s T. told_said run s body out at (coefficient e) r h (says_significant run s e h T l) (says_negative run s e h T) S }
 
 -- what is noted: by the coder nothing, by the decoder a word of the level, while bits are there
 module _ (run : Run) (at : ℕ) (s : List ℕ) where
@@ -153,15 +164,6 @@ module _ (run : Run) (at : ℕ) (f : Fill) (s : List ℕ) (x : ℕ) (bit negativ
         found = λ d. found_drawn run at s x negative h there l (drew.written d) e;
         missed = λ d. spared_at g room (subst (λ (i : ℕ). ButAt i s s') p (drew.spared d));
       }
-
-pub drew_found : {run : Run} {f : Fill} {s : List ℕ} {x : ℕ} {bit negative : Bool} {w spare i : ℕ} {s' : List ℕ} → Fits run.stretch s f
-    → run.stretch.first ≤ x → f.lip < run.stretch.n → w ≡ word_of negative (2 ^ run.plane.0) → spare ≡ lip_from run.stretch.n + f.lip
-    → i ≡ x - run.stretch.first → SetOr bit run.stretch.n s i w spare s' → Drew bit run x negative f s s'
-drew_found {run} {f} {s} {x} {bit} {negative} {w} {spare} {s' = s'} g l room e p q drew =
-    record {
-      noted = λ h at there. tested_drawn run at f s x bit negative g h there l room e p
-          (subst (λ (j : ℕ). SetOr bit run.stretch.n s j w spare s') q drew);
-    }
 
 pub spare_inside : {t : Stretch} {s : List ℕ} {f : Fill} {spare : ℕ} → Fits t s f → f.lip < t.n → spare ≡ lip_from t.n + f.lip → spare < length s
 unfolding lip_from

@@ -51,7 +51,7 @@ module _ {run : Run} {body ps s out : List ℕ} {at : BitPosition} {s₁ out₁ 
   refined_side =
       side_kept run s s₁ (λ r. values_same n s s₁ a.long (a.values r)) (maxima_same n s s₁ a.long (λ i l k. a.others i (omega arith))) body
 
-  pub refined_on : {qs s₂ out₂ : List ℕ} {at₂ : BitPosition} → Refined run body qs s₁ out₁ at₁ s₂ out₂ at₂ → Refined run body (ps ++ qs) s out at s₂ out₂ at₂
+  refined_on : {qs s₂ out₂ : List ℕ} {at₂ : BitPosition} → Refined run body qs s₁ out₁ at₁ s₂ out₂ at₂ → Refined run body (ps ++ qs) s out at s₂ out₂ at₂
   refined_on {qs} b =
       let C : Side Chan = side run s body in
       record {
@@ -107,7 +107,7 @@ module _ (run : Run) (s body : List ℕ) where
   unfolding sharpened bit_noted side
   sharpened_most x y q = refined_most run _ x _ y.values q
 
-  pub sharpened_all_most : (ps : List ℕ) (y : Chan) (q : ℕ)
+  sharpened_all_most : (ps : List ℕ) (y : Chan) (q : ℕ)
       → local_word run.stretch.first (sharpened_all C ps y).values q ≤ local_word run.stretch.first y.values q + a * sum (is q) ps
   unfolding sharpened_all sum
   sharpened_all_most [] y q = omega arith

@@ -1,14 +1,13 @@
 -- What the tests of single coefficients and their refinement ask for, and what they leave, in a level's stretch and in the output.
-use Rattle.std.specs.Prelude.{◌≡◌, refl, List, [], map, true, false, ℕ, ◌+◌, ◌*◌, ◌≤◌, ◌<◌, ◌^◌, length, get_or}
+use Rattle.std.specs.Prelude.{◌≡◌, refl, List, [], true, false, ℕ, ◌+◌, ◌*◌, ◌≤◌, ◌<◌, ◌^◌, length, get_or}
 use Rattle.std.proofs.Common.{sym, subst, arith}
 use Rattle.bits.specs.declared.BitPosition.{BitPosition}
 use Rattle.rules.specs.Document.Pyramid.{most_planes}
 use Rattle.rules.specs.Document.Passes.{Course, listing}
 use Rattle.rules.specs.Laws.Pass.Steps.{tried_all, sharpened_all}
-use Rattle.stretches.specs.Seg.{seg}
-use Rattle.stretches.specs.Cut.{lsp_from, values_in, maxima_from}
+use Rattle.stretches.specs.Cut.{values_in, maxima_from}
 use Rattle.lists.specs.declared.Stretch.{Stretch}
-use Rattle.lists.specs.Lists.{Inside, Marked, coefficient, known, lip_at, lsp_at, Held, held, raised, Fits}
+use Rattle.lists.specs.Lists.{Inside, coefficient, known, lip_at, lsp_at, Held, held, raised, Fits}
 use Rattle.testing.specs.declared.Run.{Run}
 use Rattle.testing.specs.declared.Stand.{Stand}
 use Rattle.testing.specs.declared.Ends.{Ends}
@@ -48,18 +47,6 @@ pub record Testing (run : Run) (m : ℕ) (s : List ℕ) (w : Stand) : Type 0 whe
   pub room : w.fill.lip + w.fill.lsp + m ≤ run.stretch.n
   pub place : w.at.at + 2 * m < 2 ^ 62
   pub inside : (i : ℕ) → i < m → Inside run.stretch (coefficient (lip_at run.stretch.n (w.fill.lip + i) s))
-
--- The same of m coefficients that wait from a place on, which may lie behind LIP's end.
-pub record Grouping (run : Run) (from m : ℕ) (s : List ℕ) (w : Stand) : Type 0 where
-  pub plane : run.plane.0 < most_planes
-  pub size : run.stretch.n < 2 ^ 32
-  pub fits : Fits run.stretch s w.fill
-  pub behind : w.fill.lip ≤ from
-  pub last : from + m ≤ run.stretch.n
-  pub room : w.fill.lip + w.fill.lsp + m ≤ run.stretch.n
-  pub place : w.at.at + 2 * m < 2 ^ 62
-  pub inside : (i : ℕ) → i < m → Inside run.stretch (coefficient (lip_at run.stretch.n (from + i) s))
-  pub marked : (i : ℕ) → i < m → Marked run.stretch s (lip_at run.stretch.n (from + i) s)
 
 -- The coefficients ps were tested. What lies ahead in LIP, what was in LSP, and the sets are as they were.
 pub record Tested (run : Run) (body : List ℕ) (ps s out : List ℕ) (w : Stand) (s' out' : List ℕ) (r : Stand) : Type 0 where
@@ -112,20 +99,6 @@ pub record Refining (run : Run) (m : ℕ) (s : List ℕ) (at : BitPosition) : Ty
   pub place : at.at + m < 2 ^ 62
   pub growth : reads run ≡ true → Growth run.stretch.first run.plane.0 (2 ^ 30) (values_in run.stretch.n s) (known run.stretch.n m s)
   pub inside : (i : ℕ) → i < m → Inside run.stretch (coefficient (lsp_at run.stretch.n i s))
-
--- m coefficients of LSP, from the i-th on
-abbrev pub known_from : ℕ → ℕ → ℕ → List ℕ → List ℕ
-known_from n i m s = map coefficient (seg (lsp_from n + i) m s)
-
--- The same of sixteen from a place on.
-pub record Sixteen (run : Run) (i : ℕ) (s : List ℕ) (at : BitPosition) : Type 0 where
-  pub plane : run.plane.0 < most_planes
-  pub size : run.stretch.n < 2 ^ 32
-  pub room : 4 * run.stretch.n ≤ length s
-  pub few : i + 16 ≤ run.stretch.n
-  pub place : at.at + 16 < 2 ^ 62
-  pub growth : reads run ≡ true → Growth run.stretch.first run.plane.0 (2 ^ 30) (values_in run.stretch.n s) (known_from run.stretch.n i 16 s)
-  pub inside : (j : ℕ) → j < 16 → Inside run.stretch (coefficient (lsp_at run.stretch.n (i + j) s))
 
 -- The coefficients ps were refined: nothing but values has changed.
 pub record Refined (run : Run) (body : List ℕ) (ps s out : List ℕ) (at : BitPosition) (s' out' : List ℕ) (r : BitPosition) : Type 0 where

@@ -2,4 +2,3 @@ pub mod Exchange
 pub mod Growing
 pub mod Telling
 pub mod Finding
-pub mod Groups

@@ -1,5 +1,5 @@
 -- What is told of one coefficient, and what is noted of it: by the bit that says whether it is found.
-use Rattle.std.specs.Prelude.{◌≡◌, refl, Bool, true, false, cond, List, ℕ, ◌+◌, ◌≤◌}
+use Rattle.std.specs.Prelude.{◌≡◌, refl, Bool, true, false, cond, List, ℕ, ◌+◌}
 use Rattle.std.proofs.Common.{sym, ap, ◌∙◌, arith}
 use mir.Val.{bool_byte}
 use Rattle.bits.specs.declared.BitPosition.{BitPosition}
@@ -9,11 +9,11 @@ use Rattle.bits.specs.Written.{set_bit_none}
 use Rattle.rules.specs.Document.Passes.{Side, significant?, negative?, to_lsp}
 use Rattle.rules.specs.Document.Layout.{bit_at}
 use Rattle.lists.specs.declared.Fill.{Fill}
-use Rattle.lists.specs.Lists.{Spared}
+use Rattle.lists.specs.Lists.{coefficient, Spared}
 use Rattle.lists.specs.declared.Role.TheVariants.{Codes, Reads}
 use Rattle.testing.specs.declared.Run.{Run}
 use Rattle.testing.specs.declared.Told.{Told}
-use Rattle.testing.specs.Exchange.{Chan, answer, side, Replied, Noted, replied_read, replied_said}
+use Rattle.testing.specs.Exchange.{Chan, Tells, answer, side, Replied, Noted, replied_read, replied_said}
 
 -- Two bits were read; the second counts if the first is 1.
 pub record ReadFound (body : List ℕ) (at : BitPosition) (r : Told) : Type 0 where
@@ -21,7 +21,7 @@ pub record ReadFound (body : List ℕ) (at : BitPosition) (r : Told) : Type 0 wh
   pub negative : r.negative ≡ bit_at body (at.at + 1)
   pub place : r.next.at ≡ at.at + 1 + bool_byte r.found
 
--- Two bits were written, the second a 0 that counts for nothing if the first is one.
+-- Two bits were written; the second is 0 if the first is.
 pub record SaidFound (found negative : Bool) (out : List ℕ) (at : BitPosition) (r : Told) (out' : List ℕ) : Type 0 where
   pub told : r.found ≡ found
   pub sign : r.negative ≡ negative
@@ -40,19 +40,24 @@ pub record Answered (C : Side Chan) (x : ℕ) (out : List ℕ) (at : BitPosition
   pub found : r.found ≡ true → Signed C x out at r out'
   pub missed : r.found ≡ false → Replied C (significant? x) out at (record { bit = false; next = r.next }) out'
 
+-- The coefficient of an entry, in whatever stretch the entry tells of.
+pub record AnsweredBy (run : Run) (body : List ℕ) (e : ℕ) (out : List ℕ) (at : BitPosition) (r : Told) (out' : List ℕ) : Type 0 where
+  pub answered : (s : List ℕ) → Tells run s e → Answered (side run s body) (coefficient e) out at r out'
+
 -- A coefficient that is found, as bits up to a place tell, is noted; of another, nothing that counts has changed.
 pub record NotedBy (bit : Bool) (run : Run) (at x : ℕ) (negative : Bool) (f : Fill) (s s' : List ℕ) : Type 0 where
   pub found : bit ≡ true → Noted run at (to_lsp x negative) s s'
   pub missed : bit ≡ false → Spared run.stretch s f s'
 
--- The same of one that is drawn if it is found, whatever bits tell of it, if they are there.
-pub record Drew (bit : Bool) (run : Run) (x : ℕ) (negative : Bool) (f : Fill) (s s' : List ℕ) : Type 0 where
-  pub noted : run.stretch.role ≡ Reads → (at : ℕ) → at ≤ run.until.at → NotedBy bit run at x negative f s s'
-
 pub both_read : {body : List ℕ} {at : BitPosition} {first : BitRead} {sign : Bool} → first.bit ≡ bit_at body at.at
     → first.next.at ≡ at.at + 1 → sign ≡ bit_at body first.next.at
     → ReadFound body at (record { found = first.bit; negative = sign; next = record { at = first.next.at + bool_byte first.bit } })
 both_read {body} b n s = record { found = b; negative = s ∙ ap (bit_at body) n; place = omega (arith, n) }
+
+pub both_said : {found negative sign : Bool} {out out₁ out₂ : List ℕ} {at second : BitPosition} → second.at ≡ at.at + 1
+    → out₁ ≡ set_bit out at.at found → sign ≡ cond found negative false → out₂ ≡ set_bit out₁ second.at sign
+    → SaidFound found negative out at (record { found = found; negative = negative; next = record { at = second.at + bool_byte found } }) out₂
+both_said n a s b = record { told = refl; sign = refl; place = omega (arith, n); bytes = rw (b, a, n, s) }
 
 module _ (run : Run) (s body out : List ℕ) (at : BitPosition) (x : ℕ) (r : Told) where
   -- the bit that tells, and where it leads

@@ -4,20 +4,17 @@ ghost use Rattle.std.specs.Prelude.{true, false, cond, ◌≡◌, [], ◌∷◌,
 ghost use Rattle.rules.specs.Document.Pyramid.{most_planes};
 ghost use Rattle.rules.specs.Document.Passes.{bit?, set?, refined};
 ghost use Rattle.bits.specs.Bits.{set_bit};
-ghost use Rattle.bits.specs.Few.{weigh};
 ghost use Rattle.lists.specs.Lists.{Inside, Marked, coefficient, entry_of, index_of, waiting, known, Fits};
-ghost use Rattle.lists.specs.declared.Role.TheVariants.{Codes, Reads};
 ghost use Rattle.testing.specs.Exchange.{word_at, largest_at, side, Replied, Noted, reads, Silent};
-ghost use Rattle.testing.specs.Telling.{ReadFound, Drew, NotedBy};
-ghost use Rattle.testing.specs.Finding.{ends_of, moved_to, Testing, Grouping, Tested, Refining, known_from, Sixteen, Refined};
-ghost use Rattle.testing.specs.Groups.{filled_to, ends_behind, told, CodedOne, ReadOne, Coded, Read, said_of, Sharpened};
+ghost use Rattle.testing.specs.Telling.{SaidFound, ReadFound, AnsweredBy, NotedBy};
+ghost use Rattle.testing.specs.Finding.{ends_of, moved_to, Testing, Tested, Refining, Refined};
 
 use bits::{BitPosition, BitRead};
 use lists::{Fill, Role, Set, Stretch};
 use rules::{Level, Plane, Size};
 
 // Which part is run. The tree numbers of the nodes whose offspring are in the level begin at `parents`, those of the nodes whose offspring's offspring
-// are at `elders`; those that have offspring end at `inner`. The bits go on from a place. Those that
+// are at `elders`. At the beginning its LIS had so many sets, and the bits go on from a place. Those that
 // are there end at the place `until`: of a part that is cut, W1 has the tail decoded "as far as its bits go".
 #[derive(Drop)]
 pub struct Run {
@@ -27,7 +24,7 @@ pub struct Run {
     pub stretch: Stretch,
     pub parents: usize,
     pub elders: usize,
-    pub inner: usize,
+    pub olds: usize,
     pub from: BitPosition,
     pub until: BitPosition,
 }
@@ -56,13 +53,6 @@ pub struct Told {
     pub next: BitPosition,
 }
 
-// What a group of the coder's tests has come to: its bits as a number, the first highest, and the end of LSP.
-#[derive(Drop)]
-struct Group {
-    bits: u32,
-    lsp: usize,
-}
-
 // The coder's reply, written as the next bit.
 fn say(out: &mut [u8], at: BitPosition, bit: bool) -> BitRead
     requires { at.at < 2 ^ 62 }
@@ -80,7 +70,31 @@ fn word_at(run: Run, s: &[u32], x: usize) -> u32
     stretches::value_at(s, run.stretch.n, x - run.stretch.first)
 }
 
-// Whether a coefficient is found and, if so, negative: the decoder reads the bit behind in any case.
+// The sign's bit, 0 where none is asked for.
+fn sign_bit(found: bool, negative: bool) -> bool
+    ensures { result ≡ cond found negative false }
+{
+    found && negative
+}
+
+// The coder's answers, written: the sign's bit of a coefficient that isn't found is written as 0 and counts for nothing, so that no branch waits for
+// the bit before it.
+fn say_found(out: &mut [u8], at: BitPosition, found: bool, negative: bool) -> Told
+    requires { at.at + 2 < 2 ^ 62 }
+    ensures { SaidFound found negative out.old at result out.new }
+{
+    let second = at.write(out, found);
+    second.write(out, sign_bit(found, negative));
+    Told {
+        found,
+        negative,
+        next: BitPosition {
+            at: second.at + (found as usize),
+        },
+    }
+}
+
+// The decoder reads the bit behind in any case.
 fn read_found(body: &[u8], at: BitPosition) -> Told
     requires { at.at + 2 < 2 ^ 62 }
     ensures { ReadFound body.now at result }
@@ -94,6 +108,22 @@ fn read_found(body: &[u8], at: BitPosition) -> Told
         next: BitPosition {
             at: second.at + (first.bit as usize),
         },
+    }
+}
+
+// Whether a coefficient is significant and, if so, negative: the coder has both in its entry.
+fn ask_found(run: Run, body: &[u8], out: &mut [u8], at: BitPosition, e: usize) -> Told
+    requires { (at.at + 2 < 2 ^ 62) × (run.plane.0 < most_planes) }
+    ensures { AnsweredBy run body.now e out.old at result out.new }
+{
+    let stretch = run.stretch;
+    let role = stretch.role;
+    match role {
+        Role::Reads => read_found(body, at),
+        Role::Codes => {
+            let planes = e / 2 % 32;
+            say_found(out, at, run.plane.0 < planes, e % 2 == 1)
+        }
     }
 }
 
@@ -151,19 +181,8 @@ pub fn ask_set(run: Run, body: &[u8], s: &[u32], out: &mut [u8], at: BitPosition
     }
 }
 
-// The word of a coefficient is drawn, if it is found. The word of one that isn't found goes to the place behind LIP.
-fn draw_found(run: Run, s: &mut [u32], f: Fill, x: usize, found: bool, negative: bool)
-    requires { (run.plane.0 < most_planes) × Fits run.stretch s.old f × (run.stretch.n < 2 ^ 32) × (f.lip < run.stretch.n)
-        × Inside run.stretch x }
-    ensures { Drew found run x negative f s.old s.new }
-{
-    let word = coefficients::found_word(negative, run.plane);
-    let spare = lists::lip_end(run.stretch, f);
-    let i = x - run.stretch.first;
-    stretches::set_value_or(s, run.stretch.n, i, word, found, spare);
-}
-
-// The decoder draws a coefficient that is found, if its sign is there.
+// The decoder draws a coefficient that is found, if its sign is there; the coder draws none. The word of one that isn't found goes to the place behind
+// LIP.
 fn note_tested(
     run: Run,
     s: &mut [u32],
@@ -173,12 +192,28 @@ fn note_tested(
     found: bool,
     negative: bool,
 )
-    requires { (run.stretch.role ≡ Reads) × (run.plane.0 < most_planes) × Fits run.stretch s.old f × (run.stretch.n < 2 ^ 32)
-        × (f.lip < run.stretch.n) × Inside run.stretch x }
+    requires { (run.plane.0 < most_planes) × Fits run.stretch s.old f × (run.stretch.n < 2 ^ 32) × (f.lip < run.stretch.n)
+        × Inside run.stretch x }
     ensures { NotedBy found run at.at x negative f s.old s.new }
 {
-    if at.at <= run.until.at {
-        draw_found(run, s, f, x, found, negative);
+    let stretch = run.stretch;
+    let role = stretch.role;
+    match role {
+        Role::Codes => {}
+        Role::Reads => {
+            if at.at <= run.until.at {
+                let word = coefficients::found_word(negative, run.plane);
+                let spare = lists::lip_end(run.stretch, f);
+                stretches::set_value_or(
+                    s,
+                    run.stretch.n,
+                    x - run.stretch.first,
+                    word,
+                    found,
+                    spare,
+                );
+            }
+        }
     }
 }
 
@@ -225,172 +260,20 @@ pub fn moved_to(w: Stand, e: Ends) -> Stand
     Stand { fill, at }
 }
 
-// How full the lists are with another end of LSP, where LIP and LSP together have so many entries.
-fn filled(f: Fill, both: usize, lsp: usize) -> Fill
-    requires { lsp ≤ both }
-    ensures { result ≡ filled_to f both lsp }
+// The coefficient of an entry is tested: its bits, and its place at the end of LSP or of LIP.
+fn test(run: Run, body: &[u8], s: &mut [u32], w: Stand, out: &mut [u8], e: usize) -> Ends
+    requires { (run.plane.0 < most_planes) × Fits run.stretch s.old w.fill × (run.stretch.n < 2 ^ 32)
+        × (w.fill.lip + w.fill.lsp < run.stretch.n) × (w.at.at + 2 < 2 ^ 62) × (e < 2 ^ 32)
+        × Inside run.stretch (coefficient e) × Marked run.stretch s.old e }
+    ensures { Tested run body.now (coefficient e ∷ []) s.old out.old w s.new out.new
+        (moved_to w result) }
 {
-    let mut r = f;
-    r.lip = both - lsp;
-    r.lsp = lsp;
-    r
-}
-
-// The ends behind m tests, by the end of LSP alone: each test has one bit, or two and an entry of LSP.
-fn ends_behind(w: Stand, m: usize, lsp: usize) -> Ends
-    requires { (w.fill.lsp ≤ lsp) × (lsp ≤ w.fill.lip + w.fill.lsp + m) × (w.fill.lip + w.fill.lsp + m < 2 ^ 32)
-        × (w.at.at + 2 * m < 2 ^ 62) }
-    ensures { result ≡ ends_behind w m lsp }
-{
-    let at = w.at;
-    Ends {
-        lip: w.fill.lip + w.fill.lsp + m - lsp,
-        lsp,
-        at: BitPosition {
-            at: at.at + m + (lsp - w.fill.lsp),
-        },
-    }
-}
-
-// How many of so many entries are tested together.
-fn few_of(m: usize) -> usize
-    ensures { (result ≤ 8) × (result ≤ m) × (0 < m → 0 < result) }
-{
-    if m < 8 { m } else { 8 }
-}
-
-// Bits with those behind them that tell of a coefficient: 0, or 1 and the sign.
-fn with_told(bits: u32, found: bool, sign: u32) -> u32
-    requires { (bits < 2 ^ 14) × (sign < 2) }
-    ensures { result ≡ told found bits sign }
-{
-    if found {
-        return 4 * bits + 2 + sign;
-    }
-    2 * bits
-}
-
-// The coder tests the coefficient of an entry, which has its planes and its sign: the entry goes to the end of LSP or of LIP, and its bits behind those of
-// its group.
-fn code_one(run: Run, s: &mut [u32], f: Fill, bits: u32, e: usize) -> Group
-    requires { Fits run.stretch s.old f × (run.stretch.n < 2 ^ 32) × (f.lip + f.lsp < run.stretch.n) × (e < 2 ^ 32)
-        × Marked run.stretch s.old e × (bits < 2 ^ 14) }
-    ensures { CodedOne run s.old f bits e s.new result }
-{
-    let planes = e / 2 % 32;
-    let found = run.plane.0 < planes;
-    let bits = with_told(bits, found, (e % 2) as u32);
-    let lsp = lists::push_tested(s, run.stretch, f, e, found).lsp;
-    Group { bits, lsp }
-}
-
-// The coder tests m entries, at most eight, that wait from a place of LIP on: one store for all their bits.
-fn code_few(run: Run, s: &mut [u32], w: Stand, out: &mut [u8], from: usize, m: usize) -> Ends
-    requires { (run.stretch.role ≡ Codes) × Grouping run from m s.old w × (m ≤ 8) }
-    ensures { Coded run (waiting run.stretch.n from m s.old) s.old out.old w
-        s.new out.new (moved_to w result) }
-{
-    let both = w.fill.lip + w.fill.lsp;
-    let mut g = Group {
-        bits: 0,
-        lsp: w.fill.lsp,
-    };
-    let mut j = 0;
-    while j < m {
-        let e = lists::lip_at(s, run.stretch.n, from + j);
-        g = code_one(run, s, filled(w.fill, both + j, g.lsp), g.bits, e);
-        j += 1;
-    }
-    w.at.write_few(out, g.bits, m + (g.lsp - w.fill.lsp));
-    ends_behind(w, m, g.lsp)
-}
-
-// The coder's tests of m entries, in groups.
-fn code_each(run: Run, s: &mut [u32], w: Stand, out: &mut [u8], m: usize) -> Ends
-    requires { (run.stretch.role ≡ Codes) × Grouping run w.fill.lip m s.old w }
-    ensures { Coded run (waiting run.stretch.n w.fill.lip m s.old) s.old out.old w
-        s.new out.new (moved_to w result) }
-{
-    let mut r = ends_of(w);
-    let first = w.fill.lip;
-    let mut i = 0;
-    while i < m {
-        let few = few_of(m - i);
-        r = code_few(run, s, moved_to(w, r), out, first + i, few);
-        i += few;
-    }
-    r
-}
-
-// The decoder tests the coefficient of an entry by bits of a group, of which so many are past: answers the end of LSP.
-fn read_one(run: Run, s: &mut [u32], f: Fill, few: u32, past: usize, e: usize) -> usize
-    requires { (run.stretch.role ≡ Reads) × (run.plane.0 < most_planes) × Fits run.stretch s.old f × (run.stretch.n < 2 ^ 32)
-        × (f.lip + f.lsp < run.stretch.n) × (e < 2 ^ 32) × Inside run.stretch (coefficient e) × (past + 1 < 16) }
-    ensures { ReadOne run s.old f few past e s.new result }
-{
-    let found = bits::bit_in(few, past);
-    let negative = bits::bit_in(few, past + 1);
-    let x = lists::coefficient_of(e);
-    draw_found(run, s, f, x, found, negative);
-    lists::push_tested(s, run.stretch, f, e, found).lsp
-}
-
-// The decoder tests m entries, at most eight, that wait from a place of LIP on: one look for all their bits, which are there.
-fn read_few(run: Run, body: &[u8], s: &mut [u32], w: Stand, from: usize, m: usize) -> Ends
-    requires { (run.stretch.role ≡ Reads) × Grouping run from m s.old w × (m ≤ 8) × (w.at.at + 16 ≤ run.until.at) }
-    ensures { Read run body.now (waiting run.stretch.n from m s.old) s.old w
-        s.new (moved_to w result) }
-{
-    let few = w.at.peek(body);
-    let both = w.fill.lip + w.fill.lsp;
-    let mut lsp = w.fill.lsp;
-    let mut j = 0;
-    while j < m {
-        let e = lists::lip_at(s, run.stretch.n, from + j);
-        let past = j + (lsp - w.fill.lsp);
-        lsp = read_one(run, s, filled(w.fill, both + j, lsp), few, past, e);
-        j += 1;
-    }
-    ends_behind(w, m, lsp)
-}
-
-// The decoder tests the coefficient of an entry by itself, where few bits are left.
-fn read_alone(run: Run, body: &[u8], s: &mut [u32], w: Stand, e: usize) -> Ends
-    requires { (run.stretch.role ≡ Reads) × (run.plane.0 < most_planes) × Fits run.stretch s.old w.fill × (run.stretch.n < 2 ^ 32)
-        × (w.fill.lip + w.fill.lsp < run.stretch.n) × (w.at.at + 2 < 2 ^ 62) × (e < 2 ^ 32) × Inside run.stretch (coefficient e) }
-    ensures { Read run body.now (coefficient e ∷ []) s.old w
-        s.new (moved_to w result) }
-{
-    let told = read_found(body, w.at);
+    let told = ask_found(run, body, out, w.at, e);
     let x = lists::coefficient_of(e);
     note_tested(run, s, w.fill, told.next, x, told.found, told.negative);
     let fill = lists::push_tested(s, run.stretch, w.fill, e, told.found);
     let at = told.next;
     ends_of(Stand { fill, at })
-}
-
-// The decoder's tests of m entries: in groups while the bits of a group are there, then one by one.
-fn read_each(run: Run, body: &[u8], s: &mut [u32], w: Stand, m: usize) -> Ends
-    requires { (run.stretch.role ≡ Reads) × Grouping run w.fill.lip m s.old w }
-    ensures { Read run body.now (waiting run.stretch.n w.fill.lip m s.old) s.old w
-        s.new (moved_to w result) }
-{
-    let mut r = ends_of(w);
-    let first = w.fill.lip;
-    let mut i = 0;
-    while i < m {
-        let at = r.at;
-        if run.until.at < at.at + 16 {
-            let e = lists::lip_at(s, run.stretch.n, first + i);
-            r = read_alone(run, body, s, moved_to(w, r), e);
-            i += 1;
-        } else {
-            let few = few_of(m - i);
-            r = read_few(run, body, s, moved_to(w, r), first + i, few);
-            i += few;
-        }
-    }
-    r
 }
 
 // Step 1, and the offspring of an opened set: the m coefficients that wait behind LIP are tested, in order. Those that stay are put to its end, which
@@ -400,12 +283,15 @@ pub fn test_each(run: Run, body: &[u8], s: &mut [u32], w: Stand, out: &mut [u8],
     ensures { Tested run body.now (waiting run.stretch.n w.fill.lip m s.old) s.old out.old w
         s.new out.new (moved_to w result) }
 {
-    let stretch = run.stretch;
-    let role = stretch.role;
-    match role {
-        Role::Codes => code_each(run, s, w, out, m),
-        Role::Reads => read_each(run, body, s, w, m),
+    let mut r = ends_of(w);
+    let first = w.fill.lip;
+    let mut i = 0;
+    while i < m {
+        let e = lists::lip_at(s, run.stretch.n, first + i);
+        i += 1;
+        r = test(run, body, s, moved_to(w, r), out, e);
     }
+    r
 }
 
 // The refinement of a coefficient.
@@ -426,63 +312,7 @@ fn refine(
     bit.next
 }
 
-// The bits of sixteen coefficients of LSP, from the i-th on, as a number, the first highest.
-fn gather(run: Run, s: &[u32], i: usize, at: BitPosition) -> u32
-    requires { Sixteen run i s.now at }
-    ensures { result ≡ weigh 16 (said_of run s.now (known_from run.stretch.n i 16 s.now)) }
-{
-    let n = run.plane.0;
-    let mut r: u32 = 0;
-    let mut j = 0;
-    while j < 16 {
-        let x = lists::lsp_at(s, run.stretch.n, i + j);
-        let word = word_at(run, s, x);
-        r = 2 * r + (word / 2 >> n) % 2;
-        j += 1;
-    }
-    r
-}
-
-// The decoder refines sixteen coefficients of LSP, from the i-th on: one look for all their bits.
-fn read_sixteen(run: Run, body: &[u8], s: &mut [u32], i: usize, at: BitPosition) -> BitPosition
-    requires { (run.stretch.role ≡ Reads) × Sixteen run i s.old at × Silent run body.now }
-    ensures { Sharpened run body.now (known_from run.stretch.n i 16 s.old) s.old at s.new result }
-{
-    let few = at.peek(body);
-    let mut next = at;
-    let mut j = 0;
-    while j < 16 {
-        let x = lists::lsp_at(s, run.stretch.n, i + j);
-        let bit = bits::bit_in(few, j);
-        next = BitPosition { at: next.at + 1 };
-        note_refined(run, s, next, x, bit);
-        j += 1;
-    }
-    next
-}
-
-// Sixteen coefficients of LSP, from the i-th on, are refined.
-fn refine_sixteen(
-    run: Run,
-    body: &[u8],
-    s: &mut [u32],
-    i: usize,
-    out: &mut [u8],
-    at: BitPosition,
-) -> BitPosition
-    requires { Sixteen run i s.old at × Silent run body.now }
-    ensures { Refined run body.now (known_from run.stretch.n i 16 s.old) s.old out.old at
-        s.new out.new result }
-{
-    let stretch = run.stretch;
-    let role = stretch.role;
-    match role {
-        Role::Codes => at.write_few(out, gather(run, s, i, at), 16),
-        Role::Reads => read_sixteen(run, body, s, i, at),
-    }
-}
-
-// Step 3: each of the m entries of LSP that came in at an earlier plane, sixteen at a time while there are so many.
+// Step 3: each of the m entries of LSP that came in at an earlier plane.
 pub fn refine_lsp(
     run: Run,
     body: &[u8],
@@ -498,14 +328,9 @@ pub fn refine_lsp(
     let mut next = at;
     let mut i = 0;
     while i < m {
-        if m - i < 16 {
-            let x = lists::lsp_at(s, run.stretch.n, i);
-            i += 1;
-            next = refine(run, body, s, out, next, x);
-        } else {
-            next = refine_sixteen(run, body, s, i, out, next);
-            i += 16;
-        }
+        let x = lists::lsp_at(s, run.stretch.n, i);
+        i += 1;
+        next = refine(run, body, s, out, next, x);
     }
     next
 }

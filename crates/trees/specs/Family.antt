@@ -6,7 +6,6 @@
 --   group g's even, even coefficient  g
 --
 --   tree_level z x        level of tree number x, 0 outside the pyramid
---   tree_part z x         the level that its bits are coded with
 --   tree_offspring z x    its offspring
 --   tree_descendants z x  its descendants
 --   tree_max_d z m g x     the largest of a measure m in D, over g generations
@@ -19,17 +18,16 @@ use Rattle.std.proofs.Math.Path.{refl, ap, ap₂, sym}
 use Rattle.std.proofs.Common.{◌∙◌, arith}
 use mathlib.Core.List.{List, [], ◌∷◌, ◌++◌, map}
 use Rattle.std.proofs.Math.Bool.{cond, and-false}
-use Prim.Native.Nat.{ℕ, zero, suc, ◌+◌, ◌-◌, ◌*◌, ◌/◌, ◌%◌, ◌^◌, ◌≤◌, ◌<◌, max, min}
+use Prim.Native.Nat.{ℕ, zero, suc, ◌+◌, ◌-◌, ◌*◌, ◌/◌, ◌%◌, ◌^◌, ◌≤◌, ◌<◌, max}
 use Rattle.std.proofs.Math.Nat.{mul-le-mul}
 use Rattle.std.proofs.Math.Decide.{dec_lt, ℕ_discrete}
 use Rattle.std.proofs.Math.Pow.{shr_le}
 use borrow.Author.Tests.{le-leb, lt-leb, lt-ltb, le-ltb, ne_eqb}
 use Rattle.rules.specs.declared.Size.{Size}
 use Rattle.rules.specs.Document.Notation.{flat, greatest}
-use Rattle.rules.specs.Document.Pyramid.{Family, family, area, odd, index, row, column, depths, levels, level_of, part_level, offspring_of, generations}
-use Rattle.rules.specs.Document.Pyramid.{descendants_of, max_d, max_l}
+use Rattle.rules.specs.Document.Pyramid.{Family, family, area, odd, index, row, column, levels, level_of, offspring_of, generations, descendants_of, max_d, max_l}
 use Rattle.rules.specs.Promises.Vocabulary.{Legal}
-use Rattle.rules.specs.Laws.Family.Sizes.{span, span_whole, span_quarter, side_falls, depth_size_fine}
+use Rattle.rules.specs.Laws.Family.Sizes.{span, span_whole, span_quarter, side_falls, level_size_fine}
 use Rattle.rules.specs.Laws.Offspring.Level.{level_area}
 use Rattle.rules.specs.Laws.Offspring.Block.{row_index, column_index, half_columns, block_ll, offspring_band, offspring_leaf}
 use Rattle.rules.specs.Laws.Offspring.Kin.{rows_2, columns_2}
@@ -43,10 +41,10 @@ module _ (z : Size) where
   tree_up_to (suc k) x = cond (ltb x (span z k)) (suc k) (tree_up_to k x)
 
   unfoldable pub tree_level : ℕ → ℕ
-  tree_level x = tree_up_to (depths z) x
+  tree_level x = tree_up_to (levels z) x
 
   unfoldable pub tree_offspring : ℕ → List ℕ
-  tree_offspring x = cond (leb (span z (depths z)) x && ltb x (span z 1)) (four_of (λ y. y) x) []
+  tree_offspring x = cond (leb (span z (levels z)) x && ltb x (span z 1)) (four_of (λ y. y) x) []
 
   unfoldable pub tree_generations : ℕ → ℕ → List ℕ
   tree_generations zero x = []
@@ -62,18 +60,14 @@ module _ (z : Size) where
   unfoldable pub tree_max_l : (ℕ → ℕ) → ℕ → ℕ → ℕ
   tree_max_l m g x = greatest (tree_max_d m g) (tree_offspring x)
 
-  -- the level that its bits are coded with
-  abbrev pub tree_part : ℕ → ℕ
-  tree_part x = min (tree_level x) (levels z)
-
   abbrev pub trees : Family
-  trees = record { offspring = tree_offspring; descendants = tree_descendants; level = tree_part }
+  trees = record { offspring = tree_offspring; descendants = tree_descendants; level = tree_level }
 
-  unfoldable pub groupAt : ℕ → ℕ
-  groupAt g = index z (2 * (g / half_columns z)) (2 * (g % half_columns z))
+  unfoldable pub group_at : ℕ → ℕ
+  group_at g = index z (2 * (g / half_columns z)) (2 * (g % half_columns z))
 
   unfoldable pub in_band : ℕ → ℕ
-  in_band x = cond (ltb x (span z (depths z))) (groupAt x) (root_at z (x - span z (depths z)))
+  in_band x = cond (ltb x (span z (levels z))) (group_at x) (root_at z (x - span z (levels z)))
 
   unfoldable pub coefficient_at : ℕ → ℕ → ℕ
   coefficient_at zero x = x
@@ -92,7 +86,7 @@ module _ (z : Size) where
   unfolding span
   span_falls j k h = mul-le-mul (side_falls z.h j k h) (side_falls z.w j k h)
 
-  up_to_lies : (f x : ℕ) → f ≤ depths z → (f ≤ z.n → span z f ≤ x) → Lies (tree_up_to z f x) x
+  up_to_lies : (f x : ℕ) → f ≤ levels z → (f ≤ z.n → span z f ≤ x) → Lies (tree_up_to z f x) x
   unfolding tree_up_to Lies
   up_to_lies zero x m g = omega (arith, g (omega arith), span_whole z)
   up_to_lies (suc f) x m g = go (dec_lt x (span z f)) (up_to_lies f x (omega arith))
@@ -104,9 +98,9 @@ module _ (z : Size) where
 
   pub lies : (x : ℕ) → Lies (tree_level z x) x
   unfolding tree_level
-  lies x = up_to_lies (depths z) x (omega arith) (λ l. absurd (omega arith))
+  lies x = up_to_lies (levels z) x (omega arith) (λ l. absurd (omega arith))
 
-  up_to_at : (f k x : ℕ) → k < f → f ≤ depths z → x < span z k → (suc k ≤ z.n → span z (suc k) ≤ x) → tree_up_to z f x ≡ suc k
+  up_to_at : (f k x : ℕ) → k < f → f ≤ levels z → x < span z k → (suc k ≤ z.n → span z (suc k) ≤ x) → tree_up_to z f x ≡ suc k
   unfolding tree_up_to
   up_to_at zero k x l m h g = absurd (omega arith)
   up_to_at (suc f) k x l m h g = go (ℕ_discrete k f) (λ i. up_to_at f k x i (omega arith) h g)
@@ -118,14 +112,14 @@ module _ (z : Size) where
 
   pub level_at_lem : (k x : ℕ) → k ≤ z.n → x < span z k → (suc k ≤ z.n → span z (suc k) ≤ x) → tree_level z x ≡ suc k
   unfolding tree_level
-  level_at_lem k x m h g = up_to_at (depths z) k x (omega arith) (omega arith) h g
+  level_at_lem k x m h g = up_to_at (levels z) k x (omega arith) (omega arith) h g
 
   -- the coefficient of a number, by its level
   pub coefficient_fine : (k x : ℕ) → suc k ≤ z.n → tree_level z x ≡ suc k → coefficient_of z x ≡ raster_of z (suc k) (x - span z (suc k))
   unfolding coefficient_of coefficient_at
   coefficient_fine k x l e = rw (e, lt-ltb k z.n l)
 
-  pub coefficient_band : (x : ℕ) → tree_level z x ≡ depths z → coefficient_of z x ≡ in_band z x
+  pub coefficient_band : (x : ℕ) → tree_level z x ≡ levels z → coefficient_of z x ≡ in_band z x
   unfolding coefficient_of coefficient_at
   coefficient_band x e = rw (e, le-ltb z.n z.n (omega arith))
 
@@ -133,56 +127,56 @@ module _ (z : Size) where
   unfolding coefficient_of coefficient_at
   coefficient_none x e = rw e
 
-  pub group_in : (x : ℕ) → x < span z (depths z) → in_band z x ≡ groupAt z x
+  pub group_in : (x : ℕ) → x < span z (levels z) → in_band z x ≡ group_at z x
   unfolding in_band
-  group_in x h = rw (lt-ltb x (span z (depths z)) h)
+  group_in x h = rw (lt-ltb x (span z (levels z)) h)
 
-  pub root_in : (x : ℕ) → span z (depths z) ≤ x → in_band z x ≡ root_at z (x - span z (depths z))
+  pub root_in : (x : ℕ) → span z (levels z) ≤ x → in_band z x ≡ root_at z (x - span z (levels z))
   unfolding in_band
-  root_in x h = rw (le-ltb x (span z (depths z)) h)
+  root_in x h = rw (le-ltb x (span z (levels z)) h)
 
-  pub tree_offspring_some : (x : ℕ) → span z (depths z) ≤ x → x < span z 1 → tree_offspring z x ≡ four_of (λ y. y) x
+  pub tree_offspring_some : (x : ℕ) → span z (levels z) ≤ x → x < span z 1 → tree_offspring z x ≡ four_of (λ y. y) x
   unfolding tree_offspring
-  tree_offspring_some x h l = rw (le-leb (span z (depths z)) x h, lt-ltb x (span z 1) l)
+  tree_offspring_some x h l = rw (le-leb (span z (levels z)) x h, lt-ltb x (span z 1) l)
 
   pub tree_offspring_none : (x : ℕ) → span z 1 ≤ x → tree_offspring z x ≡ []
   unfolding tree_offspring
-  tree_offspring_none x h = rw (le-ltb x (span z 1) h) (ap (λ b. cond b (four_of (λ y. y) x) []) (and-false (leb (span z (depths z)) x)))
+  tree_offspring_none x h = rw (le-ltb x (span z 1) h) (ap (λ b. cond b (four_of (λ y. y) x) []) (and-false (leb (span z (levels z)) x)))
 
-  pub tree_offspring_group : (x : ℕ) → x < span z (depths z) → tree_offspring z x ≡ []
+  pub tree_offspring_group : (x : ℕ) → x < span z (levels z) → tree_offspring z x ≡ []
   unfolding tree_offspring
-  tree_offspring_group x h = rw (lt-leb (span z (depths z)) x h)
+  tree_offspring_group x h = rw (lt-leb (span z (levels z)) x h)
 
 module _ (z : Size) (Z : Legal z) where
   -- The even, even coefficients of the band.
-  module _ (g : ℕ) (h : g < span z (depths z)) where
+  module _ (g : ℕ) (h : g < span z (levels z)) where
     column_within : 2 * (g % half_columns z) < band_width z
     column_within = omega (arith, columns_2 z Z, group_column_lt z Z g)
 
     row_within : 2 * (g / half_columns z) < z.h / 2 ^ z.n
     row_within = omega (arith, rows_2 z Z, group_row_lt z Z g h)
 
-    pub group_row : row z (groupAt z g) ≡ 2 * (g / half_columns z)
-    unfolding groupAt
+    pub group_row : row z (group_at z g) ≡ 2 * (g / half_columns z)
+    unfolding group_at
     group_row = row_index z _ _ (omega (arith, column_within, shr_le z.w z.n))
 
-    pub group_column : column z (groupAt z g) ≡ 2 * (g % half_columns z)
-    unfolding groupAt
+    pub group_column : column z (group_at z g) ≡ 2 * (g % half_columns z)
+    unfolding group_at
     group_column = column_index z _ _ (omega (arith, column_within, shr_le z.w z.n))
 
-    pub group_level : level_of z (groupAt z g) ≡ depths z
-    group_level = in_band_lem z (groupAt z g) (omega (arith, group_row, row_within)) (omega (arith, group_column, column_within))
+    pub group_level : level_of z (group_at z g) ≡ levels z
+    group_level = in_band_lem z (group_at z g) (omega (arith, group_row, row_within)) (omega (arith, group_column, column_within))
 
-    pub group_even : odd (row z (groupAt z g)) || odd (column z (groupAt z g)) ≡ false
+    pub group_even : odd (row z (group_at z g)) || odd (column z (group_at z g)) ≡ false
     group_even =
-        let r : odd (row z (groupAt z g)) ≡ false = ne_eqb (row z (groupAt z g) % 2) 1 (λ e. omega (arith, group_row)) in
-        let c : odd (column z (groupAt z g)) ≡ false = ne_eqb (column z (groupAt z g) % 2) 1 (λ e. omega (arith, group_column)) in
+        let r : odd (row z (group_at z g)) ≡ false = ne_eqb (row z (group_at z g) % 2) 1 (λ e. omega (arith, group_row)) in
+        let c : odd (column z (group_at z g)) ≡ false = ne_eqb (column z (group_at z g) % 2) 1 (λ e. omega (arith, group_column)) in
         ap₂ ◌||◌ r c
 
-    group_offspring : offspring_of z (groupAt z g) ≡ []
+    group_offspring : offspring_of z (group_at z g) ≡ []
     group_offspring =
-        offspring_band z Z (groupAt z g) (omega (arith, group_level))
-        ∙ ap (λ b. cond b (block_ll z (row z (groupAt z g)) (column z (groupAt z g))) []) group_even
+        offspring_band z Z (group_at z g) (omega (arith, group_level))
+        ∙ ap (λ b. cond b (block_ll z (row z (group_at z g)) (column z (group_at z g))) []) group_even
 
   pub coefficient_out : (x : ℕ) → area z ≤ x → coefficient_of z x ≡ x
   unfolding Lies
@@ -203,27 +197,23 @@ module _ (z : Size) (Z : Legal z) where
           none : (m : ℕ) → level_of z x ≡ m → level_of z x ≡ 0
           none zero v = v
           none (suc m) v = absurd (omega (arith, level_area z Z x (omega arith)))
-      go (suc k) e l = cases (dec_lt k z.n) (dec_lt x (span z (depths z)))
+      go (suc k) e l = cases (dec_lt k z.n) (dec_lt x (span z (levels z)))
         where
-          cases : Dec (k < z.n) → Dec (x < span z (depths z)) → level_of z (coefficient_of z x) ≡ suc k
+          cases : Dec (k < z.n) → Dec (x < span z (levels z)) → level_of z (coefficient_of z x) ≡ suc k
           cases (yes m) d =
               ap (level_of z) (coefficient_fine z k x m e)
               ∙ raster_level z Z (suc k) (x - span z (suc k)) (omega arith) m
-              (omega (arith, l.0, l.1 m, depth_size_fine z Z (suc k) (omega arith) m, span_quarter z Z k (omega arith)))
+              (omega (arith, l.0, l.1 m, level_size_fine z Z (suc k) (omega arith) m, span_quarter z Z k (omega arith)))
           cases (no m) d =
               let n : k ≡ z.n = omega (arith, l.2) in
               ap (level_of z) (coefficient_band z x (e ∙ ap suc n)) ∙ band d ∙ ap suc (sym n)
             where
-              band : Dec (x < span z (depths z)) → level_of z (in_band z x) ≡ depths z
+              band : Dec (x < span z (levels z)) → level_of z (in_band z x) ≡ levels z
               band (yes h) = ap (level_of z) (group_in z x h) ∙ group_level x h
               band (no h) =
                   let q : span z k ≡ span z z.n = ap (span z) (omega (arith, l.2)) in
                   ap (level_of z) (root_in z x (omega arith))
-                  ∙ root_level z Z (x - span z (depths z)) (omega (arith, l.0, span_quarter z Z z.n (omega arith)))
-
-  pub part_same : (x : ℕ) → part_level z (coefficient_of z x) ≡ tree_part z x
-  unfolding part_level
-  part_same x = ap (λ (k : ℕ). min k (levels z)) (level_same x)
+                  ∙ root_level z Z (x - span z (levels z)) (omega (arith, l.0, span_quarter z Z z.n (omega arith)))
 
   -- Offspring are the same: the numbers under x are the nodes under its coefficient.
   module _ (k x : ℕ) (m : suc k ≤ z.n) (h : span z (suc (suc k)) ≤ x) (l : x < span z (suc k)) where
@@ -249,7 +239,7 @@ module _ (z : Size) (Z : Legal z) where
 
     under_some : tree_offspring z x ≡ four_of (λ y. y) x
     under_some =
-        tree_offspring_some z x (omega (arith, span_falls z (suc (suc k)) (depths z) (omega arith))) (omega (arith, span_falls z 1 (suc k) (omega arith)))
+        tree_offspring_some z x (omega (arith, span_falls z (suc (suc k)) (levels z) (omega arith))) (omega (arith, span_falls z 1 (suc k) (omega arith)))
 
   pub offspring_same : (x : ℕ) → offspring_of z (coefficient_of z x) ≡ map (coefficient_of z) (tree_offspring z x)
   unfolding Lies
@@ -259,7 +249,7 @@ module _ (z : Size) (Z : Legal z) where
       leaf h l =
           offspring_leaf z Z (coefficient_of z x) (omega (arith, level_same x)) ∙ sym (ap (map (coefficient_of z)) (tree_offspring_none z x h))
 
-      band : tree_level z x ≡ depths z → x < span z z.n → Dec (x < span z (depths z))
+      band : tree_level z x ≡ levels z → x < span z z.n → Dec (x < span z (levels z))
           → offspring_of z (coefficient_of z x) ≡ map (coefficient_of z) (tree_offspring z x)
       band e l (yes h) =
           ap (offspring_of z) (coefficient_band z x e ∙ group_in z x h)
@@ -267,10 +257,10 @@ module _ (z : Size) (Z : Legal z) where
           ∙ sym (ap (map (coefficient_of z)) (tree_offspring_group z x h))
       band e l (no h) =
           let n : suc (z.n - 1) ≡ z.n = omega (arith, Z.some) in
-          let a : span z (suc (suc (z.n - 1))) ≡ span z (depths z) = ap (λ (y : ℕ). span z (suc y)) n in
+          let a : span z (suc (suc (z.n - 1))) ≡ span z (levels z) = ap (λ (y : ℕ). span z (suc y)) n in
           let b : span z (suc (z.n - 1)) ≡ span z z.n = ap (span z) n in
           ap (offspring_of z) (coefficient_band z x e ∙ root_in z x (omega arith))
-          ∙ offspring_root z Z (x - span z (depths z)) (omega (arith, span_quarter z Z z.n (omega arith)))
+          ∙ offspring_root z Z (x - span z (levels z)) (omega (arith, span_quarter z Z z.n (omega arith)))
           ∙ ap₂ (λ (j u : ℕ). four_of (raster_of z j) u) (sym n) (ap (λ (y : ℕ). x - y) (sym a))
           ∙ nodes_under (z.n - 1) x (omega arith) (omega arith) (omega arith)
           ∙ sym (ap (map (coefficient_of z)) (under_some (z.n - 1) x (omega arith) (omega arith) (omega arith)))
@@ -284,13 +274,13 @@ module _ (z : Size) (Z : Legal z) where
           cases (yes m) =
               ap (offspring_of z) (coefficient_fine z (suc k) x m e)
               ∙ offspring_tree z Z (suc k) (x - span z (suc (suc k))) (omega arith) m
-              (omega (arith, l.0, l.1 m, depth_size_fine z Z (suc (suc k)) (omega arith) m, span_quarter z Z (suc k) (omega arith)))
+              (omega (arith, l.0, l.1 m, level_size_fine z Z (suc (suc k)) (omega arith) m, span_quarter z Z (suc k) (omega arith)))
               ∙ nodes_under k x (omega arith) (l.1 m) l.0
               ∙ sym (ap (map (coefficient_of z)) (under_some k x (omega arith) (l.1 m) l.0))
           cases (no m) =
               let n : suc k ≡ z.n = omega (arith, l.2) in
               let q : span z (suc k) ≡ span z z.n = ap (span z) n in
-              band (e ∙ ap suc n) (omega (arith, l.0)) (dec_lt x (span z (depths z)))
+              band (e ∙ ap suc n) (omega (arith, l.0)) (dec_lt x (span z (levels z)))
 
   pub generations_same : (g x : ℕ) → generations z g (coefficient_of z x) ≡ map (coefficient_of z) (tree_generations z g x)
   unfolding generations tree_generations
@@ -308,7 +298,7 @@ module _ (z : Size) (Z : Legal z) where
 
   -- Document 01's family is the family on tree numbers, renamed.
   pub trees_rename : Renames (coefficient_of z) (family z) (trees z)
-  trees_rename = record { offspring = offspring_same; descendants = descendants_same; level = part_same }
+  trees_rename = record { offspring = offspring_same; descendants = descendants_same; level = level_same }
 
   -- Maxima are the same, over any measure.
   module _ (m : ℕ → ℕ) where

@@ -8,5 +8,4 @@ pub mod Run
 pub mod Decoding
 pub mod Lawful
 pub mod Sound
-pub mod Members
 pub mod Measure

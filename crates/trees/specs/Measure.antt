@@ -14,7 +14,7 @@ use Rattle.std.proofs.Math.Decide.{dec_lt}
 use Rattle.std.proofs.lemmas.Bool.{lt-leb}
 use Rattle.rules.specs.declared.Size.{Size}
 use Rattle.rules.specs.Document.Notation.{any, greatest}
-use Rattle.rules.specs.Document.Pyramid.{Family, depths, log2_down, planes_of}
+use Rattle.rules.specs.Document.Pyramid.{Family, levels, log2_down, planes_of}
 use Rattle.rules.specs.Document.Passes.{Entry, typeA, typeB, set?, members, truth}
 use Rattle.rules.specs.Laws.Counting.Sums.{every_all}
 use Rattle.rules.specs.Laws.Family.Sizes.{span, span_quarter, span_whole}
@@ -105,7 +105,7 @@ most_assoc a b c = omega arith
 most_last : (a : ℕ) → max a 0 ≡ a
 most_last a = omega arith
 
-four_most_lem : (z : Size) (f : ℕ → ℕ) (x : ℕ) → span z (depths z) ≤ x → x < span z 1 → greatest f (tree_offspring z x) ≡ four_most f x
+four_most_lem : (z : Size) (f : ℕ → ℕ) (x : ℕ) → span z (levels z) ≤ x → x < span z 1 → greatest f (tree_offspring z x) ≡ four_most f x
 unfolding greatest
 four_most_lem z f x a b =
     ap (greatest f) (tree_offspring_some z x a b)
@@ -119,7 +119,7 @@ module _ (z : Size) (Z : Legal z) (m : ℕ → ℕ) where
   pub largest_l_step : (x : ℕ) → largest_l z m x ≡ greatest (λ y. largest_d z m y) (tree_offspring z x)
   largest_l_step x = set_b (trees z) m x
 
-  module _ (x : ℕ) (a : span z (depths z) ≤ x) where
+  module _ (x : ℕ) (a : span z (levels z) ≤ x) where
     pub largest_d_four : x < span z 1 → largest_d z m x ≡ max (four_most m x) (largest_l z m x)
     largest_d_four b = largest_d_step x ∙ ap (λ (y : ℕ). max y (largest_l z m x)) (four_most_lem z m x a b)
 
@@ -146,7 +146,7 @@ module _ (z : Size) (Z : Legal z) (m : ℕ → ℕ) where
       by : Dec (x < span z 1) → largest_l z m x ≡ 0
       by (no d) = (no_offspring x (tree_offspring_none z x (omega arith))).1
       by (yes l) =
-          largest_l_four x (omega (arith, span_falls z 2 (depths z) (omega (arith, Z.some)))) l
+          largest_l_four x (omega (arith, span_falls z 2 (levels z) (omega (arith, Z.some)))) l
           ∙ four_same (λ y. largest_d z m y) (λ y. 0) x x (λ i f. largest_d_leaf (4 * x + i) (omega (arith, q)))
 
   -- tree_max_d finds them, over as many generations as there are levels below.

@@ -25,9 +25,9 @@ use Rattle.std.proofs.Math.Arith.{digits_div, digits_mod}
 use Rattle.std.proofs.lemmas.Nat.{shr_le}
 use borrow.Author.Tests.{le-leb, lt-leb}
 use Rattle.rules.specs.declared.Size.{Size}
-use Rattle.rules.specs.Document.Pyramid.{area, odd, index, row, column, depths, level_of, block, offspring_of}
+use Rattle.rules.specs.Document.Pyramid.{area, odd, index, row, column, levels, level_of, block, offspring_of}
 use Rattle.rules.specs.Promises.Vocabulary.{Legal}
-use Rattle.rules.specs.Laws.Family.Sizes.{span, depth_size, span_quarter, depth_size_fine, depth_size_top, side_some}
+use Rattle.rules.specs.Laws.Family.Sizes.{span, level_size, span_quarter, level_size_fine, level_size_top, side_some}
 use Rattle.rules.specs.Laws.Offspring.Level.{Within, level_most, over_within, within_over, outside_level, level_least}
 use Rattle.rules.specs.Laws.Offspring.Block.{apart, together, together_lt, together_odd, apart_together, apart_lt, apart_low, together_apart, row_index}
 use Rattle.rules.specs.Laws.Offspring.Block.{column_index, index_place, half_rows, half_columns, block_ll, offspring_band, offspring_inner}
@@ -57,7 +57,7 @@ module _ (z : Size) where
   root_of_band p = tree_at 0 (apart (half_rows z) (row z p)) (apart (half_columns z) (column z p))
 
   abbrev pub depth_of : ℕ → ℕ
-  depth_of k = depths z - k
+  depth_of k = levels z - k
 
   abbrev pub band_width : ℕ
   band_width = z.w / 2 ^ z.n
@@ -86,7 +86,7 @@ module _ (z : Size) where
   raster_fine k d t h e = rw (le-leb k z.n h, e)
 
   -- what stands in the LL band's rows and columns is of its level
-  pub in_band_lem : (q : ℕ) → row z q < z.h / 2 ^ z.n → column z q < band_width z → level_of z q ≡ depths z
+  pub in_band_lem : (q : ℕ) → row z q < z.h / 2 ^ z.n → column z q < band_width z → level_of z q ≡ levels z
   in_band_lem q r c = omega (arith, level_most z q, within_over z z.n q (omega arith) (r, c))
 
 module _ (z : Size) (Z : Legal z) where
@@ -97,7 +97,7 @@ module _ (z : Size) (Z : Legal z) where
   half_columns_some = side_some z.n z.w Z.width (suc z.n) (omega arith)
 
   -- Groups, row by row.
-  pub group_row_lt : (g : ℕ) → g < span z (depths z) → g / half_columns z < half_rows z
+  pub group_row_lt : (g : ℕ) → g < span z (levels z) → g / half_columns z < half_rows z
   unfolding span
   group_row_lt g h = (div-lt_iff_lt-mul {x = g} {y = half_rows z} half_columns_some).1 h
 
@@ -143,10 +143,10 @@ module _ (z : Size) (Z : Legal z) where
     column_in : tree_column z d t < z.w
     column_in = omega (arith, (node_stands d j t e h).1, shr_le z.w j)
 
-    pub at_row : row z (index z (tree_row z d t) (tree_column z d t)) ≡ tree_row z d t
+    at_row : row z (index z (tree_row z d t) (tree_column z d t)) ≡ tree_row z d t
     at_row = row_index z (tree_row z d t) (tree_column z d t) column_in
 
-    pub at_column : column z (index z (tree_row z d t) (tree_column z d t)) ≡ tree_column z d t
+    at_column : column z (index z (tree_row z d t) (tree_column z d t)) ≡ tree_column z d t
     at_column = column_index z (tree_row z d t) (tree_column z d t) column_in
 
     at_level : 1 ≤ d → level_of z (index z (tree_row z d t) (tree_column z d t)) ≡ suc j
@@ -188,16 +188,16 @@ module _ (z : Size) (Z : Legal z) where
             ∙ ap (raster_of z (suc j)) (sym g)
 
   -- Nodes of level k: how many, which level they are of, and their offspring.
-  fine_count : (d j t : ℕ) → j + suc d ≡ z.n → t < depth_size z (suc j) → t < 3 * span z (suc j)
-  fine_count d j t e h = omega (arith, depth_size_fine z Z (suc j) (omega arith) (omega arith))
+  fine_count : (d j t : ℕ) → j + suc d ≡ z.n → t < level_size z (suc j) → t < 3 * span z (suc j)
+  fine_count d j t e h = omega (arith, level_size_fine z Z (suc j) (omega arith) (omega arith))
 
-  pub raster_level : (k t : ℕ) → 1 ≤ k → k ≤ z.n → t < depth_size z k → level_of z (raster_of z k t) ≡ k
+  pub raster_level : (k t : ℕ) → 1 ≤ k → k ≤ z.n → t < level_size z k → level_of z (raster_of z k t) ≡ k
   raster_level zero t l m h = absurd (omega arith)
   raster_level (suc j) t l m h =
       let e : j + suc (z.n - suc j) ≡ z.n = omega arith in
       ap (level_of z) (fine_depth (z.n - suc j) j t e) ∙ at_level (suc (z.n - suc j)) j t e (fine_count (z.n - suc j) j t e h) (omega arith)
 
-  pub offspring_tree : (k t : ℕ) → 1 ≤ k → k < z.n → t < depth_size z (suc k)
+  pub offspring_tree : (k t : ℕ) → 1 ≤ k → k < z.n → t < level_size z (suc k)
       → offspring_of z (raster_of z (suc k) t) ≡ four_of (raster_of z k) t
   offspring_tree zero t l m h = absurd (omega arith)
   offspring_tree (suc j) t l m h =
@@ -224,15 +224,15 @@ module _ (z : Size) (Z : Legal z) where
     root_in : together (half_columns z) (tree_column z 0 u) < z.w
     root_in = omega (arith, root_column_lt, columns_2 z Z, shr_le z.w z.n)
 
-    pub root_row : row z (root_at z u) ≡ together (half_rows z) (tree_row z 0 u)
+    root_row : row z (root_at z u) ≡ together (half_rows z) (tree_row z 0 u)
     unfolding root_at
     root_row = row_index z _ _ root_in
 
-    pub root_column : column z (root_at z u) ≡ together (half_columns z) (tree_column z 0 u)
+    root_column : column z (root_at z u) ≡ together (half_columns z) (tree_column z 0 u)
     unfolding root_at
     root_column = column_index z _ _ root_in
 
-    pub root_level : level_of z (root_at z u) ≡ depths z
+    pub root_level : level_of z (root_at z u) ≡ levels z
     root_level =
         in_band_lem z (root_at z u) (omega (arith, root_row, root_row_lt, rows_2 z Z)) (omega (arith, root_column, root_column_lt, columns_2 z Z))
 
@@ -264,25 +264,25 @@ module _ (z : Size) (Z : Legal z) where
   band_width_some = side_some z.n z.w Z.width z.n (omega arith)
 
   module _ (t : ℕ) where
-    top : raster_of z (depths z) t ≡ index z (t / band_width z) (t % band_width z)
+    top : raster_of z (levels z) t ≡ index z (t / band_width z) (t % band_width z)
     unfolding raster_of
-    top = rw (lt-leb (depths z) z.n (omega arith))
+    top = rw (lt-leb (levels z) z.n (omega arith))
 
     top_in : t % band_width z < z.w
     top_in = omega (arith, mod-lt t band_width_some, shr_le z.w z.n)
 
-    top_row : row z (raster_of z (depths z) t) ≡ t / band_width z
+    top_row : row z (raster_of z (levels z) t) ≡ t / band_width z
     top_row = ap (row z) top ∙ row_index z _ _ top_in
 
-    top_column : column z (raster_of z (depths z) t) ≡ t % band_width z
+    top_column : column z (raster_of z (levels z) t) ≡ t % band_width z
     top_column = ap (column z) top ∙ column_index z _ _ top_in
 
-    pub band_level_tree : t < depth_size z (depths z) → level_of z (raster_of z (depths z) t) ≡ depths z
+    pub band_level_tree : t < level_size z (levels z) → level_of z (raster_of z (levels z) t) ≡ levels z
     unfolding span
     band_level_tree h =
-        let q : ℕ = raster_of z (depths z) t in
+        let q : ℕ = raster_of z (levels z) t in
         let r : t / band_width z < z.h / 2 ^ z.n =
-        (div-lt_iff_lt-mul {x = t} {y = z.h / 2 ^ z.n} band_width_some).1 (omega (arith, depth_size_top z Z)) in
+        (div-lt_iff_lt-mul {x = t} {y = z.h / 2 ^ z.n} band_width_some).1 (omega (arith, level_size_top z Z)) in
         in_band_lem z q (omega (arith, top_row)) (omega (arith, top_column, mod-lt t band_width_some))
 
   -- Back from a place to the node: tree_at is the inverse of tree_row and tree_column, both ways.
@@ -410,11 +410,11 @@ module _ (z : Size) (Z : Legal z) where
       let m : depth_of z (suc j) ≡ suc d = omega arith in
       rw (v, le-leb (suc j) z.n (omega arith), m)
 
-  tree_top : (q : ℕ) → level_of z q ≡ depths z → tree_of z q ≡ row z q * band_width z + column z q
+  tree_top : (q : ℕ) → level_of z q ≡ levels z → tree_of z q ≡ row z q * band_width z + column z q
   unfolding tree_of
-  tree_top q v = rw (v, lt-leb (depths z) z.n (omega arith))
+  tree_top q v = rw (v, lt-leb (levels z) z.n (omega arith))
 
-  pub tree_raster : (k t : ℕ) → 1 ≤ k → k ≤ depths z → t < depth_size z k → tree_of z (raster_of z k t) ≡ t
+  pub tree_raster : (k t : ℕ) → 1 ≤ k → k ≤ levels z → t < level_size z k → tree_of z (raster_of z k t) ≡ t
   tree_raster zero t l m h = absurd (omega arith)
   tree_raster (suc j) t l m h = go (dec_lt j z.n)
     where
@@ -429,13 +429,13 @@ module _ (z : Size) (Z : Legal z) where
           ∙ tree_at_node (suc d) j t e c
       go (no f) =
           let n : j ≡ z.n = omega arith in
-          let i : depth_size z (suc j) ≡ depth_size z (depths z) = ap (λ (x : ℕ). depth_size z (suc x)) n in
+          let i : level_size z (suc j) ≡ level_size z (levels z) = ap (λ (x : ℕ). level_size z (suc x)) n in
           ap (λ (x : ℕ). tree_of z (raster_of z (suc x) t)) n
-          ∙ tree_top (raster_of z (depths z) t) (band_level_tree t (omega arith))
+          ∙ tree_top (raster_of z (levels z) t) (band_level_tree t (omega arith))
           ∙ ap₂ (λ (x y : ℕ). x * band_width z + y) (top_row t) (top_column t)
           ∙ div-add-mod' t (band_width z)
 
-  pub raster_one : (k t u : ℕ) → 1 ≤ k → k ≤ depths z → t < depth_size z k → u < depth_size z k → raster_of z k t ≡ raster_of z k u → t ≡ u
+  pub raster_one : (k t u : ℕ) → 1 ≤ k → k ≤ levels z → t < level_size z k → u < level_size z k → raster_of z k t ≡ raster_of z k u → t ≡ u
   raster_one k t u l m h g e = sym (tree_raster k t l m h) ∙ ap (tree_of z) e ∙ tree_raster k u l m g
 
   -- and every coefficient has its node
@@ -444,21 +444,21 @@ module _ (z : Size) (Z : Legal z) where
       let w : Within z j q = over_within z j q (omega arith) in
       (w.0, w.1, λ p c. omega (arith, within_over z (suc j) q l (p, c)))
 
-  pub raster_tree : (q : ℕ) → q < area z → (tree_of z q < depth_size z (level_of z q)) × (raster_of z (level_of z q) (tree_of z q) ≡ q)
+  pub raster_tree : (q : ℕ) → q < area z → (tree_of z q < level_size z (level_of z q)) × (raster_of z (level_of z q) (tree_of z q) ≡ q)
   raster_tree q h = go (level_of z q) refl (level_least z Z q h) (level_most z q)
     where
-      go : (k : ℕ) → level_of z q ≡ k → 1 ≤ k → k ≤ depths z → (tree_of z q < depth_size z k) × (raster_of z k (tree_of z q) ≡ q)
+      go : (k : ℕ) → level_of z q ≡ k → 1 ≤ k → k ≤ levels z → (tree_of z q < level_size z k) × (raster_of z k (tree_of z q) ≡ q)
       go zero v l m = absurd (omega arith)
       go (suc j) v l m = cases (dec_lt j z.n)
         where
-          cases : Dec (j < z.n) → (tree_of z q < depth_size z (suc j)) × (raster_of z (suc j) (tree_of z q) ≡ q)
+          cases : Dec (j < z.n) → (tree_of z q < level_size z (suc j)) × (raster_of z (suc j) (tree_of z q) ≡ q)
           cases (yes f) =
               let d : ℕ = z.n - suc j in
               let e : j + suc d ≡ z.n = omega arith in
               let s : Found (suc d) j (row z q) (column z q) =
               node_tree_at (suc d) j (row z q) (column z q) e (coefficient_stands j q (omega arith) v) in
               let p : tree_of z q ≡ tree_at z (suc d) (row z q) (column z q) = tree_fine d j q e v in (
-                omega (arith, s.2, depth_size_fine z Z (suc j) (omega arith) (omega arith)),
+                omega (arith, s.2, level_size_fine z Z (suc j) (omega arith) (omega arith)),
                 ap (raster_of z (suc j)) p
                     ∙ fine_depth d j (tree_at z (suc d) (row z q) (column z q)) e
                     ∙ ap₂ (index z) s.0 s.1
@@ -470,16 +470,16 @@ module _ (z : Size) (Z : Legal z) where
               let p : tree_of z q ≡ row z q * band_width z + column z q = tree_top q (v ∙ ap suc n) in
               let b : suc (row z q) * band_width z ≤ z.h / 2 ^ z.n * band_width z = mul-le-mul w.0 (omega arith) in
               rw n (
-                omega (arith, w.1, depth_size_top z Z, span_is z.n),
-                ap (raster_of z (depths z)) p
+                omega (arith, w.1, level_size_top z Z, span_is z.n),
+                ap (raster_of z (levels z)) p
                     ∙ top (row z q * band_width z + column z q)
                     ∙ ap₂ (index z) (digits_div (row z q) w.1) (digits_mod (row z q) w.1)
                     ∙ index_place z q,
               )
 
   -- and every coefficient of the band with an odd row or column its root
-  pub root_tree : (p : ℕ) → level_of z p ≡ depths z → odd (row z p) || odd (column z p) ≡ true
-      → (root_of_band z p < 3 * span z (depths z)) × (root_at z (root_of_band z p) ≡ p)
+  pub root_tree : (p : ℕ) → level_of z p ≡ levels z → odd (row z p) || odd (column z p) ≡ true
+      → (root_of_band z p < 3 * span z (levels z)) × (root_at z (root_of_band z p) ≡ p)
   unfolding root_of_band root_at
   root_tree p v o =
       let t : z.n < level_of z p = omega arith in
@@ -498,7 +498,7 @@ module _ (z : Size) (Z : Legal z) where
             ∙ index_place z p,
       )
 
-  pub tree_root_lem : (u : ℕ) → u < 3 * span z (depths z) → root_of_band z (root_at z u) ≡ u
+  pub tree_root_lem : (u : ℕ) → u < 3 * span z (levels z) → root_of_band z (root_at z u) ≡ u
   unfolding root_of_band
   tree_root_lem u h =
       ap₂ (tree_at z 0)

@@ -18,12 +18,12 @@ use Rattle.std.proofs.Math.Arith.{digits_div, digits_mod}
 use borrow.Author.Tests.{le-leb, lt-leb, eqb-false}
 use Rattle.rules.specs.declared.Size.{Size}
 use Rattle.rules.specs.Document.Notation.{flat, if_any}
-use Rattle.rules.specs.Document.Pyramid.{family, area, magnitude, negative, odd, index, row, column, depths, levels, level_of}
+use Rattle.rules.specs.Document.Pyramid.{family, area, magnitude, negative, odd, index, row, column, levels, level_of}
 use Rattle.rules.specs.Document.Passes.{Entry, typeA, Lists, State, band_ll, root_of, start, part_names}
-use Rattle.rules.specs.Document.Layout.{coded_parts, parts_with}
+use Rattle.rules.specs.Document.Layout.{coded_parts, planes_in, parts_of}
 use Rattle.rules.specs.Laws.Counting.Sums.{All, every_all}
 use Rattle.rules.specs.Promises.Vocabulary.{Legal}
-use Rattle.rules.specs.Laws.Family.Sizes.{span, depth_size, span_whole, span_quarter, depth_size_fine}
+use Rattle.rules.specs.Laws.Family.Sizes.{span, level_size, span_whole, span_quarter, level_size_fine}
 use Rattle.rules.specs.Laws.Offspring.Level.{level_most, level_least, level_area}
 use Rattle.rules.specs.Laws.Offspring.Block.{index_place, half_rows, half_columns}
 use Rattle.rules.specs.Laws.Offspring.Kin.{band_row, band_column}
@@ -31,12 +31,12 @@ use Rattle.rules.specs.Laws.Offspring.Once.{band_level}
 use Rattle.trees.specs.Places.{root_at, root_of_band, raster_of, tree_of, tree_raster, raster_tree, root_level, root_odd, root_tree, tree_root_lem}
 use Rattle.trees.specs.Renamed.{name_entry, name_lists, name_state, map_flat, if_any_renamed, coded_parts_renamed}
 use Rattle.trees.specs.Family.{tree_level, Lies, lies, level_same, coefficient_none, coefficient_out, span_falls, group_row, group_column, group_level}
-use Rattle.trees.specs.Family.{group_even, tree_offspring, trees, groupAt, in_band, coefficient_of, coefficient_fine, coefficient_band, group_in, root_in}
+use Rattle.trees.specs.Family.{group_even, tree_offspring, trees, group_at, in_band, coefficient_of, coefficient_fine, coefficient_band, group_in, root_in}
 use Rattle.trees.specs.Family.{level_at_lem, offspring_same, trees_rename}
 
 module _ (z : Size) where
   unfoldable pub band_number : Bool → ℕ → ℕ
-  band_number true q = span z (depths z) + root_of_band z q
+  band_number true q = span z (levels z) + root_of_band z q
   band_number false q = row z q / 2 * half_columns z + column z q / 2
 
   unfoldable pub number_of : ℕ → ℕ
@@ -68,9 +68,9 @@ module _ (z : Size) where
   unfolding number_of
   number_fine k q v m = rw (v, le-leb k z.n m)
 
-  pub number_band : (q : ℕ) → level_of z q ≡ depths z → number_of z q ≡ band_number z (odd (row z q) || odd (column z q)) q
+  pub number_band : (q : ℕ) → level_of z q ≡ levels z → number_of z q ≡ band_number z (odd (row z q) || odd (column z q)) q
   unfolding number_of
-  number_band q v = rw (v, lt-leb (depths z) z.n (omega arith))
+  number_band q v = rw (v, lt-leb (levels z) z.n (omega arith))
 
 -- Every coefficient is that of its number.
 module _ (z : Size) (Z : Legal z) where
@@ -79,17 +79,17 @@ module _ (z : Size) (Z : Legal z) where
       let r : _ = raster_tree z Z q h in
       let x : ℕ = span z (suc k) + tree_of z q in
       let s : x < span z k =
-      omega (arith, rw v at r.0, depth_size_fine z Z (suc k) (omega arith) m, span_quarter z Z k (omega arith)) in
+      omega (arith, rw v at r.0, level_size_fine z Z (suc k) (omega arith) m, span_quarter z Z k (omega arith)) in
       ap (coefficient_of z) (number_fine z (suc k) q v m)
       ∙ coefficient_fine z k x m (level_at_lem z k x (omega arith) s (λ l. omega arith))
       ∙ ap (raster_of z (suc k)) (omega arith)
       ∙ rw v at r.1
 
-  band_back : (q : ℕ) → level_of z q ≡ depths z → (b : Bool) → odd (row z q) || odd (column z q) ≡ b → coefficient_of z (band_number z b q) ≡ q
-  unfolding band_number groupAt span
+  band_back : (q : ℕ) → level_of z q ≡ levels z → (b : Bool) → odd (row z q) || odd (column z q) ≡ b → coefficient_of z (band_number z b q) ≡ q
+  unfolding band_number group_at span
   band_back q v true o =
       let r : _ = root_tree z Z q v o in
-      let x : ℕ = span z (depths z) + root_of_band z q in
+      let x : ℕ = span z (levels z) + root_of_band z q in
       let l : x < span z z.n = omega (arith, r.0, span_quarter z Z z.n (omega arith)) in
       coefficient_band z x (level_at_lem z z.n x (omega arith) l (λ i. absurd (omega arith)))
       ∙ root_in z x (omega arith)
@@ -101,7 +101,7 @@ module _ (z : Size) (Z : Legal z) where
       let c : column z q / 2 < half_columns z = omega (arith, band_column z Z q (omega arith)) in
       let x : ℕ = row z q / 2 * half_columns z + column z q / 2 in
       let p : suc (row z q / 2) * half_columns z ≤ half_rows z * half_columns z = mul-le-mul r (omega arith) in
-      let h : x < span z (depths z) = omega arith in
+      let h : x < span z (levels z) = omega arith in
       let l : x < span z z.n = omega (arith, span_quarter z Z z.n (omega arith)) in
       coefficient_band z x (level_at_lem z z.n x (omega arith) l (λ i. absurd (omega arith)))
       ∙ group_in z x h
@@ -112,29 +112,29 @@ module _ (z : Size) (Z : Legal z) where
   pub coefficient_number : (q : ℕ) → q < area z → coefficient_of z (number_of z q) ≡ q
   coefficient_number q h = go (level_of z q) refl (level_least z Z q h) (level_most z q)
     where
-      go : (k : ℕ) → level_of z q ≡ k → 1 ≤ k → k ≤ depths z → coefficient_of z (number_of z q) ≡ q
+      go : (k : ℕ) → level_of z q ≡ k → 1 ≤ k → k ≤ levels z → coefficient_of z (number_of z q) ≡ q
       go zero v l m = absurd (omega arith)
       go (suc k) v l m = cases (dec_lt k z.n)
         where
           cases : Dec (k < z.n) → coefficient_of z (number_of z q) ≡ q
           cases (yes i) = fine_back k q v i h
           cases (no i) =
-              let t : level_of z q ≡ depths z = omega arith in
+              let t : level_of z q ≡ levels z = omega arith in
               ap (coefficient_of z) (number_band z q t) ∙ band_back q t (odd (row z q) || odd (column z q)) refl
 
   -- Every number is that of its coefficient, so no two have the same.
-  root_number : (u : ℕ) → u < 3 * span z (depths z) → number_of z (root_at z u) ≡ span z (depths z) + u
+  root_number : (u : ℕ) → u < 3 * span z (levels z) → number_of z (root_at z u) ≡ span z (levels z) + u
   unfolding band_number
   root_number u h =
       number_band z (root_at z u) (root_level z Z u h)
       ∙ ap (λ b. band_number z b (root_at z u)) (root_odd z Z u h)
-      ∙ ap (λ (x : ℕ). span z (depths z) + x) (tree_root_lem z Z u h)
+      ∙ ap (λ (x : ℕ). span z (levels z) + x) (tree_root_lem z Z u h)
 
-  group_number : (g : ℕ) → g < span z (depths z) → number_of z (groupAt z g) ≡ g
+  group_number : (g : ℕ) → g < span z (levels z) → number_of z (group_at z g) ≡ g
   unfolding band_number
   group_number g h =
-      number_band z (groupAt z g) (group_level z Z g h)
-      ∙ ap (λ b. band_number z b (groupAt z g)) (group_even z Z g h)
+      number_band z (group_at z g) (group_level z Z g h)
+      ∙ ap (λ b. band_number z b (group_at z g)) (group_even z Z g h)
       ∙ ap₂ (λ (x y : ℕ). x * half_columns z + y) (omega (arith, group_row z Z g h)) (omega (arith, group_column z Z g h))
       ∙ div-add-mod' g (half_columns z)
 
@@ -142,11 +142,11 @@ module _ (z : Size) (Z : Legal z) where
   unfolding Lies
   number_coefficient x h = go (tree_level z x) refl (lies z x)
     where
-      band : Dec (x < span z (depths z)) → x < span z z.n → number_of z (in_band z x) ≡ x
+      band : Dec (x < span z (levels z)) → x < span z z.n → number_of z (in_band z x) ≡ x
       band (yes i) l = ap (number_of z) (group_in z x i) ∙ group_number x i
       band (no i) l =
           ap (number_of z) (root_in z x (omega arith))
-          ∙ root_number (x - span z (depths z)) (omega (arith, span_quarter z Z z.n (omega arith)))
+          ∙ root_number (x - span z (levels z)) (omega (arith, span_quarter z Z z.n (omega arith)))
           ∙ omega arith
 
       go : (k : ℕ) → tree_level z x ≡ k → Lies z k x → number_of z (coefficient_of z x) ≡ x
@@ -156,15 +156,15 @@ module _ (z : Size) (Z : Legal z) where
           cases : Dec (k < z.n) → number_of z (coefficient_of z x) ≡ x
           cases (yes m) =
               let t : ℕ = x - span z (suc k) in
-              let c : t < depth_size z (suc k) =
-              omega (arith, l.0, l.1 m, depth_size_fine z Z (suc k) (omega arith) m, span_quarter z Z k (omega arith)) in
+              let c : t < level_size z (suc k) =
+              omega (arith, l.0, l.1 m, level_size_fine z Z (suc k) (omega arith) m, span_quarter z Z k (omega arith)) in
               number_fine z (suc k) (coefficient_of z x) (level_same z Z x ∙ e) m
               ∙ ap (λ (y : ℕ). span z (suc k) + y) (ap (tree_of z) (coefficient_fine z k x m e) ∙ tree_raster z Z (suc k) t (omega arith) (omega arith) c)
               ∙ omega (arith, l.1 m)
           cases (no m) =
               let n : k ≡ z.n = omega (arith, l.2) in
               let q : span z k ≡ span z z.n = ap (span z) n in
-              ap (number_of z) (coefficient_band z x (e ∙ ap suc n)) ∙ band (dec_lt x (span z (depths z))) (omega (arith, l.0))
+              ap (number_of z) (coefficient_band z x (e ∙ ap suc n)) ∙ band (dec_lt x (span z (levels z))) (omega (arith, l.0))
 
   pub coefficient_under : (x : ℕ) → (x < area z → coefficient_of z x < area z) × (coefficient_of z x < area z → x < area z)
   unfolding Lies
@@ -224,9 +224,11 @@ module _ (z : Size) (Z : Legal z) where
       one true = λ i. record { lip = sym band_renamed i; lis = roots_renamed i; lsp = [] }
       one false = refl
 
-  pub parts_with_trees : (planes : ℕ) (v : List ℤ)
-      → parts_with z planes v
-      ≡ coded_parts (trees z) (λ x. magnitude v (coefficient_of z x)) (λ x. negative v (coefficient_of z x)) (part_names (levels z) planes) (tree_start z)
-  parts_with_trees planes v =
-      ap (coded_parts (family z) (magnitude v) (negative v) (part_names (levels z) planes)) start_trees
-      ∙ coded_parts_renamed (coefficient_of z) (family z) (trees z) (trees_rename z Z) (magnitude v) (negative v) (part_names (levels z) planes) (tree_start z)
+  pub parts_of_trees : (v : List ℤ)
+      → parts_of z v
+      ≡ coded_parts (trees z) (λ x. magnitude v (coefficient_of z x)) (λ x. negative v (coefficient_of z x)) (part_names (levels z) (planes_in v)) (tree_start z)
+  unfolding parts_of
+  parts_of_trees v =
+      ap (coded_parts (family z) (magnitude v) (negative v) (part_names (levels z) (planes_in v))) start_trees
+      ∙ coded_parts_renamed (coefficient_of z) (family z) (trees z) (trees_rename z Z) (magnitude v) (negative v)
+      (part_names (levels z) (planes_in v)) (tree_start z)

@@ -2,39 +2,38 @@
 --
 --   TreeSound z s       what holds of the lists s of all levels between parts
 --   TreeProgress z g    and while a record is decoded
-use Rattle.std.specs.Prelude.{◌≡◌, refl, List, [], map, Bool, true, cond, ltb, eqb, length}
-use Rattle.std.proofs.Math.Path.{ap, ap₂}
-use Rattle.std.proofs.Common.{sym, ◌∙◌, subst, arith, length-append, lt-ltb, eq-eqb, ne_eqb}
+use Rattle.std.specs.Prelude.{◌≡◌, refl, List, [], map, Bool, true, cond, eqb, length}
+use Rattle.std.proofs.Common.{ap, sym, ◌∙◌, subst, arith, length-append, lt-ltb, eq-eqb, ne_eqb}
+use Rattle.std.proofs.Math.Path.{ap₂}
 use Rattle.std.proofs.Math.Bool.{false}
-use Prim.Native.Nat.{ℕ, zero, suc, ◌+◌, ◌*◌, ◌≤◌, ◌<◌, min}
+use Prim.Native.Nat.{ℕ, suc, ◌+◌, ◌*◌, ◌≤◌, ◌<◌}
 use Rattle.std.proofs.Math.Decide.{dec_lt, ℕ_discrete}
 use Rattle.rules.specs.declared.Size.{Size}
 use Rattle.rules.specs.declared.Part.{Part}
 use Rattle.rules.specs.declared.Header.{Header}
-use Rattle.rules.specs.Document.Pyramid.{family, area, depths, levels, level_of, part_level, offspring_of}
-use Rattle.rules.specs.Document.Passes.{Entry, typeA, typeB, Side, Course, members, in_level, passed, State, after, from, band_ll, PartName}
+use Rattle.rules.specs.Document.Pyramid.{family, area, levels, level_of}
+use Rattle.rules.specs.Document.Passes.{Entry, typeA, typeB, Side, Course, members, passed, State, after, from, band_ll, PartName}
 use Rattle.rules.specs.Document.Passes.{Reader, decoded}
 use Rattle.rules.specs.Document.Layout.{bit_at, body_of, bits_there, name_of, usable}
 use Rattle.rules.specs.Document.Calls.{Progress, going, unfit, used}
 use Rattle.rules.specs.Laws.Counting.Sums.{sum, one, is, All, Every, sum-map, sum_same, sum_pointwise, is_yes, is_no, all_then, all_map}
-use Rattle.rules.specs.Laws.Counting.Sums.{every_all, all_flat, from_all, from_once, sum_once}
-use Rattle.rules.specs.Laws.Family.Sizes.{span, level_size, size_of_fine}
+use Rattle.rules.specs.Laws.Counting.Sums.{every_all, from_all, from_once, sum_once}
+use Rattle.rules.specs.Laws.Family.Sizes.{span, level_size, level_size_fine}
 use Rattle.rules.specs.Laws.Family.Lawful.{grandchild}
 use Rattle.rules.specs.Promises.Vocabulary.{Legal}
-use Rattle.rules.specs.Laws.Offspring.Level.{level_most, level_area, part_top}
+use Rattle.rules.specs.Laws.Offspring.Level.{level_most, level_area}
 use Rattle.rules.specs.Laws.Offspring.Once.{band_level}
 use Rattle.rules.specs.Laws.Offspring.Start.{band_length, start_weighs}
 use Rattle.rules.specs.Laws.Offspring.Counts.{level_count_lem}
-use Rattle.rules.specs.Laws.Offspring.Sets.{in_level_a, in_level_b}
 use Rattle.rules.specs.Laws.Pass.Lists.{set_weight}
-use Rattle.rules.specs.Laws.Pass.Levels.{Met, Settled, node_of, all_if_any, settled_offspring}
-use Rattle.rules.specs.Laws.Pass.Slots.{slots_twice, Room, room_slots}
+use Rattle.rules.specs.Laws.Pass.Levels.{Settled, node_of, settled_offspring}
+use Rattle.rules.specs.Laws.Pass.Slots.{Room, room_slots}
 use Rattle.rules.specs.Laws.State.Weight.{after_next}
-use Rattle.rules.specs.Laws.State.Sound.{level_count, Sound, sound_room, sound_after}
+use Rattle.rules.specs.Laws.State.Sound.{Sound, sound_room, sound_after}
 use Rattle.rules.specs.Laws.State.Parts.{OfLevel, decoded_sound}
-use Rattle.rules.specs.Laws.State.Start.{roots_of, Begins, roots_paid, roots_stay_paid, begins_sound}
-use Rattle.trees.specs.Renamed.{name_entry, map_length, members_renamed, in_level_renamed}
-use Rattle.trees.specs.Family.{trees, tree_level, tree_part, tree_offspring, coefficient_of, level_same, offspring_same, trees_rename}
+use Rattle.rules.specs.Laws.State.Start.{roots_of, Begins, roots_paid, begins_sound}
+use Rattle.trees.specs.Renamed.{name_entry, map_length, members_renamed}
+use Rattle.trees.specs.Family.{trees, tree_level, tree_offspring, coefficient_of, level_same, trees_rename}
 use Rattle.trees.specs.Family.{tree_offspring_none, tree_offspring_group}
 use Rattle.trees.specs.Run.{number_of, tree_band, tree_root, tree_start, number_level, number_area, coefficient_number, number_coefficient}
 use Rattle.trees.specs.Run.{coefficient_under, roots_renamed}
@@ -50,28 +49,18 @@ TreeProgress z (unfit at) = Unit {0}
 
 module _ (z : Size) (Z : Legal z) where
   -- A tree number is in the pyramid if it has a level, and so is every member of a set.
-  pub tree_level_most : (x : ℕ) → tree_level z x ≤ depths z
+  pub tree_level_most : (x : ℕ) → tree_level z x ≤ levels z
   tree_level_most x = omega (arith, level_same z Z x, level_most z (coefficient_of z x))
-
-  pub tree_part_most : (x : ℕ) → tree_part z x ≤ levels z
-  tree_part_most x = omega arith
-
-  pub tree_part_own : (x : ℕ) → tree_part z x ≤ tree_level z x
-  tree_part_own x = omega arith
 
   pub tree_level_area : (x : ℕ) → 1 ≤ tree_level z x → x < area z
   tree_level_area x h = (coefficient_under z Z x).1 (level_area z Z (coefficient_of z x) (omega (arith, level_same z Z x)))
 
-  pub number_part : (q : ℕ) → q < area z → tree_part z (number_of z q) ≡ part_level z q
-  unfolding part_level
-  number_part q h = ap (λ (k : ℕ). min k (levels z)) (number_level z Z q h)
-
   pub tree_members_area : (e : Entry) → Every (λ x. x < area z) (members (trees z) e)
   unfolding members
-  tree_members_area (typeA p) x i = tree_level_area x (omega (arith, (trees_lawful z Z).from1 p x i, tree_part_own x))
+  tree_members_area (typeA p) x i = tree_level_area x ((trees_lawful z Z).from1 p x i)
   tree_members_area (typeB p) x i =
       let g : _ = grandchild (trees z) (trees_lawful z Z) p x i in
-      tree_level_area x (omega (arith, (trees_lawful z Z).from1 g.0 x g.2, tree_part_own x))
+      tree_level_area x ((trees_lawful z Z).from1 g.0 x g.2)
 
   -- The numbers of all coefficients are all numbers, each once: so they weigh the same, and each level has as many.
   number_is : (x q : ℕ) → x < area z → q < area z → is x (number_of z q) ≡ is (coefficient_of z x) q
@@ -98,12 +87,12 @@ module _ (z : Size) (Z : Legal z) where
           ∙ from_once (coefficient_of z x) (area z)
           ∙ unfold one in rw (lt-ltb (coefficient_of z x) (area z) ((coefficient_under z Z x).0 h))
 
-  pub tree_level_count : (k : ℕ) → 1 ≤ k → k ≤ levels z → sum (λ x. is k (tree_part z x)) (from 0 (area z)) ≡ level_size z k
+  pub tree_level_count : (k : ℕ) → 1 ≤ k → k ≤ levels z → sum (λ x. is k (tree_level z x)) (from 0 (area z)) ≡ level_size z k
   tree_level_count k a b =
-      sym (numbers_weigh (λ x. is k (tree_part z x)))
-      ∙ sum_same _ (λ q. is k (part_level z q)) (from 0 (area z))
-      (all_then _ _ (from 0 (area z)) (λ q i. ap (is k) (number_part q (omega arith))) (from_all 0 (area z)))
-      ∙ level_count_lem z Z k a b
+      sym (numbers_weigh (λ x. is k (tree_level z x)))
+      ∙ sum_same _ (λ q. is k (level_of z q)) (from 0 (area z))
+      (all_then _ _ (from 0 (area z)) (λ q i. ap (is k) (number_level z Z q (omega arith))) (from_all 0 (area z)))
+      ∙ level_count_lem z k a b
 
   -- In every weight, what the passes start with is the pyramid.
   set_weighs : (w : ℕ → ℕ) (e : Entry)
@@ -125,87 +114,33 @@ module _ (z : Size) (Z : Legal z) where
       ∙ start_weighs z Z v
       ∙ numbers_weigh w
 
-  -- Which sets have members in a level: by the level of the node, and so by its number.
-  offspring_some : (x : ℕ) → 1 ≤ length (tree_offspring z x) → 1 ≤ length (offspring_of z (coefficient_of z x))
-  offspring_some x h = omega (arith, ap length (offspring_same z Z x), map_length (coefficient_of z) (tree_offspring z x))
-
-  in_level_same : (k : ℕ) (e : Entry) → in_level (trees z) k e ≡ in_level (family z) k (name_entry (coefficient_of z) e)
-  in_level_same k e = sym (in_level_renamed (coefficient_of z) (family z) (trees z) (trees_rename z Z) k e)
-
-  pub tree_in_level_a : (x : ℕ) → 1 ≤ length (tree_offspring z x) → (k : ℕ) → 1 ≤ k → k ≤ levels z
-      → in_level (trees z) k (typeA x) ≡ ltb k (tree_level z x)
-  unfolding name_entry
-  tree_in_level_a x h k a b =
-      in_level_same k (typeA x) ∙ in_level_a z Z (coefficient_of z x) (offspring_some x h) k a b ∙ ap (ltb k) (level_same z Z x)
-
-  pub tree_in_level_b : (x : ℕ) → 1 ≤ length (tree_offspring z x) → (k : ℕ) → 1 ≤ k → k ≤ levels z
-      → in_level (trees z) k (typeB x) ≡ ltb (suc k) (tree_level z x)
-  unfolding name_entry
-  tree_in_level_b x h k a b =
-      in_level_same k (typeB x) ∙ in_level_b z Z (coefficient_of z x) (offspring_some x h) k a b ∙ ap (ltb (suc k)) (level_same z Z x)
-
   -- The start is sound.
   start_begins : Begins (trees z) (levels z) (tree_band z) (tree_start z)
   unfolding tree_start tree_root roots_of
   start_begins =
       record { first = rw (eq-eqb (levels z) (levels z) refl); others = λ k d. rw (ne_eqb k (levels z) d) }
 
-  tree_start_at : (j : ℕ) → levels z ≡ suc j → Sound (trees z) (suc j) (from 0 (area z)) (tree_start z)
-  tree_start_at j e =
-      begins_sound (trees_lawful z Z) most (from 0 (area z)) (tree_band z) in_top tree_start_weighs (tree_start z) begins (paid (dec_lt (levels z) (depths z)))
+  pub tree_start_sound : TreeSound z (tree_start z)
+  tree_start_sound =
+      begins_sound (trees_lawful z Z) tree_level_most (from 0 (area z)) (tree_band z) in_top tree_start_weighs (tree_start z) start_begins
+      (roots_paid (trees_lawful z Z) tree_level_most (from 0 (area z)) (tree_band z) in_top tree_start_weighs next)
     where
-      most : (x : ℕ) → tree_part z x ≤ suc j
-      most x = omega (arith, tree_part_most x)
-
-      begins : Begins (trees z) (suc j) (tree_band z) (tree_start z)
-      begins = subst (λ (t : ℕ). Begins (trees z) t (tree_band z) (tree_start z)) e start_begins
-
-      in_top : All (λ x. tree_part z x ≡ suc j) (tree_band z)
+      in_top : All (λ x. tree_level z x ≡ levels z) (tree_band z)
       in_top =
           all_map _ (number_of z) (band_ll z)
           (every_all _ (band_ll z) (λ p i.
-          let v : level_of z p ≡ depths z = band_level z Z p i in
-          number_part p (level_area z Z p (omega arith)) ∙ part_top z p (omega (arith, Z.few_levels)) ∙ e))
+          let v : level_of z p ≡ levels z = band_level z Z p i in
+          number_level z Z p (level_area z Z p (omega arith)) ∙ v))
 
-      next : levels z ≡ depths z → sum (λ x. is j (tree_part z x)) (from 0 (area z)) ≤ 3 * length (tree_band z)
-      next t =
-          let n : j ≡ z.n = omega arith in
+      next : sum (λ x. is z.n (tree_level z x)) (from 0 (area z)) ≤ 3 * length (tree_band z)
+      next =
           omega (
             arith,
-            tree_level_count j (omega (arith, Z.some)) (omega arith),
-            size_of_fine z Z (levels z) Z.some_levels Z.few_levels j (omega (arith, Z.some)) (omega arith),
-            ap (span z) n,
+            tree_level_count z.n Z.some (omega arith),
+            level_size_fine z Z z.n Z.some (omega arith),
             band_length z,
             map_length (number_of z) (band_ll z),
           )
-
-      root_met : levels z < depths z → (x : ℕ) → tree_level z x ≡ depths z → 1 ≤ length (tree_offspring z x) → Met (trees z) (suc j) (typeA x)
-      root_met l x v o =
-          record {
-            up_to = λ q i. most q;
-            there = tree_in_level_a x o (suc j) (omega arith) (omega arith) ∙ lt-ltb (suc j) (tree_level z x) (omega arith);
-          }
-
-      stay : levels z < depths z → All (Met (trees z) (suc j)) (roots_of (trees z) (tree_band z))
-      stay l = unfold roots_of in
-          all_flat _ _ (tree_band z)
-          (all_map _ (number_of z) (band_ll z)
-          (every_all _ (band_ll z) (λ p i.
-          let v : level_of z p ≡ depths z = band_level z Z p i in
-          all_if_any (Met (trees z) (suc j)) (tree_offspring z (number_of z p)) (typeA (number_of z p))
-          (root_met l (number_of z p) (number_level z Z p (level_area z Z p (omega arith)) ∙ v)))))
-
-      paid : Dec (levels z < depths z)
-          → 2 * sum (slots_twice (trees z) (suc j)) (roots_of (trees z) (tree_band z)) ≤ 3 * level_count (trees z) (from 0 (area z)) (suc j)
-      paid (yes l) = roots_stay_paid (trees_lawful z Z) most (from 0 (area z)) (tree_band z) in_top tree_start_weighs (stay l)
-      paid (no l) = roots_paid (trees_lawful z Z) most (from 0 (area z)) (tree_band z) in_top tree_start_weighs (next (omega (arith, Z.few_levels)))
-
-  pub tree_start_sound : TreeSound z (tree_start z)
-  tree_start_sound = by (levels z) refl
-    where
-      by : (t : ℕ) → levels z ≡ t → Sound (trees z) t (from 0 (area z)) (tree_start z)
-      by zero e = absurd (omega (arith, Z.some_levels))
-      by (suc j) e = tree_start_at j e
 
   module _ {s : State} (h : TreeSound z s) where
     -- A part of level k has room in the stretch of its level, which has n_k coefficients.
@@ -231,13 +166,13 @@ module _ (z : Size) (Z : Legal z) where
       )
 
   -- The node of a set of any LIS has four offspring: so it is a root or of a level from 2 on.
-  pub tree_node : {k : ℕ} (e : Entry) → Settled (trees z) k e → (span z (depths z) ≤ node_of e) × (node_of e < span z 1)
-  tree_node e s = (over (dec_lt (node_of e) (span z (depths z))), under (dec_lt (node_of e) (span z 1)))
+  pub tree_node : {k : ℕ} (e : Entry) → Settled (trees z) k e → (span z (levels z) ≤ node_of e) × (node_of e < span z 1)
+  tree_node e s = (over (dec_lt (node_of e) (span z (levels z))), under (dec_lt (node_of e) (span z 1)))
     where
       none : tree_offspring z (node_of e) ≡ [] → ⊥
       none h = let n : length (tree_offspring z (node_of e)) ≡ 0 = rw h in omega (arith, settled_offspring (trees_lawful z Z) e s)
 
-      over : Dec (node_of e < span z (depths z)) → span z (depths z) ≤ node_of e
+      over : Dec (node_of e < span z (levels z)) → span z (levels z) ≤ node_of e
       over (yes l) = absurd (none (tree_offspring_group z (node_of e) l))
       over (no d) = omega arith
 

@@ -2,9 +2,7 @@
 //! exported calls (with the feature `archive`, or through a program that makes
 //! them, else the reference's own portal), or what a part list program prints.
 
-use reference::compare::{run, run_partlist, run_within};
-use reference::compare::{Cases, Errors, Routine, Subject, Tally, Within};
-use reference::generate::shapes::Shapes;
+use reference::compare::{run, run_partlist, Routine, Subject, Tally};
 use reference::piped::Piped;
 use std::path::Path;
 use std::process::ExitCode;
@@ -15,58 +13,18 @@ const SUBJECT: (&str, &dyn Subject) = ("the archive", &reference::archive::Archi
 #[cfg(not(feature = "archive"))]
 const SUBJECT: (&str, &dyn Subject) = ("the reference's own portal", &reference::compare::Own);
 
-const USAGE: &str = "usage: compare [--through PROGRAM] CALL COUNT [SEED [SHAPES]]
-       compare partlist PROGRAM COUNT [SEED [SHAPES]]
-       compare within TOOL PICTURES [SEED [ERRORS]]
-where CALL is code, serve, serve_planes, nearness, decode, check, survey, join,
-index, serve_by, grey_size, grey_in, grey_out, grey_widen or grey_cut (12800 cases
-have each size up to 40 x 40 at each N),
-ERRORS is some, sixteen of each picture, or every, 0 to 255,
-and SHAPES is every, long (each with a side over 512) or full (4,096 x 4,096, N = 8)";
+const USAGE: &str = "usage: compare CALL COUNT [SEED]
+       compare --through PROGRAM CALL COUNT [SEED]
+       compare partlist PROGRAM COUNT [SEED]
+where CALL is code, serve, decode, survey, join, grey_size, grey_in or grey_out";
 
 fn main() -> ExitCode {
     let arguments: Vec<String> = std::env::args().skip(1).collect();
-    let reported = match &arguments[..] {
-        [name, tool, rest @ ..] if name == "within" => {
-            compare_within(tool, rest).map(report_within)
-        }
-        _ => compare(&arguments).map(report),
-    };
-    reported.unwrap_or_else(|| {
-        eprintln!("{USAGE}");
-        ExitCode::from(2)
-    })
-}
-
-/// What a tool serves within an error, of so many pictures; nothing where the
-/// arguments make no sense.
-fn compare_within(tool: &str, arguments: &[String]) -> Option<Result<Within, String>> {
-    let words: Vec<&str> = arguments.iter().map(String::as_str).collect();
-    let (count, seed, errors) = match words[..] {
-        [count] => (count, "1", "some"),
-        [count, seed] => (count, seed, "some"),
-        [count, seed, errors] => (count, seed, errors),
-        _ => return None,
-    };
-    let errors = match errors {
-        "some" => Errors::Some,
-        "every" => Errors::Every,
-        _ => return None,
-    };
-    let (count, seed) = (count.parse().ok()?, seed.parse().ok()?);
-    let progress = &mut progress(count);
-    Some(run_within(Path::new(tool), count, seed, errors, progress))
-}
-
-fn report_within(outcome: Result<Within, String>) -> ExitCode {
-    match outcome {
-        Ok(within) => {
-            print!("{within}");
-            ExitCode::SUCCESS
-        }
-        Err(difference) => {
-            println!("DIFFERENT {difference}");
-            ExitCode::FAILURE
+    match compare(&arguments) {
+        Some(outcome) => report(outcome),
+        None => {
+            eprintln!("{USAGE}");
+            ExitCode::from(2)
         }
     }
 }
@@ -94,10 +52,9 @@ fn compare(arguments: &[String]) -> Option<Outcome> {
 }
 
 fn compare_partlist(program: &str, arguments: &[String]) -> Option<Outcome> {
-    let cases = cases(arguments)?;
-    let Cases { count, seed, .. } = cases;
+    let (count, seed) = count_and_seed(arguments)?;
     eprintln!("partlist of {program}, {count} cases, seed {seed}");
-    let outcome = run_partlist(Path::new(program), cases, &mut progress(count));
+    let outcome = run_partlist(Path::new(program), count, seed, &mut progress(count));
     Some(outcome.map_err(|difference| difference.to_string()))
 }
 
@@ -105,31 +62,18 @@ fn compare_calls(whose: &str, subject: &dyn Subject, arguments: &[String]) -> Op
     let (name, rest) = arguments.split_first()?;
     let mut routines = Routine::EXPORTED.iter().copied();
     let routine = routines.find(|routine| routine.name() == name)?;
-    let cases = cases(rest)?;
-    let Cases { count, seed, .. } = cases;
+    let (count, seed) = count_and_seed(rest)?;
     eprintln!("{name} of {whose}, {count} cases, seed {seed}");
-    let outcome = run(routine, cases, subject, &mut progress(count));
+    let outcome = run(routine, count, seed, subject, &mut progress(count));
     Some(outcome.map_err(|difference| difference.to_string()))
 }
 
-fn cases(arguments: &[String]) -> Option<Cases> {
-    let words: Vec<&str> = arguments.iter().map(String::as_str).collect();
-    let (count, seed, shapes) = match words[..] {
-        [count] => (count, "1", "every"),
-        [count, seed] => (count, seed, "every"),
-        [count, seed, shapes] => (count, seed, shapes),
-        _ => return None,
-    };
-    Some(Cases {
-        count: count.parse().ok()?,
-        seed: seed.parse().ok()?,
-        shapes: match shapes {
-            "every" => Shapes::Every,
-            "long" => Shapes::Long,
-            "full" => Shapes::Full,
-            _ => return None,
-        },
-    })
+fn count_and_seed(arguments: &[String]) -> Option<(u64, u64)> {
+    match arguments {
+        [count] => Some((count.parse().ok()?, 1)),
+        [count, seed] => Some((count.parse().ok()?, seed.parse().ok()?)),
+        _ => None,
+    }
 }
 
 /// All equal is not enough: each sort of case must have occurred.

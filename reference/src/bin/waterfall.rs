@@ -1,8 +1,7 @@
 //! A sample waterfall on standard output. `waterfall W H SEED`: as a grey file.
 //! `waterfall W H N SEED`: its pyramid, as 32-bit numbers, lowest byte first.
-//! `waterfall W H N SEED record`: the pyramid's record.
 
-use reference::generate::{records, waterfall, Chance};
+use reference::generate::{waterfall, Chance};
 use reference::netpbm;
 use reference::size::Shape;
 use std::io::{self, Write};
@@ -10,7 +9,7 @@ use std::io::{self, Write};
 fn main() -> io::Result<()> {
     let arguments: Vec<String> = std::env::args().skip(1).collect();
     let bytes = sample(&arguments).unwrap_or_else(|| {
-        eprintln!("usage: waterfall W H SEED | W H N SEED [record]");
+        eprintln!("usage: waterfall W H [N] SEED");
         std::process::exit(2);
     });
     io::stdout().lock().write_all(&bytes)
@@ -24,14 +23,11 @@ fn sample(arguments: &[String]) -> Option<Vec<u8>> {
             let shape = Shape::judge(w.parse().ok()?, h.parse().ok()?, 1).ok()?;
             Some(grey_file(shape, seed.parse().ok()?))
         }
-        [w, h, n, seed, form @ ..] => {
+        [w, h, n, seed] => {
             let shape = Shape::judge(w.parse().ok()?, h.parse().ok()?, n.parse().ok()?).ok()?;
             let pyramid = waterfall::pyramid(&mut Chance::new(seed.parse().ok()?), shape);
-            match form {
-                [] => Some(pyramid.iter().flat_map(|c| c.to_le_bytes()).collect()),
-                [form] if form == "record" => Some(records::whole(&pyramid, shape)),
-                _ => None,
-            }
+            let bytes = pyramid.iter().flat_map(|value| value.to_le_bytes());
+            Some(bytes.collect())
         }
         _ => None,
     }

@@ -2,12 +2,10 @@
 
 use super::lent::*;
 use super::{Case, Compared, Sizes, Subject};
-use crate::coder::code_sized;
-use crate::generate::shapes::is_rare;
+use crate::generate::shapes::shape_of_case;
 use crate::generate::{pyramids, records, Chance};
 use crate::portal::CODE_ANSWER;
 use crate::size::{Shape, LARGEST_MAGNITUDE};
-use crate::slip::Faithful;
 
 /// Sizes that are not legal, and legal ones that another size makes wrong.
 pub fn any_size_number(chance: &mut Chance) -> u64 {
@@ -20,21 +18,18 @@ pub fn any_size_number(chance: &mut Chance) -> u64 {
         5,
         6,
         8,
-        9,
         12,
         62,
         64,
         96,
         128,
         510,
+        511,
         512,
+        513,
         516,
         576,
-        4095,
-        4096,
-        4098,
-        4100,
-        8192,
+        1024,
         1 << 31,
         (1 << 32) + 1,
         (1 << 32) + 4,
@@ -46,17 +41,22 @@ pub fn any_size_number(chance: &mut Chance) -> u64 {
 
 struct CodeCase {
     pyramid: Vec<i32>,
-    sizes: Sizes,
+    w: u64,
+    h: u64,
+    n: u64,
     out: usize,
     work: usize,
     answer: usize,
 }
 
 /// A pyramid that is coded, and at times one or two things wrong with it.
-fn code_case(chance: &mut Chance, shape: Shape) -> CodeCase {
+fn code_case(chance: &mut Chance, case: u64) -> CodeCase {
+    let shape = shape_of_case(chance, case);
     let mut case = CodeCase {
         pyramid: pyramids::any_pyramid(chance, shape),
-        sizes: Sizes::of(shape),
+        w: shape.width().into(),
+        h: shape.height().into(),
+        n: shape.decompositions().into(),
         out: records::room_for(shape),
         work: shape.workspace() + chance.below(3) * chance.below(20),
         answer: answer_length(chance, CODE_ANSWER),
@@ -64,12 +64,8 @@ fn code_case(chance: &mut Chance, shape: Shape) -> CodeCase {
     if chance.once_in(3) {
         fit_room(chance, shape, &mut case);
     }
-    // So that rare shapes are accepted too.
-    let wrongs = match is_rare(shape) {
-        true => [0, 0, 0, 0, 1],
-        false => [0, 0, 1, 1, 2],
-    };
-    for _ in 0..wrongs[chance.below(5)] {
+    let wrongs = [0, 0, 1, 1, 2][chance.below(5)];
+    for _ in 0..wrongs {
         do_wrong(chance, &mut case);
     }
     case
@@ -87,14 +83,10 @@ fn fit_room(chance: &mut Chance, shape: Shape, case: &mut CodeCase) {
 }
 
 fn do_wrong(chance: &mut Chance, case: &mut CodeCase) {
-    let sizes = &mut case.sizes;
     match chance.below(6) {
-        0 => sizes.w = any_size_number(chance),
-        1 => sizes.h = any_size_number(chance),
-        2 if sizes.levels.is_some() && chance.once_in(2) => {
-            sizes.levels = Some(any_size_number(chance));
-        }
-        2 => sizes.n = any_size_number(chance),
+        0 => case.w = any_size_number(chance),
+        1 => case.h = any_size_number(chance),
+        2 => case.n = any_size_number(chance),
         3 => {
             let length = match chance.below(3) {
                 0 => case.pyramid.len() + 1,
@@ -122,14 +114,13 @@ fn do_wrong(chance: &mut Chance, case: &mut CodeCase) {
     }
 }
 
-pub fn compare_code(chance: &mut Chance, shape: Shape, subject: &dyn Subject) -> Compared {
-    let case = code_case(chance, shape);
-    let sizes = case.sizes;
+pub fn compare_code(chance: &mut Chance, case: u64, subject: &dyn Subject) -> Compared {
+    let case = code_case(chance, case);
+    let CodeCase { w, h, n, .. } = case;
 
     let mut want_out = Lent::dirty(case.out, DIRTY_BYTE);
     let mut want_work = Lent::dirty(case.work, DIRTY_WORD);
-    let (pyramid, lent) = (&case.pyramid, want_out.cells());
-    let said = code_sized::<Faithful>(pyramid, sizes, lent, want_work.cells());
+    let said = crate::code(&case.pyramid, w, h, n, want_out.cells(), want_work.cells());
     let numbers = [said.number, said.place, said.length];
     let (want, mut want_answer) = expected_answer(case.answer, &numbers);
     if case.answer < numbers.len() {
@@ -140,6 +131,7 @@ pub fn compare_code(chance: &mut Chance, shape: Shape, subject: &dyn Subject) ->
     let mut out = Lent::dirty(case.out, DIRTY_BYTE);
     let mut work = Lent::dirty(case.work, DIRTY_WORD);
     let mut answer = Lent::dirty(case.answer, DIRTY_NUMBER);
+    let sizes = Sizes { w, h, n };
     let got = subject.code(&pyramid, sizes, out.cells(), work.cells(), answer.cells())?;
 
     check_returned(got, want)?;
@@ -147,5 +139,5 @@ pub fn compare_code(chance: &mut Chance, shape: Shape, subject: &dyn Subject) ->
     out.check("out", &mut want_out)?;
     work.check("work", &mut want_work)?;
     check_input("the pyramid", &pyramid, &case.pyramid)?;
-    Ok(Case::new(want, sizes.judge().ok()))
+    Ok(Case::new(want, Shape::judge(w, h, n).ok()))
 }

@@ -70,7 +70,7 @@ fn any_or_struck(chance: &mut Chance, whole: &Whole) -> Arrived {
 /// reached, and each coarser level reached its plane.
 fn is_used(part: &CutPart, header: Header, said: &DecodeAnswer) -> bool {
     let (plane, level) = (u64::from(part.plane.0), part.level.0 as usize);
-    let coarser = &said.reached[level..header.shape.top().0 as usize];
+    let coarser = &said.reached[level..header.shape.coarsest().0 as usize];
     said.reached[level - 1] == plane + 1 && coarser.iter().all(|&reached| reached <= plane)
 }
 
@@ -147,7 +147,7 @@ pub fn compare_decode(chance: &mut Chance, base: &Whole, subject: &dyn Subject) 
 }
 
 /// Lengths of output and workspace: right, or at times one of them wrong.
-pub(super) fn decode_room(chance: &mut Chance, header: Option<Header>) -> (usize, usize) {
+fn decode_room(chance: &mut Chance, header: Option<Header>) -> (usize, usize) {
     let (area, least) = match header {
         Some(Header { shape, .. }) => (shape.area(), shape.workspace()),
         None => (chance.below(80), chance.below(300)),

@@ -5,10 +5,10 @@ use super::lent::*;
 use super::{Case, Compared, Subject, Wanted};
 use crate::generate::grey_files::{any_header, harmed, GreyHarm, GreyPieces};
 use crate::generate::pictures::any_picture;
-use crate::generate::shapes::is_rare;
+use crate::generate::shapes::shape_of_case;
 use crate::generate::Chance;
 use crate::portal::GREY_IN_ANSWER;
-use crate::size::{Shape, MOST_DECOMPOSITIONS};
+use crate::size::Shape;
 
 const PICTURE: &str = "picture";
 const NOT_GREY: &str = "not grey";
@@ -123,11 +123,12 @@ pub fn compare_grey_size(chance: &mut Chance, subject: &dyn Subject) -> Compared
     Ok(Case::new(want, None).sorted(case.sorts()))
 }
 
-pub fn compare_grey_in(chance: &mut Chance, shape: Shape, subject: &dyn Subject) -> Compared {
+pub fn compare_grey_in(chance: &mut Chance, case: u64, subject: &dyn Subject) -> Compared {
+    let shape = shape_of_case(chance, case);
     let case = grey_file(chance, shape);
     let n = match chance.below(16) {
         0 => any_size_number(chance),
-        1 => 1 + chance.below(MOST_DECOMPOSITIONS as usize) as u64,
+        1 => 1 + chance.below(5) as u64,
         _ => shape.decompositions().into(),
     };
     let (length, work_length) = grey_room(chance, shape);
@@ -168,8 +169,7 @@ fn grey_file(chance: &mut Chance, shape: Shape) -> GreyCase {
         (w, h, any_picture(chance, shape))
     };
     let pieces = GreyPieces::any_writing(chance, &w.to_string(), &h.to_string(), pixels);
-    let damaged = if is_rare(shape) { 10 } else { 40 };
-    GreyCase::of(chance, pieces, damaged)
+    GreyCase::of(chance, pieces, 40)
 }
 
 /// Lengths of pyramid and workspace: right, or at times one of them wrong.

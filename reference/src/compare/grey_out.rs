@@ -5,10 +5,10 @@ use super::coding::any_size_number;
 use super::grey_in::grey_room;
 use super::lent::*;
 use super::{header_of, Case, Compared, Sizes, Stock, Subject, Wanted};
-use crate::bound::{by_level, pixel_most};
+use crate::bound::pixel_most;
 use crate::generate::pictures::{any_picture, pyramid_of};
 use crate::generate::records::{any_record, of_any_count, strike_some, Count, Pieces, Whole};
-use crate::generate::shapes::in_either_version;
+use crate::generate::shapes::shape_of_case;
 use crate::generate::{pyramids, Chance};
 use crate::lifting::{halved, transform_back};
 use crate::netpbm;
@@ -59,7 +59,7 @@ enum Promise {
 }
 
 fn source(chance: &mut Chance, case: u64, stock: &mut Stock) -> Source {
-    let shape = stock.cases.shapes.of_case(chance, case);
+    let shape = shape_of_case(chance, case);
     match chance.weighted(&[4, 6, 5, 4, 2]) {
         0 => {
             let recorded = any_picture(chance, shape);
@@ -91,7 +91,6 @@ fn source(chance: &mut Chance, case: u64, stock: &mut Stock) -> Source {
 /// whole or halved.
 fn of_struck_record(chance: &mut Chance, shape: Shape) -> Source {
     let pyramid = pyramid_of(&any_picture(chance, shape), shape);
-    let shape = in_either_version(chance, shape);
     let whole = of_any_count(chance, &pyramid, shape);
     let mut pieces = Pieces::of(&whole.bytes);
     strike_some(chance, &mut pieces);
@@ -122,11 +121,7 @@ fn of_struck_record(chance: &mut Chance, shape: Shape) -> Source {
                 .into_iter()
                 .map(crate::grey::nearest_grey)
                 .collect(),
-            most: pixel_most(
-                &by_level(&said.reached, shape),
-                shape.decompositions(),
-                halvings,
-            ),
+            most: pixel_most(&said.reached, shape.decompositions(), halvings),
         },
     }
 }
@@ -147,7 +142,7 @@ fn of_any_record(chance: &mut Chance, base: &Whole) -> Source {
 }
 
 fn decoded(record: &[u8]) -> Option<(Shape, Vec<i32>)> {
-    let shape = header_of(record)?.shape.unmerged();
+    let shape = header_of(record)?.shape;
     let mut pyramid = vec![0; shape.area()];
     let said = crate::decode(record, &mut pyramid, &mut vec![0; shape.workspace()]);
     Some((shape, pyramid)).filter(|_| said.number == 0)
@@ -237,12 +232,7 @@ pub(super) fn compare_grey_out(
     let mut out = Lent::dirty(lengths.out, DIRTY_BYTE);
     let mut work = Lent::dirty(lengths.work, DIRTY_WORD);
     let mut answer = Lent::dirty(lengths.answer, DIRTY_NUMBER);
-    let sizes = Sizes {
-        w,
-        h,
-        n,
-        levels: None,
-    };
+    let sizes = Sizes { w, h, n };
     let got = subject.grey_out(pyramid, sizes, out.cells(), work.cells(), answer.cells())?;
 
     check_returned(got, want)?;

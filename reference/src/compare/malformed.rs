@@ -4,34 +4,32 @@ use super::{header_of, Wanted};
 use crate::layout::{read_number, Number};
 use crate::refusal::Cause;
 
-/// A number in long form, in each of a record's places for one: six in the
+/// A number in long form, in each of a record's places for one: five in the
 /// header, then three in a part's head.
-const LONG: [&str; 9] = [
+const LONG: [&str; 8] = [
     "long version",
     "long width",
     "long height",
     "long N",
     "long planes",
-    "long K",
     "long plane",
     "long level",
     "long bit count",
 ];
 
 /// The same of a number whose fourth byte says that another follows.
-const ENDLESS: [&str; 9] = [
+const ENDLESS: [&str; 8] = [
     "endless version",
     "endless width",
     "endless height",
     "endless N",
     "endless planes",
-    "endless K",
     "endless plane",
     "endless level",
     "endless bit count",
 ];
 
-const IN_THE_HEADER: usize = 6;
+const IN_THE_HEADER: usize = 5;
 
 pub fn sorts() -> Vec<(&'static str, Wanted)> {
     let names = LONG.iter().chain(&ENDLESS);

@@ -8,14 +8,14 @@ use crate::layout::Header;
 use crate::portal::SERVE_ANSWER;
 
 /// A request, legal for the most part.
-pub(super) fn request(chance: &mut Chance, header: Option<Header>) -> (u64, u64) {
+fn request(chance: &mut Chance, header: Option<Header>) -> (u64, u64) {
     if chance.once_in(12) {
         let wrong = [0, 7, (1 << 32) + 1, 1 << 32, u64::MAX, 18, 6, 5];
         return (*chance.pick(&wrong), *chance.pick(&wrong));
     }
     match header {
         Some(Header { shape, planes }) => (
-            1 + chance.below(shape.top().0 as usize) as u64,
+            1 + chance.below(shape.coarsest().0 as usize) as u64,
             chance.below(planes as usize + 1) as u64,
         ),
         None => (chance.below(8) as u64, chance.below(19) as u64),

@@ -1,8 +1,7 @@
 //! Who makes the calls, and what a call is.
 
-pub use crate::bound::LevelSizes;
 use crate::portal;
-pub use crate::size::Sizes;
+use crate::size::Shape;
 
 /// What a call returned, or why it couldn't be made.
 pub type Returned = Result<u64, String>;
@@ -16,28 +15,11 @@ pub enum Call<'a> {
         level: u64,
         plane: u64,
     },
-    ServePlanes {
-        record: &'a [u8],
-        planes: &'a [u64],
-    },
-    Nearness {
-        sizes: LevelSizes,
-        reached: &'a [u64],
-        halvings: u64,
-    },
     Decode(&'a [u8]),
-    Check(&'a [u8]),
     Survey(&'a [u8]),
     Join {
         first: &'a [u8],
         second: &'a [u8],
-    },
-    Index(&'a [u8]),
-    ServeBy {
-        record: &'a [u8],
-        index: &'a [u8],
-        level: u64,
-        plane: u64,
     },
     GreySize(&'a [u8]),
     GreyIn {
@@ -45,15 +27,24 @@ pub enum Call<'a> {
         n: u64,
     },
     GreyOut(&'a [i32], Sizes),
-    GreyWiden {
-        file: &'a [u8],
-        n: u64,
-    },
-    GreyCut {
-        file: &'a [u8],
-        width: u64,
-        height: u64,
-    },
+}
+
+/// W, H and N as a caller gives them.
+#[derive(Clone, Copy)]
+pub struct Sizes {
+    pub w: u64,
+    pub h: u64,
+    pub n: u64,
+}
+
+impl Sizes {
+    pub fn of(shape: Shape) -> Sizes {
+        Sizes {
+            w: shape.width().into(),
+            h: shape.height().into(),
+            n: shape.decompositions().into(),
+        }
+    }
 }
 
 /// What a call writes to; what it isn't lent is empty.
@@ -128,32 +119,6 @@ pub trait Subject {
         self.call(call, &mut Memory::of_bytes(out, &mut [], answer))
     }
 
-    fn serve_planes(
-        &self,
-        record: &[u8],
-        planes: &[u64],
-        out: &mut [u8],
-        answer: &mut [u64],
-    ) -> Returned {
-        let call = Call::ServePlanes { record, planes };
-        self.call(call, &mut Memory::of_bytes(out, &mut [], answer))
-    }
-
-    fn nearness(
-        &self,
-        sizes: LevelSizes,
-        reached: &[u64],
-        halvings: u64,
-        answer: &mut [u64],
-    ) -> Returned {
-        let call = Call::Nearness {
-            sizes,
-            reached,
-            halvings,
-        };
-        self.call(call, &mut Memory::of_answer(answer))
-    }
-
     fn decode(
         &self,
         record: &[u8],
@@ -165,17 +130,6 @@ pub trait Subject {
         self.call(Call::Decode(record), &mut memory)
     }
 
-    fn check(
-        &self,
-        record: &[u8],
-        out: &mut [i32],
-        work: &mut [u32],
-        answer: &mut [u64],
-    ) -> Returned {
-        let mut memory = Memory::of_coefficients(out, work, answer);
-        self.call(Call::Check(record), &mut memory)
-    }
-
     fn survey(&self, record: &[u8], answer: &mut [u64]) -> Returned {
         self.call(Call::Survey(record), &mut Memory::of_answer(answer))
     }
@@ -183,29 +137,6 @@ pub trait Subject {
     fn join(&self, first: &[u8], second: &[u8], out: &mut [u8], answer: &mut [u64]) -> Returned {
         let mut memory = Memory::of_bytes(out, &mut [], answer);
         self.call(Call::Join { first, second }, &mut memory)
-    }
-
-    fn index(&self, record: &[u8], out: &mut [u8], answer: &mut [u64]) -> Returned {
-        let mut memory = Memory::of_bytes(out, &mut [], answer);
-        self.call(Call::Index(record), &mut memory)
-    }
-
-    fn serve_by(
-        &self,
-        record: &[u8],
-        index: &[u8],
-        level: u64,
-        plane: u64,
-        out: &mut [u8],
-        answer: &mut [u64],
-    ) -> Returned {
-        let call = Call::ServeBy {
-            record,
-            index,
-            level,
-            plane,
-        };
-        self.call(call, &mut Memory::of_bytes(out, &mut [], answer))
     }
 
     fn grey_size(&self, file: &[u8], answer: &mut [u64]) -> Returned {
@@ -235,27 +166,6 @@ pub trait Subject {
         let mut memory = Memory::of_bytes(out, work, answer);
         self.call(Call::GreyOut(pyramid, sizes), &mut memory)
     }
-
-    fn grey_widen(&self, file: &[u8], n: u64, out: &mut [u8], answer: &mut [u64]) -> Returned {
-        let mut memory = Memory::of_bytes(out, &mut [], answer);
-        self.call(Call::GreyWiden { file, n }, &mut memory)
-    }
-
-    fn grey_cut(
-        &self,
-        file: &[u8],
-        width: u64,
-        height: u64,
-        out: &mut [u8],
-        answer: &mut [u64],
-    ) -> Returned {
-        let call = Call::GreyCut {
-            file,
-            width,
-            height,
-        };
-        self.call(call, &mut Memory::of_bytes(out, &mut [], answer))
-    }
 }
 
 /// The library itself, through [`portal`]: tries the portal, and the
@@ -271,45 +181,22 @@ impl Subject for Own {
             answer,
         } = memory;
         Ok(match call {
-            Call::Code(pyramid, Sizes { w, h, n, levels }) => match levels {
-                None => portal::afs_code(pyramid, w, h, n, bytes, work, answer),
-                Some(k) => portal::afs_code_levels(pyramid, w, h, n, k, bytes, work, answer),
-            },
+            Call::Code(pyramid, Sizes { w, h, n }) => {
+                portal::afs_code(pyramid, w, h, n, bytes, work, answer)
+            }
             Call::Serve {
                 record,
                 level,
                 plane,
             } => portal::afs_serve(record, level, plane, bytes, answer),
-            Call::ServePlanes { record, planes } => {
-                portal::afs_serve_planes(record, planes, bytes, answer)
-            }
-            Call::Nearness {
-                sizes,
-                reached,
-                halvings,
-            } => portal::afs_nearness(sizes, reached, halvings, answer),
             Call::Decode(record) => portal::afs_decode(record, coefficients, work, answer),
-            Call::Check(record) => portal::afs_check(record, coefficients, work, answer),
             Call::Survey(record) => portal::afs_survey(record, answer),
             Call::Join { first, second } => portal::afs_join(first, second, bytes, answer),
-            Call::Index(record) => portal::afs_index(record, bytes, answer),
-            Call::ServeBy {
-                record,
-                index,
-                level,
-                plane,
-            } => portal::afs_serve_by(record, index, level, plane, bytes, answer),
             Call::GreySize(file) => portal::afs_grey_size(file, answer),
             Call::GreyIn { file, n } => portal::afs_grey_in(file, n, coefficients, work, answer),
-            Call::GreyOut(pyramid, Sizes { w, h, n, .. }) => {
+            Call::GreyOut(pyramid, Sizes { w, h, n }) => {
                 portal::afs_grey_out(pyramid, w, h, n, bytes, work, answer)
             }
-            Call::GreyWiden { file, n } => portal::afs_grey_widen(file, n, bytes, answer),
-            Call::GreyCut {
-                file,
-                width,
-                height,
-            } => portal::afs_grey_cut(file, width, height, bytes, answer),
         })
     }
 }

@@ -4,10 +4,10 @@
 use super::Chance;
 use crate::netpbm;
 
-const BLANKS: [u8; 6] = *b" \t\n\x0b\x0c\r";
+const BLANKS: [u8; 4] = *b" \t\n\r";
 const LINE_ENDS: [u8; 2] = *b"\n\r";
 /// Bytes that a reader may take for something else.
-const TELLING: &[u8] = b"\x07\x0b\x0c\0#-+.,_P5p0129aAxX \t\n\r\x80\x85\xa0\xff";
+const TELLING: &[u8] = b"\x0b\x0c\0#-+.,_P5p0129aAxX \t\n\r\x80\x85\xa0\xff";
 /// The most digits of a number.
 const MOST_DIGITS: usize = 30;
 
@@ -360,9 +360,9 @@ fn wrong_maxval(chance: &mut Chance) -> Vec<u8> {
 }
 
 fn wrong_gap(chance: &mut Chance) -> Vec<u8> {
-    let wrong: [&[u8]; 13] = [
-        b"\x07", b"\x08", b"\x0e", b"\0", b",", b"x", b"\xa0", b"\x85", b"\\n", b" \x07",
-        b"\x0e\n", b"\x1a", b";",
+    let wrong: [&[u8]; 12] = [
+        b"\x0b", b"\x0c", b"\0", b",", b"x", b"\xa0", b"\x85", b"\\n", b" \x0b", b"\x0c\n",
+        b"\x1a", b";",
     ];
     chance.pick(&wrong).to_vec()
 }

@@ -1,13 +1,11 @@
-//! Seeded generators of pyramids, records, indexes, pictures and grey files,
-//! for tests and comparisons.
+//! Seeded generators of pyramids, records, pictures and grey files, for tests
+//! and comparisons.
 //!
 //! They use whole numbers only, so that a seed gives the same cases on every
 //! machine.
 
 pub mod chance;
 pub mod grey_files;
-pub mod indexes;
-pub mod lies;
 pub mod pairs;
 pub mod pictures;
 pub mod pyramids;

@@ -2,9 +2,9 @@
 
 use super::records::{any_record, strike_some, whole_in, Pieces};
 use super::{pyramids, shapes, Chance};
-use crate::layout::{push_number, VERSION_1, VERSION_2};
+use crate::layout::push_number;
 use crate::reading::Walk;
-use crate::size::{Shape, MOST_PLANES};
+use crate::size::MOST_PLANES;
 
 /// How the two of a pair are akin.
 #[derive(Clone, Copy, Debug, PartialEq, Eq)]
@@ -17,7 +17,7 @@ pub enum Kin {
     Damaged,
     /// Selections of one, either of them, or both, cut anywhere.
     Cut,
-    /// Another size, another number of planes, or the other version.
+    /// Another size, or another number of planes.
     Header,
     /// Selections of one, a bit changed in a part of either.
     Bit,
@@ -121,14 +121,11 @@ fn selection_of_another(chance: &mut Chance, whole: &[u8]) -> Vec<u8> {
     left.together()
 }
 
-/// The header of another size, with another number of planes or of the other
-/// version, before parts that need not be legal behind it.
+/// The header of another size, or with another number of planes, before parts
+/// that need not be legal behind it.
 fn with_another_header(chance: &mut Chance, whole: &[u8]) -> Vec<u8> {
     let mut left = Pieces::of(whole);
-    if chance.once_in(3) {
-        let shape = Walk::begin(whole).expect("a whole record").header().shape;
-        left.header = in_the_other_version(left.header, shape);
-    } else if chance.once_in(2) {
+    if chance.once_in(2) {
         let shape = shapes::any_shape(chance);
         let numbers = [shape.width(), shape.height(), shape.decompositions()];
         for (number, value) in left.header[1..].iter_mut().zip(numbers) {
@@ -146,19 +143,6 @@ fn with_another_header(chance: &mut Chance, whole: &[u8]) -> Vec<u8> {
         left.parts.clear();
     }
     left.together()
-}
-
-/// The same numbers in the other version: K goes, or is N + 1.
-fn in_the_other_version(header: Vec<Vec<u8>>, shape: Shape) -> Vec<Vec<u8>> {
-    let mut numbers = header;
-    if shape.merged().is_some() {
-        numbers[0] = vec![VERSION_1 as u8];
-        numbers.truncate(5);
-    } else {
-        numbers[0] = vec![VERSION_2 as u8];
-        numbers.push(vec![shape.coarsest().0 as u8]);
-    }
-    numbers
 }
 
 /// Within a body, so that it is still a record.

@@ -8,16 +8,14 @@ use crate::layout::{body_length, head_bytes, push_number, Header, Packer, LONGES
 use crate::lists::AllLists;
 use crate::passes::{run_part, Side};
 use crate::reading::Walk;
-use crate::size::{
-    earlier_planes_of, planes_of, Level, Plane, Shape, Sizes, MOST_LEVELS, MOST_PLANES,
-};
+use crate::size::{earlier_planes_of, planes_of, Level, Plane, Shape, MOST_PLANES};
 use crate::slip::Faithful;
 use std::convert::Infallible;
 
 /// Room enough for the record of any pyramid of this shape: 17 planes of at
 /// most 37/16 bits a coefficient, and the heads.
 pub fn room_for(shape: Shape) -> usize {
-    16 + 17 * (shape.area() * 37 / 128 + MOST_LEVELS * 8)
+    16 + 17 * (shape.area() * 37 / 128 + 6 * 8)
 }
 
 /// The coder's record of a pyramid.
@@ -29,8 +27,12 @@ pub fn whole(pyramid: &[i32], shape: Shape) -> Vec<u8> {
 pub fn whole_in(pyramid: &[i32], shape: Shape, planes: u32) -> Vec<u8> {
     let mut out = vec![0; room_for(shape)];
     let mut work = vec![0; shape.workspace()];
-    let sizes = Sizes::of(shape);
-    let answer = code_in_planes::<Faithful>(pyramid, sizes, planes, &mut out, &mut work);
+    let size = (
+        shape.width().into(),
+        shape.height().into(),
+        shape.decompositions().into(),
+    );
+    let answer = code_in_planes::<Faithful>(pyramid, size, planes, &mut out, &mut work);
     assert_eq!(answer.number, 0, "a legal pyramid is coded");
     out.truncate(answer.length as usize);
     out
@@ -159,8 +161,7 @@ impl Side for Inventor<'_> {
 /// for it, so that any of them can be replaced, by no number even.
 #[derive(Clone, Debug)]
 pub struct Pieces {
-    /// Five numbers, or six.
-    pub header: Vec<Vec<u8>>,
+    pub header: [Vec<u8>; 5],
     pub parts: Vec<PartPieces>,
 }
 
@@ -183,7 +184,7 @@ impl Pieces {
     /// Of a record that reading accepts; a tail is left out.
     pub fn of(record: &[u8]) -> Pieces {
         let mut walk = Walk::begin(record).expect("a legal header");
-        let header = walk.header().numbers();
+        let Header { shape, planes } = walk.header();
         let mut parts = Vec::new();
         while let Some(part) = walk.next_part().expect("legal parts") {
             parts.push(PartPieces {
@@ -195,7 +196,14 @@ impl Pieces {
             });
         }
         Pieces {
-            header: header.into_iter().map(number_bytes).collect(),
+            header: [
+                1,
+                shape.width(),
+                shape.height(),
+                shape.decompositions(),
+                planes,
+            ]
+            .map(number_bytes),
             parts,
         }
     }
@@ -227,9 +235,9 @@ pub enum Harm {
     HeaderNumber,
     /// One number of a part's head is another, or none.
     HeadNumber,
-    /// One of all these numbers is not in its shortest form.
+    /// One of these eight numbers is not in its shortest form.
     LongForm,
-    /// One of them has too many bytes.
+    /// One of these eight numbers has too many bytes.
     TooManyBytes,
     /// Padding bits set.
     Padding,
@@ -396,7 +404,7 @@ fn any_part<'p>(chance: &mut Chance, pieces: &'p mut Pieces) -> &'p mut PartPiec
     &mut pieces.parts[at]
 }
 
-/// One of the header's numbers, or of the three of any part's head.
+/// One of the header's five numbers, or of the three of any part's head.
 fn any_number<'p>(chance: &mut Chance, pieces: &'p mut Pieces) -> &'p mut Vec<u8> {
     let in_header = pieces.header.len();
     let which = chance.below(in_header + 3);
@@ -437,14 +445,9 @@ fn replace_number(chance: &mut Chance, number: &mut Vec<u8>) {
         4 => neighbour(chance, number),
         5 => long_form(chance, number),
         6 => too_many_bytes(chance),
-        _ => number_bytes(*chance.pick(&TELLING_NUMBERS)),
+        _ => number_bytes(*chance.pick(&[0, 1, 2, 3, 4, 5, 6, 7, 17, 18, 64, 127, 128, 512, 516])),
     };
 }
-
-/// Those at which something is no longer legal, and some between.
-const TELLING_NUMBERS: [u32; 18] = [
-    0, 1, 2, 3, 4, 5, 8, 9, 10, 17, 18, 64, 127, 128, 512, 516, 4096, 4100,
-];
 
 /// One more or one less.
 fn neighbour(chance: &mut Chance, number: &[u8]) -> Vec<u8> {
@@ -551,7 +554,7 @@ pub fn noise(chance: &mut Chance) -> Vec<u8> {
     if chance.once_in(3) {
         return chance.bytes(length);
     }
-    let shape = shapes::any_record_shape(chance);
+    let shape = shapes::any_shape(chance);
     let header = Header {
         shape,
         planes: chance.below(MOST_PLANES as usize + 1) as u32,
@@ -559,7 +562,7 @@ pub fn noise(chance: &mut Chance) -> Vec<u8> {
     let mut bytes = header.bytes();
     if chance.once_in(2) && header.planes > 0 {
         let bits = chance.below(40);
-        bytes.extend(head_bytes(Plane(header.planes - 1), shape.top(), bits));
+        bytes.extend(head_bytes(Plane(header.planes - 1), shape.coarsest(), bits));
     }
     bytes.extend(chance.bytes(length));
     bytes

@@ -5,7 +5,7 @@
 use crate::helpers::*;
 use crate::literal;
 use reference::generate::records::{any_record, any_whole, invented, noise, Pieces};
-use reference::generate::shapes::any_record_shape;
+use reference::generate::shapes::any_shape;
 use reference::generate::Chance;
 use reference::partlist;
 
@@ -66,7 +66,7 @@ fn damaged_records() {
     let mut chance = Chance::new(51);
     let mut counts = [0; 13];
     for _ in 0..600 {
-        let shape = any_record_shape(&mut chance);
+        let shape = any_shape(&mut chance);
         let whole = any_whole(&mut chance, shape).bytes;
         for _ in 0..20 {
             counts[take(&any_record(&mut chance, &whole)) as usize] += 1;
@@ -116,11 +116,11 @@ fn invented_bits_are_accepted() {
     let mut chance = Chance::new(53);
     let mut largest = 0;
     for _ in 0..300 {
-        let shape = any_record_shape(&mut chance);
+        let shape = any_shape(&mut chance);
         let record = invented(&mut chance, shape);
         let (answer, pyramid) = decoded(&record);
-        assert_eq!((answer.number, answer.reached), (0, [0; LEVEL_PLACES]));
-        assert_eq!(answer.skipped, [0; LEVEL_PLACES]);
+        assert_eq!((answer.number, answer.reached), (0, [0; 6]));
+        assert_eq!(answer.skipped, [0; 6]);
         let here = pyramid.iter().map(|c| c.unsigned_abs()).max().unwrap();
         largest = largest.max(here);
         assert_eq!(take(&record), 0);
@@ -134,7 +134,7 @@ fn invented_bits_are_accepted() {
 fn invented_bits_struck() {
     let mut chance = Chance::new(54);
     for _ in 0..300 {
-        let shape = any_record_shape(&mut chance);
+        let shape = any_shape(&mut chance);
         let record = invented(&mut chance, shape);
         let (_, whole) = decoded(&record);
         let mut left = Pieces::of(&record);

@@ -1,17 +1,15 @@
 //! The comparison: the reference's own portal passes it, all that can occur
 //! occurs in it, and subjects that are wrong in one thing fail it.
 
-use crate::helpers::cases;
 use reference::compare::{
-    run, run_partlist, Call, Cases, Difference, Memory, Own, Returned, Routine, Subject, Tally,
+    run, run_partlist, Call, Difference, Memory, Own, Returned, Routine, Subject, Tally,
 };
-use reference::generate::shapes::Shapes;
 use reference::reading::cut_part;
 use std::path::Path;
 use std::process::Command;
 
 fn compare(routine: Routine, count: u64, subject: &dyn Subject) -> Result<Tally, Difference> {
-    run(routine, cases(count, 1), subject, &mut |_| {})
+    run(routine, count, 1, subject, &mut |_| {})
 }
 
 fn is_equal_and_all_occurs(routine: Routine, count: u64) {
@@ -24,10 +22,7 @@ fn the_own_portal_is_equal_and_all_occurs() {
     for routine in [
         Routine::Code,
         Routine::Serve,
-        Routine::ServePlanes,
-        Routine::Nearness,
         Routine::Decode,
-        Routine::Check,
         Routine::Survey,
         Routine::Join,
     ] {
@@ -38,32 +33,14 @@ fn the_own_portal_is_equal_and_all_occurs() {
 #[test]
 fn pictures_by_the_own_portal_are_equal_and_all_occurs() {
     is_equal_and_all_occurs(Routine::GreySize, 4_000);
-    is_equal_and_all_occurs(Routine::GreyIn, 4_000);
-    is_equal_and_all_occurs(Routine::GreyOut, 4_000);
-    is_equal_and_all_occurs(Routine::GreyWiden, 640);
-    is_equal_and_all_occurs(Routine::GreyCut, 640);
-}
-
-#[test]
-fn long_pyramids_by_the_own_portal_are_equal() {
-    let without = [Routine::GreySize, Routine::GreyWiden, Routine::GreyCut];
-    for routine in Routine::EXPORTED {
-        if !without.contains(&routine) {
-            let long = Cases {
-                shapes: Shapes::Long,
-                ..cases(20, 1)
-            };
-            let tally = run(routine, long, &Own, &mut |_| {}).unwrap_or_else(|d| panic!("{d}"));
-            assert_eq!(tally.missing(), [""; 0], "{tally}");
-        }
-    }
+    is_equal_and_all_occurs(Routine::GreyIn, 1_500);
+    is_equal_and_all_occurs(Routine::GreyOut, 1_500);
 }
 
 #[test]
 fn the_own_program_is_equal_and_all_occurs() {
     let program = Path::new(env!("CARGO_BIN_EXE_partlist"));
-    let tally =
-        run_partlist(program, cases(1_200, 1), &mut |_| {}).unwrap_or_else(|d| panic!("{d}"));
+    let tally = run_partlist(program, 1_200, 1, &mut |_| {}).unwrap_or_else(|d| panic!("{d}"));
     assert_eq!(tally.missing(), [""; 0], "{tally}");
 }
 
@@ -71,27 +48,9 @@ fn the_own_program_is_equal_and_all_occurs() {
 fn a_wrong_program_is_caught() {
     // It prints its usage, or nothing.
     let program = Path::new(env!("CARGO_BIN_EXE_compare"));
-    assert!(run_partlist(program, cases(1, 1), &mut |_| {}).is_err());
+    assert!(run_partlist(program, 1, 1, &mut |_| {}).is_err());
     let nowhere = Path::new("no/such/program");
-    assert!(run_partlist(nowhere, cases(1, 1), &mut |_| {}).is_err());
-}
-
-/// Few cases needn't have the rare shapes; long ones alone must be accepted.
-#[test]
-fn rare_shapes_are_wanted_of_many_cases() {
-    let missing = |count, shapes| {
-        let cases = Cases {
-            shapes,
-            ..cases(count, 1)
-        };
-        let tally = run(Routine::Code, cases, &Own, &mut |_| {});
-        tally.unwrap_or_else(|d| panic!("{d}")).missing()
-    };
-    let few = missing(1, Shapes::Every);
-    assert!(few.contains(&"size to 512".to_string()), "{few:?}");
-    assert!(!few.contains(&"size to 4096".to_string()), "{few:?}");
-    assert!(!few.contains(&"N = 6".to_string()), "{few:?}");
-    assert_eq!(missing(0, Shapes::Long), ["an accepted side over 512"]);
+    assert!(run_partlist(nowhere, 1, 1, &mut |_| {}).is_err());
 }
 
 /// The program's exit status: 1 also where all is equal but too little of it.
@@ -111,13 +70,7 @@ fn the_comparing_program() {
     let (status, printed) = run(&["serve", "2"]);
     assert_eq!(status, Some(1));
     assert!(printed.contains("NO CASE OF answer"), "{printed}");
-    for wrong in [
-        &["serve"][..],
-        &["dance", "3"],
-        &["code", "x"],
-        &["code", "3", "1", "wide"],
-        &[],
-    ] {
+    for wrong in [&["serve"][..], &["dance", "3"], &["code", "x"], &[]] {
         assert_eq!(run(wrong), (Some(2), String::new()));
     }
 }
@@ -316,99 +269,6 @@ fn wrong_causes_of_joining_are_caught() {
     });
 }
 
-/// The portal serving for other planes than it is given.
-struct ServesPlanes {
-    what: fn(&[u64]) -> Vec<u64>,
-}
-
-impl Subject for ServesPlanes {
-    fn call(&self, call: Call, memory: &mut Memory) -> Returned {
-        match call {
-            Call::ServePlanes { record, planes } => {
-                let planes = &(self.what)(planes);
-                Own.call(Call::ServePlanes { record, planes }, memory)
-            }
-            other => Own.call(other, memory),
-        }
-    }
-}
-
-#[test]
-fn wrong_planes_are_caught() {
-    let fails = |what| assert!(compare(Routine::ServePlanes, 400, &ServesPlanes { what }).is_err());
-    // The coarsest level first; one plane more than asked for; the lowest for all.
-    fails(|planes| planes.iter().rev().copied().collect());
-    fails(|planes| planes.iter().map(|plane| plane.saturating_sub(1)).collect());
-    fails(|planes| vec![planes.iter().copied().min().unwrap_or(0); planes.len()]);
-}
-
-/// A request and an index made of those that are given.
-type Instead = for<'r> fn(&'r [u8], &'r [u8], u64, u64) -> (&'r [u8], u64, u64);
-
-/// The portal serving by another index, or for another request.
-struct ServesBy {
-    what: Instead,
-}
-
-impl Subject for ServesBy {
-    fn call(&self, call: Call, memory: &mut Memory) -> Returned {
-        let call = match call {
-            Call::ServeBy {
-                record,
-                index,
-                level,
-                plane,
-            } => {
-                let (index, level, plane) = (self.what)(record, index, level, plane);
-                Call::ServeBy {
-                    record,
-                    index,
-                    level,
-                    plane,
-                }
-            }
-            other => other,
-        };
-        Own.call(call, memory)
-    }
-}
-
-#[test]
-fn wrong_serving_by_index_is_caught() {
-    let fails = |what| assert!(compare(Routine::ServeBy, 400, &ServesBy { what }).is_err());
-    // The last byte not looked at; level and plane exchanged; a level finer.
-    fails(|_, index, level, plane| (&index[..index.len().max(1) - 1], level, plane));
-    fails(|_, index, level, plane| (index, plane, level));
-    fails(|_, index, level, plane| (index, level.max(2) - 1, plane));
-}
-
-/// The walk's answer in the place of the index's, where both accept.
-struct Walks;
-
-impl Subject for Walks {
-    fn call(&self, call: Call, memory: &mut Memory) -> Returned {
-        let returned = Own.call(call, memory)?;
-        if let Call::ServeBy {
-            record,
-            level,
-            plane,
-            ..
-        } = call
-        {
-            if returned == 0 {
-                let served = reference::serve(record, level, plane, memory.bytes);
-                memory.answer[2] = served.length;
-            }
-        }
-        Ok(returned)
-    }
-}
-
-#[test]
-fn serving_by_the_walk_instead_is_caught() {
-    assert!(compare(Routine::ServeBy, 400, &Walks).is_err());
-}
-
 fn tell(lent: &mut Lent, number: u64) {
     lent.returned = number;
     lent.answer[0] = number;
@@ -416,20 +276,16 @@ fn tell(lent: &mut Lent, number: u64) {
 
 #[test]
 fn a_wrong_count_is_caught() {
-    // Length, tail with either request, the bound, reached plane of level 9, skipped parts of level 1 and of
-    // level 9, whole parts; length of a join, of an index and by one; width, height, length, pixels that
+    // Length, tail, reached plane of level 6, skipped parts of level 1 and of
+    // level 6, whole parts; length of a join; width, height, length, pixels that
     // were clipped.
     fails(Routine::Code, |lent| bump(lent, 2));
     fails(Routine::Serve, |lent| bump(lent, 3));
-    fails(Routine::ServePlanes, |lent| bump(lent, 3));
-    fails(Routine::Nearness, |lent| bump(lent, 2));
-    fails(Routine::Decode, |lent| bump(lent, 11));
-    fails(Routine::Decode, |lent| bump(lent, 12));
-    fails(Routine::Decode, |lent| bump(lent, 20));
+    fails(Routine::Decode, |lent| bump(lent, 8));
+    fails(Routine::Decode, |lent| bump(lent, 9));
+    fails(Routine::Decode, |lent| bump(lent, 14));
     fails(Routine::Survey, |lent| bump(lent, 6));
     fails(Routine::Join, |lent| bump(lent, 2));
-    fails(Routine::Index, |lent| bump(lent, 2));
-    fails(Routine::ServeBy, |lent| bump(lent, 2));
     fails(Routine::GreySize, |lent| bump(lent, 2));
     fails(Routine::GreyIn, |lent| bump(lent, 3));
     fails(Routine::GreyOut, |lent| bump(lent, 2));
@@ -441,13 +297,13 @@ fn a_wrong_count_is_caught() {
 #[test]
 fn wrong_counts_of_skipped_parts_are_caught() {
     fails(Routine::Decode, |lent| {
-        if lent.answer.len() >= 21 {
-            lent.answer.copy_within(3..12, 12);
+        if lent.answer.len() >= 15 {
+            lent.answer.copy_within(3..9, 9);
         }
     });
     fails(Routine::Decode, |lent| {
-        if lent.answer.len() >= 21 && lent.answer[12] > 0 {
-            lent.answer[12] -= 1;
+        if lent.answer.len() >= 15 && lent.answer[9] > 0 {
+            lent.answer[9] -= 1;
         }
     });
 }
@@ -481,7 +337,7 @@ fn an_answer_not_cleared_is_caught() {
     }
     // Behind the last number.
     fails(Routine::Survey, |lent| bump(lent, 8));
-    fails(Routine::Decode, |lent| bump(lent, 21));
+    fails(Routine::Decode, |lent| bump(lent, 15));
 }
 
 #[test]
@@ -491,17 +347,10 @@ fn memory_left_dirty_is_caught() {
             *last = 1;
         }
     };
-    let without = [
-        Routine::Serve,
-        Routine::ServePlanes,
-        Routine::Join,
-        Routine::Index,
-        Routine::ServeBy,
-        Routine::GreyWiden,
-        Routine::GreyCut,
-    ];
-    for routine in lent_memory().filter(|routine| !without.contains(routine)) {
-        fails(routine, dirty_work);
+    for routine in lent_memory() {
+        if routine != Routine::Serve && routine != Routine::Join {
+            fails(routine, dirty_work);
+        }
     }
     let dirty_refusal = |lent: &mut Lent| {
         if lent.returned != 0 {
@@ -519,20 +368,14 @@ fn memory_left_dirty_is_caught() {
     };
     fails(Routine::Code, dirty_end);
     fails(Routine::Serve, dirty_end);
-    fails(Routine::ServePlanes, dirty_end);
     fails(Routine::Join, dirty_end);
-    fails(Routine::Index, dirty_end);
-    fails(Routine::ServeBy, dirty_end);
     fails(Routine::GreyOut, dirty_end);
-    fails(Routine::GreyWiden, dirty_end);
-    fails(Routine::GreyCut, dirty_end);
 }
 
 /// The routines that are lent more than an answer to write to.
 fn lent_memory() -> impl Iterator<Item = Routine> {
     let all = Routine::EXPORTED.iter().copied();
-    let without = [Routine::GreySize, Routine::Survey, Routine::Nearness];
-    all.filter(move |routine| !without.contains(routine))
+    all.filter(|&routine| routine != Routine::GreySize && routine != Routine::Survey)
 }
 
 #[test]

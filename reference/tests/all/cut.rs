@@ -5,7 +5,7 @@ use crate::helpers::*;
 use reference::coder::largest_of;
 use reference::generate::pyramids::any_pyramid;
 use reference::generate::records::{invented, strike_some, whole_in, Pieces};
-use reference::generate::shapes::{any_record_shape, shape_of, SizeClass};
+use reference::generate::shapes::{any_shape, shape_of, SizeClass};
 use reference::generate::Chance;
 use reference::reading::Walk;
 use reference::size::{earlier_planes_of, planes_of};
@@ -172,7 +172,7 @@ fn more_bytes_are_never_worse() {
 fn prefixes_of_invented_records_are_accepted() {
     let mut chance = Chance::new(192);
     for _ in 0..300 {
-        let shape = any_record_shape(&mut chance);
+        let shape = any_shape(&mut chance);
         let record = invented(&mut chance, shape);
         let header = Walk::begin(&record).expect("legal").header_bytes().len();
         let length = header + chance.below(record.len() - header + 1);

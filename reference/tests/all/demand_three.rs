@@ -6,7 +6,7 @@
 use crate::helpers::*;
 use reference::generate::pyramids::{any_pyramid, pyramid, PyramidKind};
 use reference::generate::records::{strike_some, PartPieces, Pieces};
-use reference::generate::shapes::{any_record_shape, shape_of, SizeClass};
+use reference::generate::shapes::{any_shape, shape_of, SizeClass};
 use reference::generate::Chance;
 use reference::size::{Level, Plane, Shape};
 
@@ -27,7 +27,7 @@ impl Arrived<'_> {
 
     /// What decoding gives, and what it would give with the cut part whole,
     /// which tells apart from it what the tail may have brought.
-    fn expected(&self, pyramid: &[i32], shape: Shape) -> ([u64; LEVEL_PLACES], Vec<i32>, Vec<i32>) {
+    fn expected(&self, pyramid: &[i32], shape: Shape) -> ([u64; 6], Vec<i32>, Vec<i32>) {
         let planes = u32::from(self.left.header[4][0]);
         let there = |plane, level| self.is_there(plane, level);
         let (reached, rounded) = expected(pyramid, shape, planes, &there);
@@ -48,7 +48,7 @@ fn check(pyramid: &[i32], shape: Shape, arrived: &Arrived) -> usize {
     assert_eq!((answer.number, answer.place), (0, 0));
     assert_eq!(answer.tail, arrived.tail as u64);
     assert_eq!(answer.reached, reached);
-    assert_eq!(answer.skipped, skipped(arrived.left, shape, reached));
+    assert_eq!(answer.skipped, skipped(arrived.left, reached));
     let either = rounded.iter().zip(&nearer);
     assert!(
         decoded
@@ -63,10 +63,10 @@ fn check(pyramid: &[i32], shape: Shape, arrived: &Arrived) -> usize {
 
 /// "With it the answer is complete": of each level used and skipped parts are
 /// those that are there.
-fn skipped(left: &Pieces, shape: Shape, reached: [u64; LEVEL_PLACES]) -> [u64; LEVEL_PLACES] {
+fn skipped(left: &Pieces, reached: [u64; 6]) -> [u64; 6] {
     let planes = u64::from(left.header[4][0]);
-    let levels = shape.top().0 as usize;
-    let mut counts = [0; LEVEL_PLACES];
+    let levels = usize::from(left.header[3][0]) + 1;
+    let mut counts = [0; 6];
     for level in 0..levels {
         let of_level = |part: &&PartPieces| part.level.0 as usize == level + 1;
         let there = left.parts.iter().filter(of_level).count() as u64;
@@ -108,7 +108,7 @@ fn struck_records_of_every_kind() {
 fn struck_records_of_any_size() {
     let mut chance = Chance::new(42);
     for _ in 0..600 {
-        let shape = any_record_shape(&mut chance);
+        let shape = any_shape(&mut chance);
         let pyramid = any_pyramid(&mut chance, shape);
         let mut left = Pieces::of(&coded(&pyramid, shape));
         strike_some(&mut chance, &mut left);
@@ -155,7 +155,7 @@ fn losses_of_empty_parts() {
     let mut chance = Chance::new(44);
     let mut losses = 0;
     for _ in 0..300 {
-        let shape = any_record_shape(&mut chance);
+        let shape = any_shape(&mut chance);
         let pyramid = any_pyramid(&mut chance, shape);
         let whole = Pieces::of(&coded(&pyramid, shape));
         let empty: Vec<usize> = (0..whole.parts.len())
@@ -175,14 +175,14 @@ fn losses_of_empty_parts() {
 fn served_records() {
     let mut chance = Chance::new(45);
     for _ in 0..300 {
-        let shape = any_record_shape(&mut chance);
+        let shape = any_shape(&mut chance);
         let pyramid = any_pyramid(&mut chance, shape);
         let mut left = Pieces::of(&coded(&pyramid, shape));
         if chance.once_in(2) {
             strike_some(&mut chance, &mut left);
         }
         let planes = usize::from(left.header[4][0]);
-        let level = 1 + chance.below(shape.top().0 as usize) as u64;
+        let level = 1 + chance.below(shape.coarsest().0 as usize) as u64;
         let plane = chance.below(planes + 1) as u64;
         let record = served(&left.together(), level, plane);
         check_whole(&pyramid, shape, &Pieces::of(&record));
@@ -245,7 +245,7 @@ fn struck_and_cut_anywhere() {
     let mut chance = Chance::new(47);
     let mut nearer = 0;
     for _ in 0..400 {
-        let shape = any_record_shape(&mut chance);
+        let shape = any_shape(&mut chance);
         let pyramid = any_pyramid(&mut chance, shape);
         let mut left = Pieces::of(&coded(&pyramid, shape));
         strike_some(&mut chance, &mut left);
@@ -261,12 +261,12 @@ fn struck_and_cut_anywhere() {
 fn reached_planes_run_without_a_gap() {
     let mut chance = Chance::new(48);
     for _ in 0..200 {
-        let shape = any_record_shape(&mut chance);
+        let shape = any_shape(&mut chance);
         let pyramid = any_pyramid(&mut chance, shape);
         let mut left = Pieces::of(&coded(&pyramid, shape));
         strike_some(&mut chance, &mut left);
         let reached = decoded(&left.together()).0.reached;
-        let levels = shape.top().0 as usize;
+        let levels = shape.coarsest().0 as usize;
         assert!(reached[..levels].windows(2).all(|pair| pair[0] >= pair[1]));
         assert!(reached[levels..].iter().all(|&plane| plane == 0));
     }

@@ -6,9 +6,8 @@ use crate::literal;
 use reference::coder::largest_of;
 use reference::generate::pyramids::{any_pyramid, pyramid, PyramidKind};
 use reference::generate::records::{whole_in, Pieces};
-use reference::generate::shapes::{any_record_shape, shape_of, SizeClass};
+use reference::generate::shapes::{any_shape, shape_of, SizeClass};
 use reference::generate::Chance;
-use reference::size::Sizes;
 use reference::size::{earlier_planes_of, planes_of, Shape, MOST_PLANES};
 
 fn published(pyramid: &[i32], shape: Shape) -> Vec<u8> {
@@ -67,10 +66,7 @@ fn records_of_every_count() {
                 let [w, h, n] = [w as usize, h as usize, n as usize];
                 assert!(record == literal::record_in(&pyramid, w, h, n, planes));
                 let (answer, back) = decoded(&record);
-                assert_eq!(
-                    (answer.number, answer.tail, answer.reached),
-                    (0, 0, [0; LEVEL_PLACES])
-                );
+                assert_eq!((answer.number, answer.tail, answer.reached), (0, 0, [0; 6]));
                 assert!(back == pyramid, "{shape:?} {kind:?} {planes}");
             }
         }
@@ -140,7 +136,7 @@ fn whole_records_give_the_pyramid() {
                 let pyramid = pyramid(&mut chance, shape, kind);
                 let (answer, back) = decoded(&coded(&pyramid, shape));
                 assert_eq!((answer.number, answer.tail), (0, 0));
-                assert_eq!(answer.reached, [0; LEVEL_PLACES]);
+                assert_eq!(answer.reached, [0; 6]);
                 assert!(back == pyramid, "{shape:?} {kind:?}");
             }
         }
@@ -170,13 +166,13 @@ fn the_largest_pyramids_come_back() {
 fn a_record_holds_every_part_in_order() {
     let mut chance = Chance::new(25);
     for _ in 0..200 {
-        let shape = any_record_shape(&mut chance);
+        let shape = any_shape(&mut chance);
         let pyramid = any_pyramid(&mut chance, shape);
         let pieces = Pieces::of(&coded(&pyramid, shape));
         let planes = u32::from(pieces.header[4][0]);
         let mut parts = pieces.parts.iter();
         for plane in (0..planes).rev() {
-            for level in (1..=shape.top().0).rev() {
+            for level in (1..=shape.decompositions() + 1).rev() {
                 let part = parts.next().expect("every part is written");
                 assert_eq!((part.plane.0, part.level.0), (plane, level));
             }
@@ -189,12 +185,12 @@ fn a_record_holds_every_part_in_order() {
 fn serving_keeps_exactly_the_parts_named() {
     let mut chance = Chance::new(26);
     for _ in 0..300 {
-        let shape = any_record_shape(&mut chance);
+        let shape = any_shape(&mut chance);
         let pyramid = any_pyramid(&mut chance, shape);
         let record = coded(&pyramid, shape);
         let mut pieces = Pieces::of(&record);
         let planes = usize::from(pieces.header[4][0]);
-        let level = 1 + chance.below(shape.top().0 as usize) as u64;
+        let level = 1 + chance.below(shape.coarsest().0 as usize) as u64;
         let plane = chance.below(planes + 1) as u64;
         pieces.strike(|p, k| u64::from(k.0) < level || u64::from(p.0) < plane);
         let kept = pieces.together();
@@ -212,17 +208,16 @@ fn serving_keeps_exactly_the_parts_named() {
 fn coding_needs_just_its_room() {
     let mut chance = Chance::new(27);
     for _ in 0..150 {
-        let shape = any_record_shape(&mut chance);
+        let shape = any_shape(&mut chance);
         let pyramid = any_pyramid(&mut chance, shape);
         let record = coded(&pyramid, shape);
-        let sizes = Sizes::of(shape);
+        let size = (
+            shape.width().into(),
+            shape.height().into(),
+            shape.decompositions().into(),
+        );
         let into = |room| {
-            code_sized_into::<reference::slip::Faithful>(
-                &pyramid,
-                sizes,
-                room,
-                shape.workspace() + 3,
-            )
+            code_into::<reference::slip::Faithful>(&pyramid, size, room, shape.workspace() + 3)
         };
         let (answer, out) = into(record.len());
         assert_eq!(answer.number, 0);

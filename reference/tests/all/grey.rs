@@ -94,7 +94,7 @@ fn refusals_of_the_way_in() {
     assert_eq!(in_at(&EXAMPLE_FILE[..26], 9).0, [13, 0, 0, 0]);
     assert_eq!(in_to(EXAMPLE_FILE, 9, 3, 2).0, [1, 0, 0, 0]);
     assert_eq!(in_at(&file(3, 5, &[0; 15]), 1).0, [1, 0, 0, 0]);
-    assert_eq!(in_at(&file(4100, 4, &[0; 16_400]), 1).0, [1, 0, 0, 0]);
+    assert_eq!(in_at(&file(516, 4, &[0; 2064]), 1).0, [1, 0, 0, 0]);
     assert_eq!(in_at(b"P5\n0 5\n255\n", 1).0, [1, 0, 0, 0]);
     assert_eq!(in_to(b"", 1, 0, 0).0, [13, 0, 0, 0]);
 }
@@ -199,7 +199,7 @@ fn files_come_back_by_way_of_their_record() {
         assert_eq!(answer, [0, 0, w, h]);
         assert!(pyramid == pyramid_of(&pieces.pixels, shape));
         let (answer, decoded) = decoded(&coded(&pyramid, shape));
-        assert_eq!((answer.number, answer.reached), (0, [0; LEVEL_PLACES]));
+        assert_eq!((answer.number, answer.reached), (0, [0; 6]));
         let (answer, out) = out_of(&decoded, (w, h, n), plain.len() + 5, shape.workspace());
         assert_eq!(answer, [0, 0, plain.len() as u64, 0]);
         assert!(out[..plain.len()] == plain[..], "{shape:?}");

@@ -1,13 +1,11 @@
 //! What several tests use: calls with dirty buffers whose state afterwards is
 //! checked, the example, and what demand 3 expects.
 
-use reference::coder::code_sized;
-use reference::compare::Cases;
+use reference::coder::code_as;
 use reference::decoder::decode_as;
 use reference::generate::records::{room_for, Pieces};
-use reference::generate::shapes::Shapes;
 use reference::reading::Walk;
-use reference::size::{Level, Plane, Shape, Sizes};
+use reference::size::{Level, Plane, Shape};
 use reference::slip::{Faithful, Slips};
 use reference::{CodeAnswer, DecodeAnswer, ServeAnswer};
 
@@ -18,27 +16,8 @@ pub const EXAMPLE: [u8; 30] = [
 ];
 pub const EXAMPLE_PYRAMID: [i32; 16] = [4, -1, 0, 0, 2, 0, 0, -3, 0, 0, 1, 0, 0, 0, 0, 0];
 
-/// How many levels an answer has a place for.
-pub const LEVEL_PLACES: usize = 9;
-
-/// The places of an answer, level 1 first, 0 beyond the given ones.
-pub fn places<const GIVEN: usize>(given: [u64; GIVEN]) -> [u64; LEVEL_PLACES] {
-    let mut places = [0; LEVEL_PLACES];
-    places[..GIVEN].copy_from_slice(&given);
-    places
-}
-
 pub fn shape(w: u64, h: u64, n: u64) -> Shape {
     Shape::judge(w, h, n).expect("a legal size")
-}
-
-/// So many cases of a comparison, of every shape.
-pub fn cases(count: u64, seed: u64) -> Cases {
-    Cases {
-        count,
-        seed,
-        shapes: Shapes::Every,
-    }
 }
 
 /// Codes with dirty buffers of the given lengths. The output comes back whole.
@@ -48,20 +27,9 @@ pub fn code_into<S: Slips>(
     out: usize,
     work: usize,
 ) -> (CodeAnswer, Vec<u8>) {
-    let levels = None;
-    code_sized_into::<S>(pyramid, Sizes { w, h, n, levels }, out, work)
-}
-
-/// The same in either version.
-pub fn code_sized_into<S: Slips>(
-    pyramid: &[i32],
-    sizes: Sizes,
-    out: usize,
-    work: usize,
-) -> (CodeAnswer, Vec<u8>) {
     let mut out = vec![0xA5; out];
     let mut work = vec![0xDEAD_BEEF; work];
-    let answer = code_sized::<S>(pyramid, sizes, &mut out, &mut work);
+    let answer = code_as::<S>(pyramid, w, h, n, &mut out, &mut work);
     assert!(work.iter().all(|&word| word == 0), "workspace all 0");
     let used = answer.length as usize;
     assert!(out[used..].iter().all(|&byte| byte == 0), "0 after it");
@@ -75,9 +43,12 @@ pub fn code_sized_into<S: Slips>(
 
 /// The record of a legal pyramid.
 pub fn coded_as<S: Slips>(pyramid: &[i32], shape: Shape) -> Vec<u8> {
-    let sizes = Sizes::of(shape);
-    let (answer, mut out) =
-        code_sized_into::<S>(pyramid, sizes, room_for(shape), shape.workspace());
+    let size = (
+        shape.width().into(),
+        shape.height().into(),
+        shape.decompositions().into(),
+    );
+    let (answer, mut out) = code_into::<S>(pyramid, size, room_for(shape), shape.workspace());
     assert_eq!(answer.number, 0);
     out.truncate(answer.length as usize);
     out
@@ -97,8 +68,8 @@ pub fn decode_into<S: Slips>(record: &[u8], out: usize, work: usize) -> (DecodeA
         assert_eq!(answer.place, 0);
     } else {
         assert!(out.iter().all(|&c| c == 0), "output all 0");
-        assert_eq!((answer.tail, answer.reached), (0, [0; LEVEL_PLACES]));
-        assert_eq!(answer.skipped, [0; LEVEL_PLACES]);
+        assert_eq!((answer.tail, answer.reached), (0, [0; 6]));
+        assert_eq!(answer.skipped, [0; 6]);
     }
     (answer, out)
 }
@@ -169,7 +140,7 @@ pub fn lowest_plane(
     is_there: &dyn Fn(Plane, Level) -> bool,
 ) -> u32 {
     let all_there = |plane: u32| {
-        (plane..planes).all(|p| (level..=shape.top().0).all(|k| is_there(Plane(p), Level(k))))
+        (plane..planes).all(|p| (level..=shape.coarsest().0).all(|k| is_there(Plane(p), Level(k))))
     };
     (0..planes).find(|&m| all_there(m)).unwrap_or(planes)
 }
@@ -181,15 +152,15 @@ pub fn expected(
     shape: Shape,
     planes: u32,
     is_there: &dyn Fn(Plane, Level) -> bool,
-) -> ([u64; LEVEL_PLACES], Vec<i32>) {
-    let mut reached = [0; LEVEL_PLACES];
-    for level in 1..=shape.top().0 {
+) -> ([u64; 6], Vec<i32>) {
+    let mut reached = [0; 6];
+    for level in 1..=shape.coarsest().0 {
         reached[level as usize - 1] = lowest_plane(shape, planes, level, is_there).into();
     }
     let mut rounded = Vec::with_capacity(pyramid.len());
     for row in 0..shape.height() {
         for column in 0..shape.width() {
-            let level = level_at(shape, row, column).min(shape.top().0);
+            let level = level_at(shape, row, column);
             let step = 1i32 << reached[level as usize - 1];
             // Division is toward zero.
             rounded.push(pyramid[shape.index(row, column)] / step * step);

@@ -18,8 +18,6 @@ struct Literal {
     w: usize,
     h: usize,
     n: usize,
-    /// "Levels K to N+1 are then one level K."
-    k: usize,
     lip: Vec<Vec<Place>>,
     lis: Vec<Vec<(Place, Type)>>,
     /// With the plane in which an entry came in.
@@ -41,33 +39,13 @@ pub fn record(pyramid: &[i32], w: usize, h: usize, n: usize) -> Vec<u8> {
 
 /// For so many planes.
 pub fn record_in(pyramid: &[i32], w: usize, h: usize, n: usize, planes: u32) -> Vec<u8> {
-    let header = [1, w, h, n, planes as usize];
-    coded(
-        &header,
-        Literal::start(pyramid.to_vec(), w, h, n, n + 1),
-        planes,
-    )
-}
-
-/// Of version 2, with K levels.
-pub fn record_of(pyramid: &[i32], w: usize, h: usize, n: usize, k: usize) -> Vec<u8> {
-    let largest = pyramid.iter().map(|c| c.unsigned_abs()).max().unwrap();
-    let planes = planes(largest);
-    let header = [2, w, h, n, planes as usize, k];
-    coded(
-        &header,
-        Literal::start(pyramid.to_vec(), w, h, n, k),
-        planes,
-    )
-}
-
-fn coded(header: &[usize], mut literal: Literal, planes: u32) -> Vec<u8> {
+    let mut literal = Literal::start(pyramid.to_vec(), w, h, n);
     let mut record = Vec::new();
-    for &value in header {
+    for value in [1, w, h, n, planes as usize] {
         record.extend(number(value));
     }
     for plane in (0..planes).rev() {
-        for level in (1..=literal.k).rev() {
+        for level in (1..=n + 1).rev() {
             literal.bits.clear();
             assert!(literal.part(level, plane).is_ok());
             for value in [plane as usize, level, literal.bits.len()] {
@@ -112,24 +90,23 @@ fn packed(bits: &[bool]) -> Vec<u8> {
 }
 
 impl Literal {
-    fn start(pyramid: Vec<i32>, w: usize, h: usize, n: usize, k: usize) -> Literal {
+    fn start(pyramid: Vec<i32>, w: usize, h: usize, n: usize) -> Literal {
         let mut literal = Literal {
             pyramid,
             w,
             h,
             n,
-            k,
-            lip: vec![Vec::new(); k + 1],
-            lis: vec![Vec::new(); k + 1],
-            lsp: vec![Vec::new(); k + 1],
+            lip: vec![Vec::new(); n + 2],
+            lis: vec![Vec::new(); n + 2],
+            lsp: vec![Vec::new(); n + 2],
             bits: VecDeque::new(),
             reads: false,
         };
         for i in 0..h >> n {
             for j in 0..w >> n {
-                literal.lip[k].push((i, j));
+                literal.lip[n + 1].push((i, j));
                 if !literal.offspring((i, j)).is_empty() {
-                    literal.lis[k].push(((i, j), Type::A));
+                    literal.lis[n + 1].push(((i, j), Type::A));
                 }
             }
         }
@@ -154,10 +131,6 @@ impl Literal {
     fn level(&self, (i, j): Place) -> usize {
         let within = |k: usize| i < self.h >> (k - 1) && j < self.w >> (k - 1);
         (1..=self.n + 1).rev().find(|&k| within(k)).unwrap()
-    }
-
-    fn part_level(&self, place: Place) -> usize {
-        self.level(place).min(self.k)
     }
 
     fn offspring(&self, (i, j): Place) -> Vec<Place> {
@@ -243,10 +216,7 @@ impl Literal {
                 Type::A => self.descendants(place),
                 Type::B => self.leaves(place),
             };
-            if members
-                .iter()
-                .all(|&member| self.part_level(member) != level)
-            {
+            if members.iter().all(|&member| self.level(member) != level) {
                 self.lis[level - 1].push((place, kind));
                 continue;
             }
@@ -292,8 +262,8 @@ pub struct Outcome {
     pub number: u64,
     pub place: u64,
     pub tail: u64,
-    pub reached: [u64; 9],
-    pub skipped: [u64; 9],
+    pub reached: [u64; 6],
+    pub skipped: [u64; 6],
     pub pyramid: Option<Vec<i32>>,
 }
 
@@ -327,8 +297,8 @@ fn head_at(bytes: &[u8], at: usize) -> Result<([usize; 3], usize), Fault> {
 }
 
 fn is_legal(w: usize, h: usize, n: usize, planes: usize) -> bool {
-    let side = |s: usize| (4..=4096).contains(&s) && s % 2usize.pow(n as u32 + 1) == 0;
-    (1..=8).contains(&n) && side(w) && side(h) && planes <= 17
+    let side = |s: usize| (4..=512).contains(&s) && s % 2usize.pow(n as u32 + 1) == 0;
+    (1..=5).contains(&n) && side(w) && side(h) && planes <= 17
 }
 
 fn bits_of(bytes: &[u8]) -> VecDeque<bool> {
@@ -346,27 +316,26 @@ pub fn decode(record: &[u8]) -> Outcome {
         ..Outcome::default()
     };
     let mut at = 0;
-    let mut header = Vec::new();
-    while header.len() < if header.first() == Some(&2) { 6 } else { 5 } {
+    let mut header = [0; 5];
+    for which in 0..5 {
         match number_at(record, at) {
             Ok((value, next)) => {
-                header.push(value);
+                header[which] = value;
                 at = next;
             }
             Err(Fault::LongForm) => return refused(12, at),
             Err(_) => return refused(6, at),
         }
-        if header[0] != 1 && header[0] != 2 {
+        if header[0] != 1 {
             return refused(7, 0);
         }
     }
-    let (w, h, n, planes) = (header[1], header[2], header[3], header[4]);
-    let k = header.get(5).map_or(n + 1, |&k| k);
-    if !is_legal(w, h, n, planes) || !(1..=n + 1).contains(&k) {
+    let [_, w, h, n, planes] = header;
+    if !is_legal(w, h, n, planes) {
         return refused(1, 0);
     }
 
-    let mut literal = Literal::start(vec![0; w * h], w, h, n, k);
+    let mut literal = Literal::start(vec![0; w * h], w, h, n);
     literal.reads = true;
     let mut present = HashSet::new();
     let mut usable = HashSet::new();
@@ -385,13 +354,14 @@ pub fn decode(record: &[u8]) -> Outcome {
         };
         // Planes downward, levels downward: smaller pairs come later.
         let in_order = before.map_or(true, |before| (plane, level) < before);
-        let named = plane < planes && (1..=k).contains(&level);
+        let named = plane < planes && (1..=n + 1).contains(&level);
         if !named || !in_order || count > 4 * w * h {
             return refused(8, offset);
         }
         at = next + (count + 7) / 8;
-        let is_usable = (plane..planes)
-            .all(|p| (level..=k).all(|k| (p, k) == (plane, level) || present.contains(&(p, k))));
+        let is_usable = (plane..planes).all(|p| {
+            (level..=n + 1).all(|k| (p, k) == (plane, level) || present.contains(&(p, k)))
+        });
         if at > record.len() {
             tail = record.len() - offset;
             if is_usable {
@@ -419,9 +389,9 @@ pub fn decode(record: &[u8]) -> Outcome {
         }
     }
 
-    let mut reached = [0; 9];
-    let mut skipped = [0; 9];
-    for level in 1..=k {
+    let mut reached = [0; 6];
+    let mut skipped = [0; 6];
+    for level in 1..=n + 1 {
         let lowest = (0..planes).find(|&plane| usable.contains(&(plane, level)));
         reached[level - 1] = lowest.unwrap_or(planes) as u64;
     }

@@ -1,19 +1,14 @@
 //! All tests of the reference.
 
 mod any_bytes;
-mod checked;
 mod comparison;
 mod cut;
 mod demand_three;
 mod demand_two;
 mod example;
-mod framing;
 mod grey;
 mod helpers;
-mod indexed;
 mod joined;
-mod larger;
-mod levels;
 mod lifting;
 mod literal;
 mod netpbm;
@@ -26,7 +21,6 @@ mod refusals_of_coding;
 mod refusals_of_reading;
 mod served_again;
 mod shapes;
-mod stairs;
 mod to_be_run;
 mod waterfall;
 mod wrong_builds;

@@ -1,8 +1,7 @@
 //! Calls through pipes: what is written for a call, what is made of its answer,
 //! and programs that don't answer.
 
-use crate::helpers::cases;
-use reference::compare::{run, LevelSizes, Routine, Sizes, Subject};
+use reference::compare::{run, Routine, Sizes, Subject};
 use reference::piped::Piped;
 use reference::portal;
 use std::cell::RefCell;
@@ -51,12 +50,7 @@ fn coefficients_and_workspace_keep_their_cells() {
     .concat();
     let (mut written, mut out, mut work, mut answer) = (Vec::new(), [0], [5], [0]);
     let piped = Piped::between(&mut written, &told[..]);
-    let sizes = Sizes {
-        w: 1,
-        h: 2,
-        n: 3,
-        levels: None,
-    };
+    let sizes = Sizes { w: 1, h: 2, n: 3 };
     let returned = piped.code(&[-2], sizes, &mut out, &mut work, &mut answer);
     assert_eq!(returned, Ok(0));
     assert_eq!((out, work, answer), ([1], [0x8000_0000], [2]));
@@ -112,14 +106,8 @@ fn pictures_go_through_pipes() {
 fn form(letter: u8) -> (usize, usize) {
     match letter {
         b'c' | b'o' => (3, 4),
-        b'k' => (4, 4),
-        b's' | b'u' => (2, 3),
-        b'p' => (0, 4),
-        b'n' => (5, 2),
-        b'w' => (1, 3),
-        b'x' => (0, 3),
-        b'b' => (2, 4),
-        b'a' | b'd' | b'j' => (0, 4),
+        b's' => (2, 3),
+        b'd' | b'j' => (0, 4),
         b'g' | b'v' => (0, 2),
         b'i' => (1, 4),
         _ => panic!("no such call"),
@@ -178,40 +166,9 @@ fn answered(letter: u8, mut rest: &[u8]) -> Vec<u8> {
             let (record, out) = m.split_at_mut(1);
             portal::afs_serve(&record[0], n[0], n[1], &mut out[0], &mut answer)
         }
-        b'p' => {
-            let (read, out) = m.split_at_mut(2);
-            let planes = cells(&read[1], u64::from_le_bytes);
-            portal::afs_serve_planes(&read[0], &planes, &mut out[0], &mut answer)
-        }
-        b'n' => {
-            let sizes = LevelSizes {
-                w: n[0],
-                h: n[1],
-                n: n[2],
-                levels: n[3],
-            };
-            let reached = cells(&m[0], u64::from_le_bytes);
-            portal::afs_nearness(sizes, &reached, n[4], &mut answer)
-        }
         b'j' => {
             let (records, out) = m.split_at_mut(2);
             portal::afs_join(&records[0], &records[1], &mut out[0], &mut answer)
-        }
-        b'w' => {
-            let (file, out) = m.split_at_mut(1);
-            portal::afs_grey_widen(&file[0], n[0], &mut out[0], &mut answer)
-        }
-        b'u' => {
-            let (file, out) = m.split_at_mut(1);
-            portal::afs_grey_cut(&file[0], n[0], n[1], &mut out[0], &mut answer)
-        }
-        b'x' => {
-            let (record, out) = m.split_at_mut(1);
-            portal::afs_index(&record[0], &mut out[0], &mut answer)
-        }
-        b'b' => {
-            let (read, out) = m.split_at_mut(2);
-            portal::afs_serve_by(&read[0], &read[1], n[0], n[1], &mut out[0], &mut answer)
         }
         _ => {
             let mut work = cells(&m.pop().expect("a workspace"), u32::from_le_bytes);
@@ -235,10 +192,6 @@ fn with_work(
     let (input, out) = m.split_at_mut(1);
     let (input, out) = (&input[0], &mut out[0]);
     match letter {
-        b'k' => {
-            let pyramid = cells(input, i32::from_le_bytes);
-            portal::afs_code_levels(&pyramid, n[0], n[1], n[2], n[3], out, work, answer)
-        }
         b'c' | b'o' => {
             let call = match letter {
                 b'c' => portal::afs_code,
@@ -250,7 +203,6 @@ fn with_work(
         _ => {
             let mut pyramid = cells(out, i32::from_le_bytes);
             let returned = match letter {
-                b'a' => portal::afs_check(input, &mut pyramid, work, answer),
                 b'd' => portal::afs_decode(input, &mut pyramid, work, answer),
                 _ => portal::afs_grey_in(input, n[0], &mut pyramid, work, answer),
             };
@@ -272,7 +224,7 @@ fn the_own_portal_behind_pipes_is_equal() {
     for routine in Routine::EXPORTED {
         let portal = Portal::default();
         let piped = Piped::between(portal.clone(), portal);
-        run(routine, cases(300, 1), &piped, &mut |_| {}).unwrap_or_else(|d| panic!("{d}"));
+        run(routine, 300, 1, &piped, &mut |_| {}).unwrap_or_else(|d| panic!("{d}"));
     }
 }
 
@@ -283,7 +235,7 @@ const SILENT: &str = "true";
 fn a_program_that_does_not_answer_is_a_difference() {
     for routine in Routine::EXPORTED {
         let piped = Piped::through(Path::new(SILENT)).expect("it runs");
-        let difference = run(routine, cases(10, 1), &piped, &mut |_| {}).unwrap_err();
+        let difference = run(routine, 10, 1, &piped, &mut |_| {}).unwrap_err();
         assert_eq!(difference.case, 0);
         assert!(difference.what.starts_with("no answer to the call"));
     }

@@ -20,20 +20,20 @@ fn answers_stand_at_the_front() {
     assert_eq!(number, 0);
     assert_eq!(answer, [0, 0, 17, 4, 0, 0, 0, 0, 0, 0, 0, 0]);
 
-    let mut answer = [DIRTY; 24];
+    let mut answer = [DIRTY; 18];
     let (mut pyramid, mut work) = ([9; 16], [9; 70]);
     let number = afs_decode(&EXAMPLE[..29], &mut pyramid, &mut work, &mut answer);
     assert_eq!(number, 0);
-    assert_eq!(answer[..4], [0, 0, 4, 1]);
-    assert_eq!(answer[4..], [0; 20]);
+    assert_eq!(answer[..9], [0, 0, 4, 1, 0, 0, 0, 0, 0]);
+    assert_eq!(answer[9..], [0; 9]);
     assert_eq!(work, [0; 70]);
 
-    let mut answer = [DIRTY; 24];
+    let mut answer = [DIRTY; 18];
     let lost = without(&EXAMPLE, &[(1, 2)]);
     let number = afs_decode(&lost, &mut pyramid, &mut work, &mut answer);
     assert_eq!(number, 0);
-    assert_eq!(answer[..12], [0, 0, 0, 2, 2, 0, 0, 0, 0, 0, 0, 0]);
-    assert_eq!(answer[12..], [2, 1, 0, 0, 0, 0, 0, 0, 0, 0, 0, 0]);
+    assert_eq!(answer[..9], [0, 0, 0, 2, 2, 0, 0, 0, 0]);
+    assert_eq!(answer[9..], [2, 1, 0, 0, 0, 0, 0, 0, 0]);
 
     let mut answer = [DIRTY; 12];
     let number = afs_join(&EXAMPLE[..29], &EXAMPLE[..13], &mut out, &mut answer);
@@ -43,7 +43,7 @@ fn answers_stand_at_the_front() {
 
     let mut answer = [DIRTY; 12];
     assert_eq!(afs_survey(&EXAMPLE[..29], &mut answer), 0);
-    assert_eq!(answer, [0, 0, 4, 4, 1, 3, 5, 4, 2, 0, 0, 0]);
+    assert_eq!(answer, [0, 0, 4, 4, 1, 3, 5, 4, 0, 0, 0, 0]);
 }
 
 #[test]
@@ -68,20 +68,20 @@ fn refusals_are_returned_and_written() {
     assert_eq!(answer, [11, 0, 0, 0, 0]);
     assert_eq!(out, [0; 40]);
 
-    let mut answer = [DIRTY; 21];
+    let mut answer = [DIRTY; 15];
     let (mut pyramid, mut work) = ([9; 16], [9; 64]);
     assert_eq!(
         afs_decode(&EXAMPLE[..3], &mut pyramid, &mut work, &mut answer),
         6
     );
-    assert_eq!((&answer[..2], &answer[2..]), (&[6, 3][..], &[0; 19][..]));
+    assert_eq!((&answer[..2], &answer[2..]), (&[6, 3][..], &[0; 13][..]));
 
     let mut answer = [DIRTY; 9];
     assert_eq!(afs_survey(&EXAMPLE[..3], &mut answer), 6);
     assert_eq!(answer, [6, 3, 0, 0, 0, 0, 0, 0, 0]);
-    let mut short = [DIRTY; 8];
+    let mut short = [DIRTY; 7];
     assert_eq!(afs_survey(&EXAMPLE, &mut short), 5);
-    assert_eq!(short, [0; 8]);
+    assert_eq!(short, [0; 7]);
     assert_eq!((pyramid, work), ([0; 16], [0; 64]));
 }
 
@@ -109,7 +109,7 @@ fn an_answer_slice_too_short() {
         assert_eq!((number, out), (5, [0; 40]));
         assert_eq!(answer, vec![0; length]);
     }
-    for length in 0..21 {
+    for length in 0..15 {
         let mut answer = vec![DIRTY; length];
         let (mut out, mut work) = ([9; 11], [9; 5]);
         let number = afs_decode(&EXAMPLE, &mut out, &mut work, &mut answer);
@@ -127,6 +127,5 @@ fn nothing_lent_at_all() {
     assert_eq!(afs_join(&[], &[], &mut [], &mut [1; 3]), 6);
     assert_eq!(afs_code(&[], 0, 0, 0, &mut [], &mut [], &mut [1; 3]), 1);
     assert_eq!(afs_serve(&[], 0, 0, &mut [], &mut [1; 4]), 6);
-    assert_eq!(afs_decode(&[], &mut [], &mut [], &mut [1; 21]), 6);
-    assert_eq!(afs_decode(&[], &mut [], &mut [], &mut [1; 20]), 5);
+    assert_eq!(afs_decode(&[], &mut [], &mut [], &mut [1; 15]), 6);
 }

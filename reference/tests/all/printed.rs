@@ -3,16 +3,15 @@
 //! at every size that is printed; and how near to the bound it comes.
 
 use crate::helpers::*;
-use reference::bound::{by_level, pixel_most, reckoned};
+use reference::bound::{pixel_most, reckoned};
 use reference::generate::pictures::{
     any_picture, black_and_white, picture, pyramid_of, PictureKind,
 };
 use reference::generate::records::{strike_some, Pieces};
-use reference::generate::shapes::any_record_shape;
+use reference::generate::shapes::any_shape;
 use reference::generate::Chance;
 use reference::grey::nearest_grey;
 use reference::lifting::{halved, transform_back};
-use reference::reading::Walk;
 use reference::size::{Shape, LARGEST_DECODED};
 
 /// The picture that a pyramid gives, halved so many times.
@@ -55,11 +54,10 @@ impl Recorded {
     fn check(&self, left: &[u8]) -> f64 {
         let (answer, decoded) = decoded(left);
         assert_eq!(answer.number, 0);
-        let shape = Walk::begin(left).expect("it was decoded").header().shape;
-        self.check_decoded(&decoded, &by_level(&answer.reached, shape))
+        self.check_decoded(&decoded, &answer.reached)
     }
 
-    fn check_decoded(&self, decoded: &[i32], reached: &[u64; LEVEL_PLACES]) -> f64 {
+    fn check_decoded(&self, decoded: &[i32], reached: &[u64; 6]) -> f64 {
         assert!(decoded.iter().all(|c| c.unsigned_abs() <= LARGEST_DECODED));
         let n = self.shape.decompositions();
         let mut greatest: f64 = 0.0;
@@ -79,15 +77,15 @@ impl Recorded {
 fn the_bound_in_numbers() {
     // All at p = 2 with N = 5, the finest alone without its last two planes,
     // all there, nothing there.
-    assert_eq!(pixel_most(&[2; LEVEL_PLACES], 5, 0), 63);
-    assert_eq!(pixel_most(&places([2]), 5, 0), 12);
-    assert_eq!(pixel_most(&[0; LEVEL_PLACES], 5, 0), 0);
-    assert_eq!(pixel_most(&[17; LEVEL_PLACES], 5, 0), 255);
-    assert_eq!(pixel_most(&places([2, 2, 2, 2]), 3, 0), 39);
+    assert_eq!(pixel_most(&[2; 6], 5, 0), 63);
+    assert_eq!(pixel_most(&[2, 0, 0, 0, 0, 0], 5, 0), 12);
+    assert_eq!(pixel_most(&[0; 6], 5, 0), 0);
+    assert_eq!(pixel_most(&[17; 6], 5, 0), 255);
+    assert_eq!(pixel_most(&[2, 2, 2, 2, 0, 0], 3, 0), 39);
     // Halved, the finer levels don't count.
-    assert_eq!(pixel_most(&places([9, 9, 1]), 3, 2), 6);
-    assert_eq!(pixel_most(&places([9, 9, 1, 1]), 3, 2), 7);
-    assert_eq!(pixel_most(&places([1, 1]), 1, 0), 7);
+    assert_eq!(pixel_most(&[9, 9, 1, 0, 0, 0], 3, 2), 6);
+    assert_eq!(pixel_most(&[9, 9, 1, 1, 0, 0], 3, 2), 7);
+    assert_eq!(pixel_most(&[1, 1, 0, 0, 0, 0], 1, 0), 7);
 }
 
 /// The sample and noise, as they are coded: every request.
@@ -143,7 +141,7 @@ fn selections_and_cuts_are_within_the_bound() {
 fn pictures_of_any_size_and_kind_are_within_the_bound() {
     let mut chance = Chance::new(112);
     for _ in 0..300 {
-        let shape = any_record_shape(&mut chance);
+        let shape = any_shape(&mut chance);
         let recorded = Recorded::of(&any_picture(&mut chance, shape), shape);
         let whole = Pieces::of(&coded(&recorded.pyramid, shape));
         for _ in 0..2 {
@@ -153,7 +151,7 @@ fn pictures_of_any_size_and_kind_are_within_the_bound() {
 }
 
 /// Rounded toward zero at each level's plane, as decoding does by demand 3.
-fn rounded(pyramid: &[i32], shape: Shape, reached: &[u64; LEVEL_PLACES]) -> Vec<i32> {
+fn rounded(pyramid: &[i32], shape: Shape, reached: &[u64; 6]) -> Vec<i32> {
     let mut cells = pyramid.to_vec();
     for row in 0..shape.height() {
         for column in 0..shape.width() {
@@ -175,7 +173,7 @@ fn random_pictures_come_near_the_bound() {
         for _ in 0..1_500 {
             let recorded = Recorded::of(&black_and_white(&mut chance, 64), shape);
             for plane in 0..9 {
-                for reached in [places([plane]), [plane; LEVEL_PLACES]] {
+                for reached in [[plane, 0, 0, 0, 0, 0], [plane; 6]] {
                     let left = rounded(&recorded.pyramid, shape, &reached);
                     greatest = greatest.max(recorded.check_decoded(&left, &reached));
                 }
@@ -208,7 +206,7 @@ fn the_bound_is_nearly_reached() {
         transform_back(&mut cells, shape);
         let pixels: Vec<u8> = cells.iter().map(|&cell| cell as u8).collect();
         let recorded = Recorded::of(&pixels, shape);
-        let reached = places([plane]);
+        let reached = [plane, 0, 0, 0, 0, 0];
         let left = rounded(&recorded.pyramid, shape, &reached);
         let ratio = recorded.check_decoded(&left, &reached);
         assert!(ratio >= least, "{ratio} at {plane}");

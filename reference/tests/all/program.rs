@@ -49,8 +49,7 @@ fn a_tail_is_listed() {
 fn refusals_are_listed_alone() {
     assert_eq!(partlist(&[]), "refused 6 0\n");
     assert_eq!(printed(&[]), "refused 6 0\n");
-    assert_eq!(partlist(&[4]), "refused 7 0\n");
-    assert_eq!(partlist(&[2]), "refused 6 1\n");
+    assert_eq!(partlist(&[2]), "refused 7 0\n");
     assert_eq!(partlist(&[1, 4, 4]), "refused 6 3\n");
     assert_eq!(partlist(&[1, 4, 5, 1, 3]), "refused 1 0\n");
     let mut padded = EXAMPLE;

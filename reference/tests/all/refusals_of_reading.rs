@@ -59,11 +59,8 @@ fn size_in_the_header() {
     ] {
         both(&header, 1, 0);
     }
-    // 4,100 columns, 4,100 rows, nine decompositions of 1,024 x 1,024; the largest
-    // number for each.
-    both(&[1, 0x84, 0x20, 4, 1, 3], 1, 0);
-    both(&[1, 4, 0x84, 0x20, 1, 3], 1, 0);
-    both(&[1, 0x80, 0x08, 0x80, 0x08, 9, 3], 1, 0);
+    // 516 columns; the largest number for each.
+    both(&[1, 0x84, 0x04, 4, 1, 3], 1, 0);
     both(&[1, 0xFF, 0xFF, 0xFF, 0x7F, 4, 1, 3], 1, 0);
     both(&[1, 4, 0xFF, 0xFF, 0xFF, 0x7F, 1, 3], 1, 0);
     both(&[1, 4, 4, 0xFF, 0xFF, 0xFF, 0x7F, 3], 1, 0);
@@ -147,7 +144,7 @@ fn long_forms_in_the_header() {
 
 #[test]
 fn version() {
-    for version in [0, 3, 4, 127] {
+    for version in [0, 2, 3, 127] {
         both(&[version, 4, 4, 1, 3], 7, 0);
         both(&[version], 7, 0);
     }
@@ -157,8 +154,8 @@ fn version() {
 #[test]
 fn order_in_the_header() {
     // The version before all that follows it.
-    both(&[4, 0x80, 0x00], 7, 0);
-    both(&[4, 0, 0, 0, 99], 7, 0);
+    both(&[2, 0x80, 0x00], 7, 0);
+    both(&[2, 0, 0, 0, 99], 7, 0);
     // All four numbers before their values.
     both(&[1, 0, 4, 1], 6, 4);
     both(&[1, 0, 0, 99, 0x80, 0x00], 12, 4);

@@ -4,7 +4,7 @@
 use crate::helpers::*;
 use reference::generate::pyramids::any_pyramid;
 use reference::generate::records::{any_record, any_whole, invented};
-use reference::generate::shapes::{any_record_shape, shape_of, SizeClass};
+use reference::generate::shapes::{any_shape, shape_of, SizeClass};
 use reference::generate::Chance;
 use reference::reading::Walk;
 
@@ -13,7 +13,7 @@ type Request = (u64, u64);
 /// The requests that are legal for a record.
 fn legal(record: &[u8]) -> (u64, u64) {
     let header = Walk::begin(record).expect("a legal header").header();
-    (header.shape.top().0.into(), header.planes.into())
+    (header.shape.coarsest().0.into(), header.planes.into())
 }
 
 fn all_requests((levels, planes): (u64, u64)) -> Vec<Request> {
@@ -94,7 +94,7 @@ fn small_records_of_every_kind_for_all_pairs() {
 fn records_of_any_size_for_drawn_pairs() {
     let mut chance = Chance::new(72);
     for round in 0..150 {
-        let shape = any_record_shape(&mut chance);
+        let shape = any_shape(&mut chance);
         let whole = if round % 3 == 0 {
             invented(&mut chance, shape)
         } else {

@@ -4,7 +4,6 @@ use crate::helpers::{level_at, shape};
 use reference::family::{Node, Set};
 use reference::generate::shapes::{any_shape, shape_of, SizeClass};
 use reference::generate::Chance;
-use reference::part_levels::PartLevels;
 use reference::size::{earlier_planes_of, planes_of, Level, Shape};
 use std::collections::HashSet;
 
@@ -86,7 +85,7 @@ fn levels_are_where_the_rules_put_them() {
     let mut chance = Chance::new(12);
     for _ in 0..40 {
         let shape = any_shape(&mut chance);
-        let mut counts = [0; 10];
+        let mut counts = [0; 7];
         for row in 0..shape.height() {
             for column in 0..shape.width() {
                 let level = level_at(shape, row, column);
@@ -135,13 +134,13 @@ fn plane_counts_round_down_and_once_rounded_up() {
 
 #[test]
 fn exactly_the_legal_sizes() {
-    for n in 0..=11u64 {
-        for side in 0..=4200u64 {
-            let legal = (1..=8).contains(&n)
-                && (4..=4096).contains(&side)
+    for n in 0..=8u64 {
+        for side in 0..=600u64 {
+            let legal = (1..=5).contains(&n)
+                && (4..=512).contains(&side)
                 && side % 2u64.pow(n as u32 + 1) == 0;
-            assert_eq!(Shape::judge(side, 1024, n).is_ok(), legal, "{side} {n}");
-            assert_eq!(Shape::judge(1024, side, n).is_ok(), legal, "{side} {n}");
+            assert_eq!(Shape::judge(side, 256, n).is_ok(), legal, "{side} {n}");
+            assert_eq!(Shape::judge(256, side, n).is_ok(), legal, "{side} {n}");
         }
     }
 }
@@ -149,7 +148,7 @@ fn exactly_the_legal_sizes() {
 #[test]
 fn sizes_are_judged_at_full_width() {
     for huge in [1 << 32, 1 << 33, 1 << 63] {
-        for (w, h, n) in [(4, 4, 1), (64, 64, 5), (4096, 512, 8)] {
+        for (w, h, n) in [(4, 4, 1), (64, 64, 5)] {
             assert!(Shape::judge(w, h, n).is_ok());
             assert!(Shape::judge(w + huge, h, n).is_err());
             assert!(Shape::judge(w, h + huge, n).is_err());
@@ -161,15 +160,8 @@ fn sizes_are_judged_at_full_width() {
 
 #[test]
 fn sets_come_back_from_the_workspace() {
-    let shape = shape(4096, 4096, 8);
-    for (row, column) in [
-        (0, 1),
-        (15, 15),
-        (16, 0),
-        (255, 4000),
-        (4095, 4095),
-        (300, 2),
-    ] {
+    let shape = shape(512, 512, 5);
+    for (row, column) in [(0, 1), (15, 15), (16, 0), (255, 255), (511, 511), (300, 2)] {
         let level = shape.level_of(row, column);
         let node = Node { row, column, level };
         for set in [Set::d(node), Set::l(node)] {
@@ -178,41 +170,19 @@ fn sets_come_back_from_the_workspace() {
     }
 }
 
-/// In version 2 those of the levels from K on are members of level K.
 #[test]
 fn members_of_a_set_in_a_level() {
-    let deepest = shape(512, 512, 8);
-    for levels in 1..=9 {
-        let merged = deepest.with_levels(levels).expect("K is legal");
-        let table = PartLevels::of(merged);
-        for level in 2..=9 {
-            // Below the band's first root, and that root.
-            let (row, column) = if level == 9 {
-                (1, 1)
-            } else {
-                (1 << (9 - level), 0)
-            };
-            assert_eq!(deepest.level_of(row, column), Level(level));
-            let node = Node {
-                row,
-                column,
-                level: Level(level),
-            };
-            for wanted in 1..=9 {
-                let d = table.has_member(Set::d(node), Level(wanted));
-                let l = table.has_member(Set::l(node), Level(wanted));
-                let is_one = u64::from(wanted) <= levels;
-                assert_eq!(
-                    d,
-                    is_one && wanted < level,
-                    "D of level {level} in {wanted}"
-                );
-                assert_eq!(
-                    l,
-                    is_one && wanted + 1 < level,
-                    "L of level {level} in {wanted}"
-                );
-            }
+    let node = |level| Node {
+        row: 1,
+        column: 1,
+        level: Level(level),
+    };
+    for level in 2..=6 {
+        for wanted in 1..=6 {
+            let d = Set::d(node(level)).has_member_in(Level(wanted));
+            let l = Set::l(node(level)).has_member_in(Level(wanted));
+            assert_eq!(d, wanted < level, "D of level {level} in {wanted}");
+            assert_eq!(l, wanted + 1 < level, "L of level {level} in {wanted}");
         }
     }
 }

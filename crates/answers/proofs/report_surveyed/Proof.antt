@@ -31,17 +31,14 @@ slice-write-answer-5 c = simp length-set (omega arith)
 slice-write-answer-6 : tie.Need-slice-write-answer-6
 slice-write-answer-6 c = simp length-set (omega arith)
 
-slice-write-answer-7 : tie.Need-slice-write-answer-7
-slice-write-answer-7 c = simp length-set (omega arith)
-
 same_length : tie.Need-same-length
 same_length c = search rules
 
 returns : tie.Need-returns
 unfolding verdict_numbers survey_numbers
-returns c = reported_more (_ ∷ _ ∷ _ ∷ _ ∷ _ ∷ _ ∷ _ ∷ []) c.before.before.before.before.report-verdict.ensures (omega arith) (omega arith) refl
+returns c = reported_more (_ ∷ _ ∷ _ ∷ _ ∷ _ ∷ _ ∷ []) c.before.before.before.before.report-verdict.ensures (omega arith) (omega arith) refl
 
 pub report-surveyed-spec : {M : Type 1} → statement M
 report-surveyed-spec =
     tie.close (tie.spec report-verdict-requires slice-write-answer slice-write-answer-2 slice-write-answer-3 slice-write-answer-4 slice-write-answer-5
-    slice-write-answer-6 slice-write-answer-7 same_length returns)
+    slice-write-answer-6 same_length returns)

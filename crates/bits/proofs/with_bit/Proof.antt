@@ -4,11 +4,11 @@ use Rattle.bits.proofs.Laws.{shifted}
 use Rattle.bits.proofs.with_bit.Statement.{statement}
 use Rattle.bits.proofs.with_bit.Tie as tie
 
-cast_result : tie.Need-overflow-cast-result
-cast_result c = search rules
+cast-result : tie.Need-overflow-cast-result
+cast-result c = search rules
 
-sub_result : tie.Need-overflow-sub-result
-sub_result c = search rules
+sub-result : tie.Need-overflow-sub-result
+sub-result c = search rules
 
 cast-result-2 : tie.Need-overflow-cast-result-2
 cast-result-2 c = search rules
@@ -20,4 +20,4 @@ returns : tie.Need-returns
 returns c = shifted c.args.byte c.args.i c.args.bit
 
 pub with-bit-spec : {M : Type 1} → statement M
-with-bit-spec = tie.close (tie.spec cast_result sub_result cast-result-2 shl-result returns)
+with-bit-spec = tie.close (tie.spec cast-result sub-result cast-result-2 shl-result returns)

@@ -1,4 +1,5 @@
 -- `coder::write_plane`: the levels from the coarsest down to 1.
+use native.Mathlib.Numerals.{add-one}
 use native.Mathlib.Omega.{arith}
 use borrow.Author.Rules.{rules}
 use Rattle.rules.specs.Laws.Family.Sizes.{legal}
@@ -14,11 +15,11 @@ invariant-loop z plane out₀ work₀ reached₀ left₀ out work reached left =
 abbrev decreases-loop : tie.decreases-loop
 decreases-loop z plane out₀ work₀ reached₀ left₀ out work reached left = left
 
-levels-requires : tie.Need-levels-requires invariant-loop decreases-loop
-levels-requires c κs = omega (arith, (legal _ c.before.before.requires.0.legal).few)
+add_left : tie.Need-overflow-add-left invariant-loop decreases-loop
+add_left c = omega (arith, (legal _ c.before.before.before.requires.0.legal).few)
 
 loop-holds : tie.Need-loop-init invariant-loop decreases-loop
-loop-holds c = levels_begin _ _ c.levels.ensures c.before.before.before.requires.0 c.before.before.before.requires.1 c.before.before.before.requires.2
+loop-holds c = levels_begin _ _ (add-one _) c.before.before.before.requires.0 c.before.before.before.requires.1 c.before.before.before.requires.2
 
 write-part-requires : tie.Need-write-part-requires invariant-loop decreases-loop
 write-part-requires c κs = levels_due _ _ (omega arith) c.before.before.before.loop.invariant
@@ -49,7 +50,7 @@ write-plane-spec =
     (tie.spec
     invariant-loop
     decreases-loop
-    levels-requires
+    add_left
     loop-holds
     write-part-requires
     sub-left

@@ -9,11 +9,11 @@ use Rattle.coefficients.proofs.magnitude_of.Tie as tie
 is-negative-requires : tie.Need-is-negative-requires
 is-negative-requires c κs = tt
 
-cast_result : tie.Need-overflow-cast-result
-cast_result c = wider _ c.before.before.ranges.v
+cast-result : tie.Need-overflow-cast-result
+cast-result c = wider _ c.before.before.ranges.v
 
-sub_result : tie.Need-overflow-sub-result
-sub_result c = opposed_fits _ c.before.before.ranges.v (sym c.before.is_negative.ensures ∙ c.if1.true)
+sub-result : tie.Need-overflow-sub-result
+sub-result c = opposed_fits _ c.before.before.ranges.v (sym c.before.is_negative.ensures ∙ c.if1.true)
 
 cast-result-2 : tie.Need-overflow-cast-result-2
 cast-result-2 c =
@@ -32,4 +32,4 @@ returns_2 : tie.Need-returns-2
 returns_2 c = ap nat_abs (same _ c.before.before.ranges.v)
 
 pub magnitude-of-spec : {M : Type 1} → statement M
-magnitude-of-spec = tie.close (tie.spec is-negative-requires cast_result sub_result cast-result-2 cast-result-3 returns returns_2)
+magnitude-of-spec = tie.close (tie.spec is-negative-requires cast-result sub-result cast-result-2 cast-result-3 returns returns_2)

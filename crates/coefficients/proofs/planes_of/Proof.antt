@@ -5,14 +5,14 @@ use Rattle.coefficients.proofs.Searches.{leading_few, planes_left}
 use Rattle.coefficients.proofs.planes_of.Statement.{statement}
 use Rattle.coefficients.proofs.planes_of.Tie as tie
 
-sub_result : tie.Need-overflow-sub-result
-sub_result c = omega (arith, leading_few _ c.ranges.m.fits)
+sub-result : tie.Need-overflow-sub-result
+sub-result c = omega (arith, leading_few _ c.ranges.m.fits)
 
-cast_result : tie.Need-overflow-cast-result
-cast_result c = search rules
+cast-result : tie.Need-overflow-cast-result
+cast-result c = search rules
 
 returns : tie.Need-returns
 returns c = planes_left _ c.ranges.m.fits
 
 pub planes-of-spec : {M : Type 1} → statement M
-planes-of-spec = tie.close (tie.spec sub_result cast_result returns)
+planes-of-spec = tie.close (tie.spec sub-result cast-result returns)

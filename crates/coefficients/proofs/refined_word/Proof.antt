@@ -10,8 +10,8 @@ use Rattle.coefficients.proofs.refined_word.Tie as tie
 add-n : tie.Need-overflow-add-n
 add-n c = search rules
 
-cast_result : tie.Need-overflow-cast-result
-cast_result c = search rules
+cast-result : tie.Need-overflow-cast-result
+cast-result c = search rules
 
 cast-result-2 : tie.Need-overflow-cast-result-2
 cast-result-2 c = search rules
@@ -27,4 +27,4 @@ returns c = ap (λ (x : ℕ). c.before.args.w + x) (bit_placed c.before.args.bit
 
 pub refined-word-spec : {M : Type 1} → statement M
 refined-word-spec =
-    tie.close (tie.spec add-n cast_result cast-result-2 shl-result add-result returns)
+    tie.close (tie.spec add-n cast-result cast-result-2 shl-result add-result returns)

@@ -4,11 +4,11 @@ use Rattle.coefficients.proofs.Signed.{minus_fits, signed_minus, signed_plus}
 use Rattle.coefficients.proofs.signed_of.Statement.{statement}
 use Rattle.coefficients.proofs.signed_of.Tie as tie
 
-cast_result : tie.Need-overflow-cast-result
-cast_result c = search rules
+cast-result : tie.Need-overflow-cast-result
+cast-result c = search rules
 
-sub_result : tie.Need-overflow-sub-result
-sub_result c = minus_fits _ c.before.requires
+sub-result : tie.Need-overflow-sub-result
+sub-result c = minus_fits _ c.before.requires
 
 cast-result-2 : tie.Need-overflow-cast-result-2
 cast-result-2 c = search rules
@@ -20,4 +20,4 @@ returns_2 : tie.Need-returns-2
 returns_2 c = signed_plus _ c.before.requires c.if1.false
 
 pub signed-of-spec : {M : Type 1} → statement M
-signed-of-spec = tie.close (tie.spec cast_result sub_result cast-result-2 returns returns_2)
+signed-of-spec = tie.close (tie.spec cast-result sub-result cast-result-2 returns returns_2)

@@ -7,8 +7,8 @@ use borrow.Author.Rules.{rules}
 use Rattle.coefficients.proofs.threshold_of.Statement.{statement}
 use Rattle.coefficients.proofs.threshold_of.Tie as tie
 
-cast_result : tie.Need-overflow-cast-result
-cast_result c = search rules
+cast-result : tie.Need-overflow-cast-result
+cast-result c = search rules
 
 shl-result : tie.Need-overflow-shl-result
 shl-result c = search rules
@@ -17,4 +17,4 @@ returns : tie.Need-returns
 returns c = shl_exact {a = 1} 1 _ 32 (omega arith) (omega arith) ∙ one-mul _
 
 pub threshold-of-spec : {M : Type 1} → statement M
-threshold-of-spec = tie.close (tie.spec cast_result shl-result returns)
+threshold-of-spec = tie.close (tie.spec cast-result shl-result returns)

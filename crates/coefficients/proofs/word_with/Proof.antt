@@ -8,8 +8,8 @@ use Rattle.coefficients.proofs.word_with.Tie as tie
 mul-result : tie.Need-overflow-mul-result
 mul-result c = search rules
 
-cast_result : tie.Need-overflow-cast-result
-cast_result c = search rules
+cast-result : tie.Need-overflow-cast-result
+cast-result c = search rules
 
 add-result : tie.Need-overflow-add-result
 add-result c = let small = bit_small c.args.negative in record { fits = omega arith }
@@ -18,4 +18,4 @@ returns : tie.Need-returns
 returns c = word_made _ _
 
 pub word-with-spec : {M : Type 1} → statement M
-word-with-spec = tie.close (tie.spec mul-result cast_result add-result returns)
+word-with-spec = tie.close (tie.spec mul-result cast-result add-result returns)

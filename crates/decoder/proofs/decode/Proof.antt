@@ -1,5 +1,5 @@
 -- `decoder::decode`: header, pyramid, workspace, parts.
-use Rattle.decoder.proofs.LawsAnswer.{area_fits, size_legal, least_known, header_opened}
+use Rattle.decoder.proofs.LawsAnswer.{area_fits, size_legal, least_known, header_lent}
 use Rattle.decoder.proofs.LawsAnswer.{decoding_refused, decoding_length, decoding_work, decoding_parts}
 use Rattle.decoder.proofs.LawsAnswer.{answered_decoding, refusing_decoding}
 use borrow.Author.Rules.{rules}
@@ -50,7 +50,7 @@ returns_2 c = search (rules, refusing_decoding, decoding_work)
 
 decode-parts-requires : tie.Need-decode-parts-requires
 decode-parts-requires c κs =
-    let room = least_known c.before.before.before.work-for.ensures c.before.before.if2.false in search (rules, header_opened)
+    let room = least_known c.before.before.before.work-for.ensures c.before.before.if2.false in search (rules, header_lent)
 
 same-length-5 : tie.Need-same-length-5
 same-length-5 c = search rules

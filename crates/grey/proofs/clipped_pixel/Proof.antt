@@ -10,11 +10,11 @@ returns c = clip_under _ c.if1.true
 returns_2 : tie.Need-returns-2
 returns_2 c = clip_over _ c.before.if1.false c.if2.true
 
-cast_result : tie.Need-overflow-cast-result
-cast_result c = search rules
+cast-result : tie.Need-overflow-cast-result
+cast-result c = search rules
 
 returns-3 : tie.Need-returns-3
 returns-3 c = clip_between _ c.before.if1.false c.if2.false
 
 pub clipped-pixel-spec : {M : Type 1} → statement M
-clipped-pixel-spec = tie.close (tie.spec returns returns_2 cast_result returns-3)
+clipped-pixel-spec = tie.close (tie.spec returns returns_2 cast-result returns-3)

@@ -13,8 +13,8 @@ invariant-loop first second h plane out₀ level₀ now₀ out level now = Ahead
 abbrev decreases-loop : tie.decreases-loop
 decreases-loop first second h plane out₀ level₀ now₀ out level now = level
 
-levels-requires : tie.Need-levels-requires invariant-loop decreases-loop
-levels-requires c κs = search (rules, few_levels)
+add-level : tie.Need-overflow-add-level invariant-loop decreases-loop
+add-level c = search (rules, few_levels)
 
 loop-holds : tie.Need-loop-init invariant-loop decreases-loop
 loop-holds c = search (rules, level_first)
@@ -51,5 +51,5 @@ returns_2 c = search (rules, level_last)
 
 pub one-plane-spec : {M : Type 1} → statement M
 one-plane-spec =
-    tie.close (tie.spec invariant-loop decreases-loop levels-requires loop-holds turn-requires enum-known-step same_length returns enum-known-step-2 sub-level loop-less
+    tie.close (tie.spec invariant-loop decreases-loop add-level loop-holds turn-requires enum-known-step same_length returns enum-known-step-2 sub-level loop-less
     loop-again same-length-2 returns_2)

@@ -6,11 +6,18 @@ use Rattle.rules.specs.declared.Refusal.TheVariants as refusal
 use Rattle.rules.specs.declared.Coded.{Coded}
 use Rattle.rules.specs.declared.Header.{Header}
 use Rattle.rules.specs.declared.Part.{Part}
-use Rattle.rules.specs.Document.Notation.{any, flat, zeros, same_bytes}
+use Rattle.rules.specs.Document.Notation.{any, flat, zeros}
 use Rattle.rules.specs.Document.Passes.{PartName, part_names}
 use Rattle.rules.specs.Document.Layout.{whole_of, name_of, same_name}
 use Rattle.rules.specs.Document.Numbers.{top_level, read_header, read_parts}
 use Rattle.rules.specs.Document.Calls.{Result, unless, on_header, on_ending, fitted, code_out, code_answer, code_numbers, code_places, returned, reported, lent_out}
+
+-- "equal byte for byte"
+unfoldable pub same_bytes : List ℕ → List ℕ → Bool
+same_bytes [] [] = true
+same_bytes [] (y ∷ ys) = false
+same_bytes (x ∷ xs) [] = false
+same_bytes (x ∷ xs) (y ∷ ys) = eqb x y && same_bytes xs ys
 
 -- "All parts of either, in order": the bytes of the part of ps with this name, nothing if there is none; that of the first record, else that of
 -- the second; and so for every name that a record with this header may have, behind the header. A tail is no part.

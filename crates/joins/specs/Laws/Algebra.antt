@@ -12,9 +12,8 @@ use Rattle.rules.specs.Document.Calls.{accepted, unless, fitted}
 use Rattle.rules.specs.Laws.Reading.Stands.{read_header_stands, header_within}
 use Rattle.rules.specs.Laws.Serving.Served.{record_whole}
 use Rattle.joins.specs.Document.Joining.{or_else, joined_part, joined_bytes, joining}
-use Rattle.joins.specs.Promises.Vocabulary.{Readable, part_of, either_of, join_of, Joinable}
 use Rattle.joins.specs.Laws.ByName.{all_names, record_by_name}
-use Rattle.joins.specs.Laws.Joined.{one_header, joining_joinable, joining_joined, joined_record}
+use Rattle.joins.specs.Laws.Joined.{Readable, Joinable, part_of, either_of, join_of, one_header, joining_joinable, joining_joined, joined_record}
 
 -- Records put together: by the same header bytes and the same part under each name they are the same bytes.
 join_same : (h : Header) (a b c d : List ℕ) → take h.end a ≡ take h.end c → ((x : PartName) → either_of h a b x ≡ either_of h c d x)

@@ -9,13 +9,12 @@ use Rattle.rules.specs.Document.Passes.{PartName, part_names}
 use Rattle.rules.specs.Document.Layout.{whole_of, name_of, same_name}
 use Rattle.rules.specs.Document.Numbers.{top_level, read_parts}
 use Rattle.rules.specs.Laws.Counting.Booleans.{not_test}
-use Rattle.rules.specs.Laws.Counting.Sums.{all_then, all_both, map_all, flat_same}
-use Rattle.rules.specs.Promises.Vocabulary.{All, Named, present}
+use Rattle.rules.specs.Laws.Counting.Sums.{All, all_then, all_both, map_all, flat_same}
+use Rattle.rules.specs.Promises.Vocabulary.{Named, present}
 use Rattle.rules.specs.Laws.Reading.Parts.{After, InOrder, all_present, same_name_lem, name_same, after_after, order_after, names_in_order}
 use Rattle.rules.specs.Laws.Reading.WholeParts.{WholeParts, whole_in_order, whole_named, read_parts_whole}
 use Rattle.rules.specs.Laws.Serving.Selection.{Held, holds}
 use Rattle.joins.specs.Document.Joining.{part_named}
-use Rattle.joins.specs.Promises.Cases.{cases_hold}
 
 -- what is held under a name, nothing if there is none
 unfoldable pub found : List Held → PartName → List ℕ

@@ -14,19 +14,19 @@ use Rattle.rules.specs.Document.Numbers.{follows}
 use Rattle.rules.specs.Laws.Reading.Parts.{InOrder, same_name_lem, follows_follows}
 use Rattle.rules.specs.Promises.Vocabulary.{present}
 use Rattle.rules.specs.Laws.Reading.WholeParts.{WholeParts}
-use Rattle.rules.specs.Laws.Serving.Selection.{Piece, piece_holds, piece_name, pieceBytes, piece_stands, piece_length}
+use Rattle.rules.specs.Laws.Serving.Selection.{Piece, piece_holds, piece_name, piece_bytes, piece_stands, piece_length}
 use Rattle.joins.specs.Document.Joining.{part_named, or_else}
 use Rattle.joins.specs.Laws.ByName.{found}
 
 -- nothing, or what a piece of this name holds
 pub data Under (h : Header) (x : PartName) : List ℕ → Type 0 where
   nothing : Under h x []
-  piece : (y : Piece h) → piece_name y ≡ x → Under h x (pieceBytes y)
+  piece : (y : Piece h) → piece_name y ≡ x → Under h x (piece_bytes y)
 
 -- pieces for some of these names, in their order, that hold under each what f gives
 pub record Gathered (h : Header) (f : PartName → List ℕ) (ns : List PartName) : Type 0 where
   pub pieces : List (Piece h)
-  pub bytes : flat pieceBytes pieces ≡ flat f ns
+  pub bytes : flat piece_bytes pieces ≡ flat f ns
   pub hold : (x : PartName) → found (map piece_holds pieces) x ≡ cond (present ns x) (f x) []
   pub in_order : (earlier : PartName) → InOrder earlier ns → InOrder earlier (map piece_name pieces)
 
@@ -61,13 +61,13 @@ module _ (h : Header) (f : PartName → List ℕ) (under : (x : PartName) → Un
           record {
             pieces = y ∷ r.pieces;
             bytes = ap₂ ◌++◌ (sym e) r.bytes;
-            hold = λ x. ap (λ m. cond (same_name x m) (pieceBytes y) (found (map piece_holds r.pieces) x)) g ∙ here x (same_name x n) refl;
+            hold = λ x. ap (λ m. cond (same_name x m) (piece_bytes y) (found (map piece_holds r.pieces) x)) g ∙ here x (same_name x n) refl;
             in_order = λ earlier o.
                 subst (λ m. (follows earlier m ≡ true) × InOrder m (map piece_name r.pieces)) (sym g) (o.0, r.in_order n o.1);
           }
         where
           here : (x : PartName) (t : Bool) → same_name x n ≡ t
-              → cond t (pieceBytes y) (found (map piece_holds r.pieces) x) ≡ cond (t || any (same_name x) ns) (f x) []
+              → cond t (piece_bytes y) (found (map piece_holds r.pieces) x) ≡ cond (t || any (same_name x) ns) (f x) []
           here x true k = sym (ap f (same_name_lem x n k) ∙ e)
           here x false k = r.hold x
 
@@ -89,10 +89,10 @@ module _ {h : Header} where
           piece (record { source = s; before = before; place = place; this = p; read = c.0 }) (sym (same_name_lem x (name_of p) e))
       by false e r = r
 
-  pub piece_some : (y : Piece h) → 1 ≤ length (pieceBytes y)
+  pub piece_some : (y : Piece h) → 1 ≤ length (piece_bytes y)
   piece_some y = let st = piece_stands y in omega (arith, piece_length y, st.placed, st.after, st.end)
 
   pub under_either : {x : PartName} {u v : List ℕ} → Under h x u → Under h x v → Under h x (or_else u v)
   unfolding or_else
   under_either nothing r = r
-  under_either {x} {u} {v} (piece y e) r = subst (Under h x) (sym (or_first (pieceBytes y) v (piece_some y))) (piece y e)
+  under_either {x} {u} {v} (piece y e) r = subst (Under h x) (sym (or_first (piece_bytes y) v (piece_some y))) (piece y e)

@@ -1,33 +1,36 @@
--- Demand 1 of joining: a call comes back with a number and place exactly where the case of that refusal holds for it (Promises/Refusals), with 0 exactly
--- where it is accepted; and what it leaves in the memory lent to it is what coding leaves. For the export: what its routine leaves, with the answer
--- written.
-use Rattle.std.specs.Prelude.{◌≡◌, Bool, ℕ, ◌-◌, ◌≤◌, ◌<◌, leb, length}
+-- Demand 1 of joining: a call comes back with a number and place exactly where the case of that refusal holds for it (JoinCauses), with 0 exactly where it
+-- is accepted; and what it leaves in the memory lent to it is what coding leaves. For the export: what its routine leaves, with the answer written.
+use Rattle.std.specs.Prelude.{◌≡◌, Bool, ℕ, ◌-◌, ◌≤◌, ◌<◌, length}
 use Rattle.std.proofs.Math.Path.{refl, sym}
-use Rattle.std.proofs.Common.{ap, ◌∙◌, leb-true, leb-false, le-leb}
+use Rattle.std.proofs.Common.{ap, ◌∙◌}
 use mathlib.Core.List.{List, [], ◌∷◌, ◌++◌}
 use Rattle.std.proofs.Math.Bool.{true, false, not, true≢false}
+use Rattle.std.proofs.Math.Dec.{leb}
 use Rattle.std.proofs.Math.ListN.{take}
-use Rattle.std.proofs.lemmas.Bool.{lt-leb}
+use borrow.Author.Tests.{leb-true, leb-false, le-leb, lt-leb}
 use Rattle.rules.specs.declared.Refusal.{Refusal}
 use Rattle.rules.specs.declared.Refusal.TheVariants as refusal
 use Rattle.rules.specs.declared.Coded.{Coded}
 use Rattle.rules.specs.declared.Header.{Header}
 use Rattle.rules.specs.declared.Part.{Part}
-use Rattle.rules.specs.Document.Notation.{any, zeros, same_bytes}
+use Rattle.rules.specs.Document.Notation.{any, zeros}
 use Rattle.rules.specs.Document.Numbers.{refusal_number, verdict_number, tail, fault, read_header, read_parts}
-use Rattle.rules.specs.Document.Calls.{Result, refused, unless, on_header, on_ending, fitted, code_answer, code_numbers, code_places}
+use Rattle.rules.specs.Document.Calls.{Result, refused, unless, on_header, on_ending, fitted, filled, code_out, code_answer, code_numbers, code_places}
+use Rattle.rules.specs.Document.Calls.{returned, reported, lent_out}
 use Rattle.rules.specs.Laws.Counting.Booleans.{not_test}
+use Rattle.rules.specs.Laws.Counting.Sums.{All}
 use Rattle.rules.specs.Laws.Calls.Results.{unless_case, on_header_case, on_ending_case}
 use Rattle.rules.specs.Laws.Reading.PartCases.{header_is}
 use Rattle.rules.specs.Laws.Calls.Cases.{header_of_lem, parts_to, parts_of_lem}
-use Rattle.rules.specs.Promises.Vocabulary.{All, among, Exactly}
-use Rattle.rules.specs.Laws.Calls.Refused.{coded_exactly, verdict_of, header_gives, parts_gives}
-use Rattle.rules.specs.Laws.Calls.Exports.{coded_short, coded_long}
-use Rattle.rules.specs.Laws.Bytes.Same.{same_bytes_lem, bytes_same}
-use Rattle.joins.specs.Document.Joining.{joined_bytes, clashes, unless_clash, on_record, joining, Joining, AfsJoin}
-use Rattle.joins.specs.Laws.Joined.{agrees_clear, clear_agrees, unless_clash_clear}
-use Rattle.joins.specs.Promises.Vocabulary.{Agrees, joining_numbers}
-use Rattle.joins.specs.Promises.Refusals.{ReadingCase, HEADER, PARTS, Reads, FirstClash, JoiningCase, FIRST, SECOND, MIXED, CLASH, ROOM, JOINED}
+use Rattle.rules.specs.Promises.Vocabulary.{among, Exactly}
+use Rattle.rules.specs.Laws.Calls.Refused.{exactly, verdict_of, header_gives, parts_gives, code_verdict}
+use Rattle.joins.specs.Document.Joining.{same_bytes, joined_bytes, clashes, unless_clash, on_record, joining, Joining, AfsJoin}
+use Rattle.joins.specs.Laws.Joined.{Agrees, same_bytes_lem, bytes_same, agrees_clear, clear_agrees, unless_clash_clear}
+use Rattle.joins.specs.Laws.JoinCauses.{ReadingCase, HEADER, PARTS, Reads, FirstClash, JoiningCase, FIRST, SECOND, MIXED, CLASH, ROOM, JOINED}
+
+-- The numbers that joining may give.
+abbrev pub joining_numbers : List ℕ
+joining_numbers = 0 ∷ 1 ∷ 5 ∷ 6 ∷ 7 ∷ 8 ∷ 9 ∷ 12 ∷ 14 ∷ 15 ∷ []
 
 -- Reading a record: its case, and no other's.
 module _ {X : Type 0} (s : List ℕ) (go : Header → List Part → Result X) where
@@ -150,18 +153,26 @@ pub joining_refused : {a b out : List ℕ} {answer : Coded} {out' : List ℕ} �
     → Exactly (JoiningCase a b (length out)) joining_numbers answer.verdict
     ((answer.length ≡ 0) × (out' ≡ zeros (length out)))
     (λ bytes. (answer.length ≡ length bytes) × (out' ≡ bytes ++ zeros (length out - length bytes)))
-joining_refused {a} {b} {out} {answer} {out'} x =
-    let c = joining_case a b (length out) in
-    coded_exactly (JoiningCase a b (length out)) (joining a b (length out)) c (joining_is a b (length out)) joining_numbers (joining_gives c)
-    out out' answer x.answers x.writes
+unfolding code_answer code_out filled verdict_of
+joining_refused {a} {b} {out} {answer} x =
+    let y : Result (List ℕ) = joining a b (length out) in
+    let c : JoiningCase a b (length out) y = joining_case a b (length out) in
+    exactly (JoiningCase a b (length out)) y c (joining_is a b (length out)) joining_numbers (joining_gives c)
+    answer.verdict (ap (λ a. a.verdict) x.answers ∙ code_verdict y)
+    _ (λ r e. (ap (λ a. a.length) (x.answers ∙ ap code_answer e), x.writes ∙ ap (code_out (length out)) e))
+    _ (λ bytes e. (ap (λ a. a.length) (x.answers ∙ ap code_answer e), x.writes ∙ ap (code_out (length out)) e))
 
 -- The export: an answer slice that is too short gives 5, all 0; in one that is long enough stands the routine's answer, the rest 0.
 module _ {a b out answer : List ℕ} {number : ℕ} {out' answer' : List ℕ} (x : AfsJoin a b out answer number out' answer') where
   pub afs_join_short : length answer < code_places → (number ≡ 5) × (out' ≡ zeros (length out)) × (answer' ≡ zeros (length answer))
-  afs_join_short = coded_short (joining a b (length out)) out answer number out' answer' x.returns x.reports x.writes
+  unfolding returned reported lent_out
+  afs_join_short l =
+      let e : leb code_places (length answer) ≡ false = lt-leb code_places (length answer) l in
+      (x.returns ∙ rw e, x.writes ∙ rw e, x.reports ∙ rw e)
 
   pub afs_join_joins : code_places ≤ length answer
       → (r : Coded) × Joining a b out r out' × (number ≡ verdict_number r.verdict) × (answer' ≡ code_numbers r ++ zeros (length answer - code_places))
+  unfolding returned reported lent_out filled code_numbers
   afs_join_joins l =
-      let e = coded_long (joining a b (length out)) out answer number out' answer' x.returns x.reports x.writes l in
-      (code_answer (joining a b (length out)), record { answers = refl; writes = e.0 }, e.1, e.2)
+      let e : leb code_places (length answer) ≡ true = le-leb code_places (length answer) l in
+      (code_answer (joining a b (length out)), record { answers = refl; writes = x.writes ∙ rw e }, x.returns ∙ rw e, x.reports ∙ rw e)

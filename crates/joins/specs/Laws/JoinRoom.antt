@@ -16,10 +16,9 @@ use Rattle.rules.specs.Laws.Calls.Cases.{parts_of_lem}
 use Rattle.rules.specs.Laws.Calls.Refused.{header_gives, parts_gives}
 use Rattle.rules.specs.Laws.Serving.Served.{record_whole}
 use Rattle.joins.specs.Document.Joining.{or_else, joined_part, joined_bytes, joining}
-use Rattle.joins.specs.Promises.Vocabulary.{Readable, part_of, join_of}
 use Rattle.joins.specs.Laws.ByName.{all_names, record_by_name}
-use Rattle.joins.specs.Laws.Joined.{same_header}
-use Rattle.joins.specs.Promises.Refusals.{ReadingCase, HEADER, PARTS, Reads, JoiningCase, FIRST, SECOND, ROOM}
+use Rattle.joins.specs.Laws.Joined.{Readable, part_of, join_of, same_header}
+use Rattle.joins.specs.Laws.JoinCauses.{ReadingCase, HEADER, PARTS, Reads, JoiningCase, FIRST, SECOND, ROOM}
 use Rattle.joins.specs.Laws.JoinRefusals.{joining_case}
 
 either_length : (u v : List ℕ) → length (or_else u v) ≤ length u + length v

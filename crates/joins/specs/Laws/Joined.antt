@@ -10,27 +10,78 @@ use Rattle.rules.specs.declared.Header.{Header}
 use Rattle.rules.specs.declared.HeaderRead.{HeaderRead}
 use Rattle.rules.specs.declared.HeaderRead.TheVariants as header
 use Rattle.rules.specs.declared.Part.{Part}
-use Rattle.rules.specs.Document.Notation.{any, flat, same_bytes}
+use Rattle.rules.specs.Document.Notation.{any, flat}
 use Rattle.rules.specs.Document.Passes.{PartName}
 use Rattle.rules.specs.Document.Layout.{whole_of, name_of, same_name}
 use Rattle.rules.specs.Document.Numbers.{tail, read_header, read_parts}
-use Rattle.rules.specs.Document.Calls.{Result, accepted, unless, on_header, on_ending, fitted}
-use Rattle.rules.specs.Laws.Bytes.Same.{same_bytes_lem, bytes_same}
+use Rattle.rules.specs.Document.Calls.{Result, accepted, unless, on_header, on_ending, fitted, serving}
 use Rattle.rules.specs.Laws.Counting.Booleans.{both, both_left, both_right}
-use Rattle.rules.specs.Laws.Counting.Sums.{all_then, all_both, map_all}
+use Rattle.rules.specs.Laws.Counting.Sums.{All, all_then, all_both, map_all}
 use Rattle.rules.specs.Laws.Reading.Parts.{After, InOrder, same_name_lem, name_same, order_after}
-use Rattle.rules.specs.Promises.Vocabulary.{All, present, placed_from}
+use Rattle.rules.specs.Promises.Vocabulary.{present, placed_from}
 use Rattle.rules.specs.Laws.Reading.Stands.{read_header_stands, header_within}
 use Rattle.rules.specs.Laws.Calls.Results.{unless_accepted, on_header_accepted, on_ending_accepted, accepted_same}
 use Rattle.rules.specs.Laws.Reading.Walk.{parts_from, read_parts_from}
 use Rattle.rules.specs.Laws.Reading.WholeParts.{WholeParts, read_parts_whole, whole_in_order}
 use Rattle.rules.specs.Laws.Reading.Local.{Same, same_taken, read_header_local}
-use Rattle.rules.specs.Laws.Serving.Selection.{holds, piece_holds, pieceBytes, pieces_read, pieces_hold}
+use Rattle.rules.specs.Laws.Serving.Selection.{holds, piece_holds, piece_bytes, pieces_read, pieces_hold}
 use Rattle.rules.specs.Laws.Serving.Served.{served_whole}
-use Rattle.joins.specs.Document.Joining.{part_named, or_else, joined_part, joined_bytes, clashes, unless_clash, on_record, joining}
-use Rattle.joins.specs.Promises.Vocabulary.{Readable, part_of, either_of, join_of, Joinable, IsJoined, JoinedRecord, Agrees}
+use Rattle.joins.specs.Document.Joining.{same_bytes, part_named, or_else, joined_part, joined_bytes, clashes, unless_clash, on_record, joining}
 use Rattle.joins.specs.Laws.ByName.{found, named_found, after_other, all_names, first, all_in_order, parts_present}
 use Rattle.joins.specs.Laws.Gathered.{Gathered, gathered, under_named, under_either, or_first, piece_some}
+
+-- A record that reading accepts: its header, and how long its tail is.
+pub record Readable (s : List ℕ) (h : Header) : Type 0 where
+  pub read : read_header s ≡ header.Header h
+  pub cut : ℕ
+  pub ending : (read_parts h s).ending ≡ tail cut
+
+-- the part of a name in a record; in the join of two
+abbrev pub part_of : Header → List ℕ → PartName → List ℕ
+part_of h s x = part_named s (read_parts h s).parts x
+
+abbrev pub either_of : Header → List ℕ → List ℕ → PartName → List ℕ
+either_of h a b x = joined_part a (read_parts h a).parts b (read_parts h b).parts x
+
+abbrev pub join_of : Header → List ℕ → List ℕ → List ℕ
+join_of h a b = joined_bytes h a (read_parts h a).parts b (read_parts h b).parts
+
+-- Two records that can be joined: both have this header, and under each name it is the same which of them comes first.
+pub record Joinable (a b : List ℕ) (h : Header) : Type 0 where
+  pub one : Readable a h
+  pub two : Readable b h
+  pub front : take h.end a ≡ take h.end b
+  pub agree : (x : PartName) → either_of h a b x ≡ either_of h b a x
+
+-- What joining two records gave: they can be joined, and it is what has all their parts.
+pub record IsJoined (a b j : List ℕ) : Type 0 where
+  pub head : Header
+  pub joinable : Joinable a b head
+  pub bytes : j ≡ join_of head a b
+
+-- And what is known of it: it is a record with that header, without a tail; its parts; serving it whole gives it back.
+pub record JoinedRecord (a b : List ℕ) (h : Header) (j : List ℕ) : Type 0 where
+  pub read : read_header j ≡ header.Header h
+  pub ending : (read_parts h j).ending ≡ tail 0
+  pub front : take h.end j ≡ take h.end a
+  pub part : (x : PartName) → part_of h j x ≡ either_of h a b x
+  pub served : serving j 1 0 (length j) ≡ accepted (record { bytes = j; tail = 0 })
+
+-- The same bytes.
+pub same_bytes_lem : (xs ys : List ℕ) → same_bytes xs ys ≡ true → xs ≡ ys
+unfolding same_bytes
+same_bytes_lem [] [] e = refl
+same_bytes_lem [] (y ∷ ys) e = absurd (true≢false (sym e))
+same_bytes_lem (x ∷ xs) [] e = absurd (true≢false (sym e))
+same_bytes_lem (x ∷ xs) (y ∷ ys) e = ap₂ ◌∷◌ (eqb-true x y (both_left _ _ e)) (same_bytes_lem xs ys (both_right (eqb x y) _ e))
+
+itself_same : (xs : List ℕ) → same_bytes xs xs ≡ true
+unfolding same_bytes
+itself_same [] = refl
+itself_same (x ∷ xs) = both _ _ (eq-eqb x x refl) (itself_same xs)
+
+pub bytes_same : (xs ys : List ℕ) → xs ≡ ys → same_bytes xs ys ≡ true
+bytes_same xs ys e = subst (λ l. same_bytes xs l ≡ true) e (itself_same xs)
 
 -- Reading a record accepts it or not, whatever comes of it.
 module _ {X : Type 0} (s : List ℕ) (go : Header → List Part → Result X) where
@@ -92,6 +143,10 @@ or-none (x ∷ xs) = refl
 
 pub or_same : (xs ys : List ℕ) → 1 ≤ length xs → 1 ≤ length ys → or_else xs ys ≡ or_else ys xs → xs ≡ ys
 or_same xs ys l m e = sym (or_first xs ys l) ∙ e ∙ or_first ys xs m
+
+-- A part of the first record, beside those of the second: of another name, or the same bytes.
+abbrev pub Agrees : List ℕ → List ℕ → List Part → Part → Type 0
+Agrees a b qs p = All (λ q. same_name (name_of p) (name_of q) ≡ true → whole_of a p ≡ whole_of b q) qs
 
 module _ (a b : List ℕ) where
   pub agrees_clear : (p : Part) (qs : List Part) → Agrees a b qs p → clashes a b qs p ≡ false
@@ -246,14 +301,14 @@ module _ (h : Header) (a b : List ℕ) (r : Readable a h) where
   abbrev placed : List Part
   placed = placed_from h.end (map (λ x. x.this) together.pieces)
 
-  join_bytes : head ++ flat pieceBytes together.pieces ≡ join_of h a b
+  join_bytes : head ++ flat piece_bytes together.pieces ≡ join_of h a b
   unfolding joined_bytes
   join_bytes = ap (λ l. head ++ l) together.bytes
 
   join_header : read_header (join_of h a b) ≡ header.Header h
   join_header =
       read_header_local a h r.read (join_of h a b)
-      (subst (λ l. Same a 0 l 0 h.end) join_bytes (same_taken a h.end (flat pieceBytes together.pieces) (readable_within r)))
+      (subst (λ l. Same a 0 l 0 h.end) join_bytes (same_taken a h.end (flat piece_bytes together.pieces) (readable_within r)))
 
   join_parts : read_parts h (join_of h a b) ≡ record { parts = placed; ending = tail 0 }
   join_parts =
@@ -288,7 +343,7 @@ module _ (h : Header) (a b : List ℕ) (r : Readable a h) where
       record {
         read = join_header;
         ending = ending;
-        front = ap (take h.end) (sym join_bytes) ∙ take_at head (flat pieceBytes together.pieces) h.end head_length;
+        front = ap (take h.end) (sym join_bytes) ∙ take_at head (flat piece_bytes together.pieces) h.end head_length;
         part = join_part;
         served = served_whole (join_of h a b) h (length (join_of h a b)) join_header ending (omega arith);
       }

@@ -16,9 +16,9 @@ use Rattle.rules.specs.Document.Passes.{PartName, part_names}
 use Rattle.rules.specs.Document.Layout.{header_bytes, CodedPart, part_bytes, parts_with, same_name}
 use Rattle.rules.specs.Document.Numbers.{read_parts}
 use Rattle.rules.specs.Document.Calls.{accepted, fitted, decoding}
-use Rattle.rules.specs.Promises.Vocabulary.{All, selection, Named, present, header_of, record_bytes, Codable, Stated, PlaneCount, names, kept, whole_in, tail_in}
+use Rattle.rules.specs.Promises.Vocabulary.{selection, Named, present, header_of, record_bytes, Codable, Stated, PlaneCount, names, kept, whole_in, tail_in}
 use Rattle.rules.specs.Promises.Vocabulary.{arrived, Rounded, ReadsAs}
-use Rattle.rules.specs.Laws.Counting.Sums.{all_then, all_both}
+use Rattle.rules.specs.Laws.Counting.Sums.{All, all_then, all_both}
 use Rattle.rules.specs.Laws.Reading.Parts.{all_present, names_named, same_name_lem}
 use Rattle.rules.specs.Laws.Calls.Results.{unless_accepted, accepted_same}
 use Rattle.rules.specs.Laws.Serving.Selection.{Held, holds}
@@ -29,13 +29,20 @@ use Rattle.rules.specs.Laws.Rounding.Run.{kept_legal}
 use Rattle.rules.specs.Laws.Calls.Whole.{demand2_names}
 use Rattle.rules.specs.Laws.Calls.Arrived.{demand3_selection}
 use Rattle.joins.specs.Document.Joining.{or_else, joined_part, joined_bytes, joining}
-use Rattle.joins.specs.Promises.Vocabulary.{Readable, part_of, either_of, join_of, whole_there, in_either}
 use Rattle.joins.specs.Laws.ByName.{found, held_names, held_bytes, Among, none, this, other, by_name, named_found, all_names, first, all_in_order}
-use Rattle.joins.specs.Laws.Joined.{joining_joinable}
+use Rattle.joins.specs.Laws.Joined.{Readable, part_of, either_of, join_of, joining_joinable}
 
 -- what the coder wrote of a part
 abbrev writes : CodedPart → Held
 writes p = record { name = p.name; bytes = part_bytes p }
+
+-- the parts that are whole in the first n bytes behind the header of a selection
+abbrev pub whole_there : List CodedPart → (PartName → Bool) → ℕ → PartName → Bool
+whole_there ps keep n x = present (names (whole_in n (kept keep ps))) x
+
+-- those that are whole in one or the other of two
+abbrev pub in_either : List CodedPart → (PartName → Bool) → ℕ → (PartName → Bool) → ℕ → List CodedPart
+in_either ps keep₁ n₁ keep₂ n₂ = kept (λ x. whole_there ps keep₁ n₁ x || whole_there ps keep₂ n₂ x) ps
 
 -- What is found of a selection under a name is what is found of all, if it is kept.
 found_kept : (keep : PartName → Bool) (ps : List CodedPart) (x : PartName)

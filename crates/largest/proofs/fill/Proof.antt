@@ -16,7 +16,7 @@ same_length : tie.Need-same-length
 same_length c = search rules
 
 returns : tie.Need-returns
-returns c = filled_all c.before.before.before.before.before.before.requires c.before.before.fill-d.ensures (omega arith) (omega arith)
+returns c = filled_all c.before.before.fill-d.ensures (omega arith) (omega arith)
 
 pub fill_spec : {M : Type 1} → statement M
 fill_spec = tie.close (tie.spec add-t4 fill-d-requires same_length returns)

@@ -1,5 +1,5 @@
 -- `largest::fill_blocks_d` meets its contract.
-use Rattle.largest.proofs.Blocks.{all_d_lem}
+use Rattle.largest.proofs.Blocks.{all_d}
 use Prim.Native.Nat.{◌-◌, ◌≤◌}
 use native.Mathlib.Omega.{arith}
 use Rattle.largest.specs.Blocks.{SomeD}
@@ -42,7 +42,7 @@ same_length : tie.Need-same-length invariant-loop decreases-loop
 same_length c = search (rules, c.before.loop.invariant.1.apart.long)
 
 returns : tie.Need-returns invariant-loop decreases-loop
-returns c = search (rules, all_d_lem)
+returns c = search (rules, all_d)
 
 pub fill-blocks-d-spec : {M : Type 1} → statement M
 fill-blocks-d-spec =

@@ -1,5 +1,5 @@
 -- `largest::fill_blocks_l` meets its contract.
-use Rattle.largest.proofs.Blocks.{all_l_lem}
+use Rattle.largest.proofs.Blocks.{all_l}
 use Prim.Native.Nat.{◌-◌, ◌≤◌}
 use native.Mathlib.Omega.{arith}
 use Rattle.largest.specs.Blocks.{SomeL}
@@ -51,7 +51,7 @@ same_length : tie.Need-same-length invariant-loop decreases-loop
 same_length c = search rules
 
 returns : tie.Need-returns invariant-loop decreases-loop
-returns c = search (rules, all_l_lem)
+returns c = search (rules, all_l)
 
 pub fill-blocks-l-spec : {M : Type 1} → statement M
 fill-blocks-l-spec =

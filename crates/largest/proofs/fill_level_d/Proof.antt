@@ -5,11 +5,11 @@ use borrow.Author.Rules.{rules}
 use Rattle.largest.proofs.fill_level_d.Statement.{statement}
 use Rattle.largest.proofs.fill_level_d.Tie as tie
 
-depth-size-requires : tie.Need-depth-size-requires
-depth-size-requires c κs = search rules
+level-size-requires : tie.Need-level-size-requires
+level-size-requires c κs = search rules
 
-depth-from-requires : tie.Need-depth-from-requires
-depth-from-requires c κs = search rules
+stretch-from-requires : tie.Need-stretch-from-requires
+stretch-from-requires c κs = search rules
 
 pair-to-requires : tie.Need-pair-to-requires
 pair-to-requires c κs = search rules
@@ -35,9 +35,9 @@ same_length c = search rules
 returns : tie.Need-returns
 returns c =
     let start = c.before.before.before.before.before.before.before.before in
-    let from = c.before.before.before.before.before.depth-from.ensures in
+    let from = c.before.before.before.before.before.stretch-from.ensures in
     let to = c.before.before.before.before.pair-to.ensures in
-    let size = c.before.before.before.before.before.before.depth-size.ensures in
+    let size = c.before.before.before.before.before.before.level-size.ensures in
     let filled = c.before.before.fill-blocks-d.ensures in
     level_d _ _ _ start.requires _ _ _ from.0 size (omega arith) to.1 _ filled.apart (omega arith) filled
 
@@ -45,8 +45,8 @@ pub fill-level-d-spec : {M : Type 1} → statement M
 fill-level-d-spec =
     tie.close
     (tie.spec
-    depth-size-requires
-    depth-from-requires
+    level-size-requires
+    stretch-from-requires
     pair-to-requires
     mul-fill-blocks-d
     sub-fill-blocks-d

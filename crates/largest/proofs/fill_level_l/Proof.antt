@@ -5,14 +5,14 @@ use borrow.Author.Rules.{rules}
 use Rattle.largest.proofs.fill_level_l.Statement.{statement}
 use Rattle.largest.proofs.fill_level_l.Tie as tie
 
-depth-size-requires : tie.Need-depth-size-requires
-depth-size-requires c κs = search rules
+level-size-requires : tie.Need-level-size-requires
+level-size-requires c κs = search rules
 
-depth-from-requires : tie.Need-depth-from-requires
-depth-from-requires c κs = search rules
+stretch-from-requires : tie.Need-stretch-from-requires
+stretch-from-requires c κs = search rules
 
-depth-to-requires : tie.Need-depth-to-requires
-depth-to-requires c κs = search rules
+stretch-to-requires : tie.Need-stretch-to-requires
+stretch-to-requires c κs = search rules
 
 mul-fill-blocks-l : tie.Need-overflow-mul-fill-blocks-l
 mul-fill-blocks-l c = search rules
@@ -35,9 +35,9 @@ same_length c = search rules
 returns : tie.Need-returns
 returns c =
     let start = c.before.before.before.before.before.before.before.before in
-    let from = c.before.before.before.before.before.depth-from.ensures in
-    let to = c.before.before.before.before.depth-to.ensures in
-    let size = c.before.before.before.before.before.before.depth-size.ensures in
+    let from = c.before.before.before.before.before.stretch-from.ensures in
+    let to = c.before.before.before.before.stretch-to.ensures in
+    let size = c.before.before.before.before.before.before.level-size.ensures in
     let filled = c.before.before.fill-blocks-l.ensures in
     level_l _ _ _ start.requires.0 _ _ _ from.0 size (omega arith) to.1 _ filled.apart start.requires.1 filled
 
@@ -45,9 +45,9 @@ pub fill-level-l-spec : {M : Type 1} → statement M
 fill-level-l-spec =
     tie.close
     (tie.spec
-    depth-size-requires
-    depth-from-requires
-    depth-to-requires
+    level-size-requires
+    stretch-from-requires
+    stretch-to-requires
     mul-fill-blocks-l
     sub-fill-blocks-l
     part-fill-blocks-l-start

@@ -10,8 +10,8 @@ use Rattle.largest.proofs.measure_of.Tie as tie
 planes-of-requires : tie.Need-planes-of-requires
 planes-of-requires c κs = search rules
 
-cast_result : tie.Need-overflow-cast-result
-cast_result c = record { fits = omega (arith, planes_under 31 (c.before.args.w / 2) (omega arith) (omega arith)) }
+cast-result : tie.Need-overflow-cast-result
+cast-result c = record { fits = omega (arith, planes_under 31 (c.before.args.w / 2) (omega arith) (omega arith)) }
 
 add-result : tie.Need-overflow-add-result
 add-result c = record { fits = omega (arith, planes_under 31 (c.before.args.w / 2) (omega arith) (omega arith)) }
@@ -21,4 +21,4 @@ unfolding magnitude_word
 returns c = (search rules, omega (arith, planes_under 31 (c.before.args.w / 2) (omega arith) (omega arith)))
 
 pub measure-of-spec : {M : Type 1} → statement M
-measure-of-spec = tie.close (tie.spec planes-of-requires cast_result add-result returns)
+measure-of-spec = tie.close (tie.spec planes-of-requires cast-result add-result returns)

@@ -1,5 +1,4 @@
 -- `largest::pair_to` meets its contract.
-use Rattle.rules.specs.Document.Pyramid.{depths}
 use native.Mathlib.Omega.{arith}
 use Rattle.rules.specs.Laws.Family.Sizes.{legal}
 use Rattle.largest.proofs.Lent.{pair_finest}
@@ -8,8 +7,8 @@ use borrow.Author.Rules.{rules}
 use Rattle.largest.proofs.pair_to.Statement.{statement}
 use Rattle.largest.proofs.pair_to.Tie as tie
 
-depth-to-requires : tie.Need-depth-to-requires
-depth-to-requires c κs = search rules
+stretch-to-requires : tie.Need-stretch-to-requires
+stretch-to-requires c κs = search rules
 
 returns : tie.Need-returns
 returns c =
@@ -20,17 +19,16 @@ returns c =
 sub-t4 : tie.Need-overflow-sub-t4
 sub-t4 c = search rules
 
-depth-to-requires-2 : tie.Need-depth-to-requires-2
-depth-to-requires-2 c κs = search rules
+stretch-to-requires-2 : tie.Need-stretch-to-requires-2
+stretch-to-requires-2 c κs = search rules
 
 returns_2 : tie.Need-returns-2
 returns_2 c =
     let start = c.before.before.before.before in
     let most = start.requires.2 in
-    let behind = next_start start.args.z (legal _ start.requires.0) (depths start.args.z)
-    (omega arith) (omega arith) start.args.k.0 c.before.before.if1.false (omega arith) in
+    let behind = next_start start.args.z (legal _ start.requires.0) start.args.k.0 c.before.before.if1.false (omega arith) in
     (omega arith, search rules, search rules)
 
 pub pair-to-spec : {M : Type 1} → statement M
 pair-to-spec =
-    tie.close (tie.spec depth-to-requires returns sub-t4 depth-to-requires-2 returns_2)
+    tie.close (tie.spec stretch-to-requires returns sub-t4 stretch-to-requires-2 returns_2)

@@ -4,14 +4,14 @@ use Rattle.lifting.proofs.Signs.{coefficient_fits, coefficient_is}
 use Rattle.lifting.proofs.coefficient_of.Statement.{statement}
 use Rattle.lifting.proofs.coefficient_of.Tie as tie
 
-cast_result : tie.Need-overflow-cast-result
-cast_result c = search rules
+cast-result : tie.Need-overflow-cast-result
+cast-result c = search rules
 
-sub_result : tie.Need-overflow-sub-result
-sub_result c = search (rules, coefficient_fits)
+sub-result : tie.Need-overflow-sub-result
+sub-result c = search (rules, coefficient_fits)
 
 returns : tie.Need-returns
 returns c = search (rules, coefficient_is)
 
 pub coefficient-of-spec : {M : Type 1} → statement M
-coefficient-of-spec = tie.close (tie.spec cast_result sub_result returns)
+coefficient-of-spec = tie.close (tie.spec cast-result sub-result returns)

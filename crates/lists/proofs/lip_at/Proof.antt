@@ -22,8 +22,8 @@ shared-slice-read-result : tie.Need-shared-slice-read-result
 unfolding lip_from
 shared-slice-read-result c = search rules
 
-cast_result : tie.Need-overflow-cast-result
-cast_result c = omega (arith, c.shared-slice-known2.given (c.before.lip-from.result + c.before.before.before.args.i))
+cast-result : tie.Need-overflow-cast-result
+cast-result c = omega (arith, c.shared-slice-known2.given (c.before.lip-from.result + c.before.before.before.args.i))
 
 returns : tie.Need-returns
 returns c =
@@ -33,4 +33,4 @@ returns c =
 pub lip-at-spec : {M : Type 1} → statement M
 lip-at-spec =
     tie.close
-    (tie.spec lip-from-requires add_at mul-result shared-slice-read-result cast_result returns)
+    (tie.spec lip-from-requires add_at mul-result shared-slice-read-result cast-result returns)

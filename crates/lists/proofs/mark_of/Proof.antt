@@ -11,8 +11,8 @@ planes-of-requires c κs = search rules
 mul-result : tie.Need-overflow-mul-result
 mul-result c = let few = mark_planes _ (omega (arith, c.before.ranges)) c.planes-of.ensures in search rules
 
-cast_result : tie.Need-overflow-cast-result
-cast_result c = search rules
+cast-result : tie.Need-overflow-cast-result
+cast-result c = search rules
 
 add-result : tie.Need-overflow-add-result
 add-result c = let few = mark_planes _ (omega (arith, c.before.ranges)) c.planes-of.ensures in search rules
@@ -21,4 +21,4 @@ returns : tie.Need-returns
 returns c = mark_made _ (omega (arith, c.before.ranges)) c.planes-of.ensures
 
 pub mark-of-spec : {M : Type 1} → statement M
-mark-of-spec = tie.close (tie.spec planes-of-requires mul-result cast_result add-result returns)
+mark-of-spec = tie.close (tie.spec planes-of-requires mul-result cast-result add-result returns)

@@ -12,8 +12,8 @@ enum-known-e c = search rules
 mul-result : tie.Need-overflow-mul-result
 mul-result c = omega (arith, ap index_of c.before.e.given.1)
 
-cast_result : tie.Need-overflow-cast-result
-cast_result c = omega (arith, ap index_of c.before.e.given.1)
+cast-result : tie.Need-overflow-cast-result
+cast-result c = omega (arith, ap index_of c.before.e.given.1)
 
 enum-known-e-2 : tie.Need-enum-known-e-2
 enum-known-e-2 c = search rules
@@ -39,7 +39,7 @@ number-of-spec =
     (tie.spec
     enum-known-e
     mul-result
-    cast_result
+    cast-result
     enum-known-e-2
     mul-result-2
     add-result

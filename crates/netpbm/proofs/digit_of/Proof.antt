@@ -5,14 +5,14 @@ use borrow.Author.Rules.{rules}
 use Rattle.netpbm.proofs.digit_of.Statement.{statement}
 use Rattle.netpbm.proofs.digit_of.Tie as tie
 
-sub_result : tie.Need-overflow-sub-result
-sub_result c = omega (arith, digit_least c.args.b c.requires)
+sub-result : tie.Need-overflow-sub-result
+sub-result c = omega (arith, digit_least c.args.b c.requires)
 
-cast_result : tie.Need-overflow-cast-result
-cast_result c = search rules
+cast-result : tie.Need-overflow-cast-result
+cast-result c = search rules
 
 returns : tie.Need-returns
 returns c = (refl, omega (arith, digit_most c.args.b c.requires))
 
 pub digit-of-spec : {M : Type 1} → statement M
-digit-of-spec = tie.close (tie.spec sub_result cast_result returns)
+digit-of-spec = tie.close (tie.spec sub-result cast-result returns)

@@ -1,4 +1,4 @@
-use Rattle.netpbm.proofs.Laws.{blank_end, blank_space, blank_tab, blank_vt, blank_ff}
+use Rattle.netpbm.proofs.Laws.{blank_end, blank_space, blank_tab}
 use borrow.Author.Rules.{rules}
 use Rattle.netpbm.proofs.is_blank.Statement.{statement}
 use Rattle.netpbm.proofs.is_blank.Tie as tie
@@ -15,11 +15,5 @@ returns_2 c = search (rules, blank_space)
 returns-3 : tie.Need-returns-3
 returns-3 c = search (rules, blank_tab)
 
-returns-4 : tie.Need-returns-4
-returns-4 c = search (rules, blank_vt)
-
-returns-5 : tie.Need-returns-5
-returns-5 c = search (rules, blank_ff)
-
 pub is-blank-spec : {M : Type 1} → statement M
-is-blank-spec = tie.close (tie.spec is-line-end-requires returns returns_2 returns-3 returns-4 returns-5)
+is-blank-spec = tie.close (tie.spec is-line-end-requires returns returns_2 returns-3)

@@ -3,8 +3,8 @@ use borrow.Author.Rules.{rules}
 use Rattle.netpbm.proofs.last_blank.Statement.{statement}
 use Rattle.netpbm.proofs.last_blank.Tie as tie
 
-byte_at_requires : tie.Need-byte-at-requires
-byte_at_requires c κs = search rules
+byte-at-requires : tie.Need-byte-at-requires
+byte-at-requires c κs = search rules
 
 past-comment-requires : tie.Need-past-comment-requires
 past-comment-requires c κs = search rules
@@ -16,4 +16,4 @@ returns_2 : tie.Need-returns-2
 returns_2 c = search (rules, last_here)
 
 pub last-blank-spec : {M : Type 1} → statement M
-last-blank-spec = tie.close (tie.spec byte_at_requires past-comment-requires returns returns_2)
+last-blank-spec = tie.close (tie.spec byte-at-requires past-comment-requires returns returns_2)

@@ -8,8 +8,8 @@ use Rattle.netpbm.proofs.read_end.Tie as tie
 last-blank-requires : tie.Need-last-blank-requires
 last-blank-requires c κs = search rules
 
-byte_at_requires : tie.Need-byte-at-requires
-byte_at_requires c κs = search rules
+byte-at-requires : tie.Need-byte-at-requires
+byte-at-requires c κs = search rules
 
 is-blank-requires : tie.Need-is-blank-requires
 is-blank-requires c κs = search rules
@@ -39,5 +39,5 @@ returns-3 c = search (rules, end_short, not-false)
 
 pub read-end-spec : {M : Type 1} → statement M
 read-end-spec =
-    tie.close (tie.spec last-blank-requires byte_at_requires is-blank-requires returns add-pixels sub-are-there are-there-requires returns_2
+    tie.close (tie.spec last-blank-requires byte-at-requires is-blank-requires returns add-pixels sub-are-there are-there-requires returns_2
     returns-3)

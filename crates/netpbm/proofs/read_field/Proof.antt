@@ -4,8 +4,8 @@ use borrow.Author.Rules.{rules}
 use Rattle.netpbm.proofs.read_field.Statement.{statement}
 use Rattle.netpbm.proofs.read_field.Tie as tie
 
-byte_at_requires : tie.Need-byte-at-requires
-byte_at_requires c κs = search rules
+byte-at-requires : tie.Need-byte-at-requires
+byte-at-requires c κs = search rules
 
 in-gap-requires : tie.Need-in-gap-requires
 in-gap-requires c κs = search rules
@@ -16,8 +16,8 @@ returns c = search (rules, field_no_gap, not-true)
 past-gap-requires : tie.Need-past-gap-requires
 past-gap-requires c κs = search rules
 
-byte_at_requires_2 : tie.Need-byte-at-requires-2
-byte_at_requires_2 c κs = search rules
+byte-at-requires-2 : tie.Need-byte-at-requires-2
+byte-at-requires-2 c κs = search rules
 
 is-digit-requires : tie.Need-is-digit-requires
 is-digit-requires c κs = search rules
@@ -33,5 +33,5 @@ returns-3 c = search (rules, field_read, not-false)
 
 pub read-field-spec : {M : Type 1} → statement M
 read-field-spec =
-    tie.close (tie.spec byte_at_requires in-gap-requires returns past-gap-requires byte_at_requires_2 is-digit-requires returns_2 read-digits-requires
+    tie.close (tie.spec byte-at-requires in-gap-requires returns past-gap-requires byte-at-requires-2 is-digit-requires returns_2 read-digits-requires
     returns-3)

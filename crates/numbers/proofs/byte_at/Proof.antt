@@ -8,11 +8,11 @@ use Rattle.numbers.proofs.byte_at.Tie as tie
 shared-slice-read-result : tie.Need-shared-slice-read-result
 shared-slice-read-result c = search rules
 
-cast_result : tie.Need-overflow-cast-result
-cast_result c = omega (arith, c.shared-slice-known.given c.before.args.at)
+cast-result : tie.Need-overflow-cast-result
+cast-result c = omega (arith, c.shared-slice-known.given c.before.args.at)
 
 returns : tie.Need-returns
 returns c = (refl, omega (arith, c.shared-slice-known.given c.before.args.at))
 
 pub byte-at-spec : {M : Type 1} → statement M
-byte-at-spec = tie.close (tie.spec shared-slice-read-result cast_result returns)
+byte-at-spec = tie.close (tie.spec shared-slice-read-result cast-result returns)

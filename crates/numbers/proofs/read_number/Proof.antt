@@ -18,8 +18,8 @@ loop-holds c = reading_begins
 returns : tie.Need-returns invariant-loop decreases-loop
 returns c = reading_cut c.before.before.loop.invariant (omega arith) (omega arith)
 
-byte_at_requires : tie.Need-byte-at-requires invariant-loop decreases-loop
-byte_at_requires c κs = search rules
+byte-at-requires : tie.Need-byte-at-requires invariant-loop decreases-loop
+byte-at-requires c κs = search rules
 
 add-place : tie.Need-overflow-add-place invariant-loop decreases-loop
 add-place c = search rules
@@ -54,5 +54,5 @@ returns-3 c = reading_none c.before.loop.invariant (omega arith)
 
 pub read-number-spec : {M : Type 1} → statement M
 read-number-spec =
-    tie.close (tie.spec invariant-loop decreases-loop loop-holds returns byte_at_requires add-place last-byte-requires returns_2 with-group-requires mul-worth
+    tie.close (tie.spec invariant-loop decreases-loop loop-holds returns byte-at-requires add-place last-byte-requires returns_2 with-group-requires mul-worth
     sub-bytes-left loop-less loop-again returns-3)

@@ -1,23 +1,22 @@
 -- `parts::start` meets its contract.
 use native.Mathlib.Omega.{arith}
 use Rattle.rules.specs.Laws.Family.Sizes.{legal}
+use Rattle.parts.proofs.Begin.{top_size, top_under, top_room, band_listing, started}
 use borrow.Author.Rules.{rules}
-use Rattle.parts.proofs.Begin.{few_counts, top_size, top_under, top_room, band_listing, started_by}
 use Rattle.parts.proofs.start.Statement.{statement}
 use Rattle.parts.proofs.start.Tie as tie
 
-levels-requires : tie.Need-levels-requires
-levels-requires c κs = omega (arith, (legal _ c.before.requires.0).few)
+add-list-band : tie.Need-overflow-add-list-band
+add-list-band c = omega (arith, (legal _ c.before.requires.0).few)
 
 level-size-requires : tie.Need-level-size-requires
-level-size-requires c κs = let P = c.before.before.requires in
-    (P.0, omega (arith, c.levels.ensures, (legal _ P.0).some_levels), omega (arith, c.levels.ensures))
+level-size-requires c κs = search rules
 
 mul-list-band : tie.Need-overflow-mul-list-band
-mul-list-band c = omega (arith, (top_under _ c.before.before.before.requires.0 (top_size _ c.before.levels.ensures c.level-size.ensures)).1)
+mul-list-band c = omega (arith, (top_under _ c.before.before.requires.0 c.level-size.ensures).1)
 
 mul-list-band-2 : tie.Need-overflow-mul-list-band-2
-mul-list-band-2 c = omega (arith, (top_under _ c.before.before.before.requires.0 (top_size _ c.before.levels.ensures c.level-size.ensures)).1)
+mul-list-band-2 c = omega (arith, (top_under _ c.before.before.requires.0 c.level-size.ensures).1)
 
 sub-list-band : tie.Need-overflow-sub-list-band
 sub-list-band c = search rules
@@ -26,48 +25,40 @@ part-list-band-start : tie.Need-slice-bounds-list-band-start
 part-list-band-start c = search rules
 
 part-list-band-end : tie.Need-slice-bounds-list-band-end
-part-list-band-end c = let P = c.before.before.before.requires in top_room _ P.0 (top_size _ c.before.levels.ensures c.level-size.ensures) P.1
+part-list-band-end c = let P = c.before.before.requires in top_room _ P.0 c.level-size.ensures P.1
 
 list-band-requires : tie.Need-list-band-requires
-list-band-requires c κs = let P = c.before.before.before.before.requires in
-    let size = top_size _ c.before.before.levels.ensures c.before.level-size.ensures in
-    band_listing _ _ _ c.before.before.before.before.args.work.now P.0 size (top_room _ P.0 size P.1)
-
-sub-lip : tie.Need-overflow-sub-lip
-sub-lip c = let sized = c.before.before.before.before.before in omega (arith, sized.levels.ensures, few_counts _ sized.before.before.requires.0)
+list-band-requires c κs = let P = c.before.before.before.requires in
+    let size = c.before.level-size.ensures in
+    band_listing _ _ _ c.before.before.before.args.work.now P.0 (top_size _ size) (top_room _ P.0 size P.1)
 
 mul-lip : tie.Need-overflow-mul-lip
-mul-lip c = let sized = c.before.before.before.before.before in omega (arith, sized.levels.ensures, few_counts _ sized.before.before.requires.0)
+mul-lip c = omega (arith, (legal _ c.before.before.before.before.before.before.requires.0).few)
 
 array-write-lip : tie.Need-array-write-lip
-array-write-lip c = let sized = c.before.before.before.before.before in omega (arith, sized.levels.ensures, few_counts _ sized.before.before.requires.0)
-
-sub-lis : tie.Need-overflow-sub-lis
-sub-lis c = let sized = c.before.before.before.before.before in omega (arith, sized.levels.ensures, few_counts _ sized.before.before.requires.0)
+array-write-lip c = omega (arith, (legal _ c.before.before.before.before.before.before.requires.0).few)
 
 mul-lis : tie.Need-overflow-mul-lis
-mul-lis c = let sized = c.before.before.before.before.before in omega (arith, sized.levels.ensures, few_counts _ sized.before.before.requires.0)
+mul-lis c = omega (arith, (legal _ c.before.before.before.before.before.before.requires.0).few)
 
 array-write-lis : tie.Need-array-write-lis
-array-write-lis c = let sized = c.before.before.before.before.before in omega (arith, sized.levels.ensures, few_counts _ sized.before.before.requires.0)
+array-write-lis c = omega (arith, (legal _ c.before.before.before.before.before.before.requires.0).few)
 
 same_length : tie.Need-same-length
 same_length c = search rules
 
 returns : tie.Need-returns
-returns c =
-    let listed = c.before.before in
-    let sized = listed.before.before.before in
-    let P = sized.before.before.requires in
-    let size = top_size _ sized.levels.ensures listed.before.before.level-size.ensures in
-    started_by _ _ _ sized.levels.ensures P.0 _ size sized.before.before.args.work.now _ (top_room _ P.0 size P.1)
-    listed.list-band.ensures.beside.long listed.list-band.ensures
+returns c = let P = c.before.before.before.before.before.before.requires in
+    let size = c.before.before.before.before.level-size.ensures in
+    let listed = c.before.before.list-band.ensures in
+    let work = c.before.before.before.before.before.before.args.work.now in
+    started _ _ _ P.0 _ (top_size _ size) work _ (top_room _ P.0 size P.1) listed.beside.long listed
 
 pub start_spec : {M : Type 1} → statement M
 start_spec =
     tie.close
     (tie.spec
-    levels-requires
+    add-list-band
     level-size-requires
     mul-list-band
     mul-list-band-2
@@ -75,10 +66,8 @@ start_spec =
     part-list-band-start
     part-list-band-end
     list-band-requires
-    sub-lip
     mul-lip
     array-write-lip
-    sub-lis
     mul-lis
     array-write-lis
     same_length

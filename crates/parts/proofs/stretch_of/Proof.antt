@@ -28,7 +28,7 @@ sub-lis-end c = search rules
 fill-of-requires : tie.Need-fill-of-requires
 fill-of-requires c κs =
     let C = c.before.before.before.before.before.requires in
-    (omega (arith, c.before.if1.false), omega (arith, C.level, (legal _ C.legal).few, (legal _ C.legal).few_levels))
+    (omega (arith, c.before.if1.false), omega (arith, C.level, (legal _ C.legal).few))
 
 mul-lis-end : tie.Need-overflow-mul-lis-end
 mul-lis-end c =

@@ -1,5 +1,5 @@
 -- `passes::open_a` meets its contract.
-use Rattle.passes.proofs.Sets.{scaled_a, index_a, set_room_a, opened_a_more, opened_a_less}
+use Rattle.passes.proofs.Sets.{index_a, set_room_a, opened_a_more, opened_a_less}
 use Rattle.testing.specs.Finding.{stood}
 use borrow.Author.Rules.{rules}
 use Rattle.passes.proofs.open_a.Statement.{statement}
@@ -10,9 +10,6 @@ test-offspring-requires c κs = search rules
 
 moved-to-requires : tie.Need-moved-to-requires
 moved-to-requires c κs = search rules
-
-mul-if1 : tie.Need-overflow-mul-if1
-mul-if1 c = search (rules, scaled_a)
 
 add-set-requires : tie.Need-add-set-requires
 add-set-requires c κs =
@@ -52,7 +49,6 @@ open-a-spec =
     (tie.spec
     test-offspring-requires
     moved-to-requires
-    mul-if1
     add-set-requires
     same_length
     same-length-2

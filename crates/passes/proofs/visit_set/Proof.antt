@@ -1,7 +1,6 @@
 -- `passes::visit_set` meets its contract.
 use Rattle.passes.proofs.Visits.{taken_hand, taken_fits, taken_room, taken_weighed, weighed_count, taken_moved, moved_count}
 use borrow.Author.Rules.{rules}
-use Rattle.passes.proofs.Sets.{end_small}
 use Rattle.passes.proofs.visit_set.Statement.{statement}
 use Rattle.passes.proofs.visit_set.Tie as tie
 
@@ -12,7 +11,7 @@ past-set-requires : tie.Need-past-set-requires
 past-set-requires c κs = search rules
 
 has-member-requires : tie.Need-has-member-requires
-has-member-requires c κs = search (rules, end_small)
+has-member-requires c κs = search rules
 
 weigh-requires : tie.Need-weigh-requires
 weigh-requires c κs = search (rules, taken_hand)

@@ -1,7 +1,6 @@
 -- Document 02, W3: what the way in, from a grey file to a pyramid, and the way back answer and leave in the memory lent to them, for every
 -- input. `Result`, `unless`, `fitted` and `filled` are document 01's (rules, Calls).
-use Rattle.std.specs.Prelude.{◌≡◌, List, [], ◌∷◌, map, Bool, true, cond, ℕ, suc, min, leb, ltb, eqb, length, replicate, ℤ, pos, negsuc}
-use Rattle.rules.specs.declared.Merged.TheVariants.{Never}
+use Rattle.std.specs.Prelude.{◌≡◌, List, [], ◌∷◌, map, Bool, true, false, cond, ℕ, zero, suc, min, leb, ltb, eqb, length, replicate, ℤ, pos, negsuc}
 use Rattle.rules.specs.declared.Size.{Size}
 use Rattle.rules.specs.declared.Refusal.TheVariants as refusal
 use Rattle.rules.specs.declared.Verdict.TheVariants.{Accepted, Refused}
@@ -32,7 +31,7 @@ lifted z pixels room work =
     (accepted (record { size = z; pyramid = pyramid_of z pixels }))))
 
 unfoldable pub grey_in : List ℕ → ℕ → ℕ → ℕ → Result GreyPyramid
-grey_in file n room work = on_picture (read_file file) (λ w h pixels. lifted (record { w = w; h = h; n = n; merged = Never }) pixels room work)
+grey_in file n room work = on_picture (read_file file) (λ w h pixels. lifted (record { w = w; h = h; n = n }) pixels room work)
 
 -- "Going back, a decoded pyramid that isn't whole may give pixels outside 0 to 255; these are set to the nearer end, and coding's answer
 -- gains the number of such pixels."

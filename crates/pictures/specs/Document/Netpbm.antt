@@ -3,7 +3,7 @@
 --
 --   file      'P' '5' gap width gap height gap maxval end pixels rest
 --   gap       one or more of: a blank; a comment
---   blank     space, TAB, LF, VT, FF, CR
+--   blank     space, TAB, LF, CR
 --   comment   '#' and all bytes up to the next LF or CR, which isn't part of it: it is a blank
 --   number    one or more digits; leading zeros don't matter
 --   end       one blank; or a comment and then the LF or CR that ended it, which is that blank
@@ -18,7 +18,7 @@ unfoldable pub line_end : ℕ → Bool
 line_end b = eqb b 10 || eqb b 13
 
 unfoldable pub blank : ℕ → Bool
-blank b = line_end b || eqb b 32 || eqb b 9 || eqb b 11 || eqb b 12
+blank b = line_end b || eqb b 32 || eqb b 9
 
 abbrev pub hash : ℕ
 hash = 35

@@ -7,7 +7,10 @@ use Rattle.std.proofs.Math.ListN.{get_or-eq_default}
 use Rattle.pictures.specs.Document.Netpbm.{line_end, blank, hash, gap_byte, digit, begins, after_comment, after_blanks, after_gap, Digits, number}
 use Rattle.pictures.specs.Document.Netpbm.{GreyHeader, no_header, header, is_p5, on_magic, on_number, last_blank, on_end, greatest_pixel, read_grey}
 use Rattle.pictures.specs.Document.Netpbm.{not_grey, picture, pixels_there, taken, read_file}
-use Rattle.pictures.specs.Promises.Vocabulary.{Bytes}
+
+-- bytes: what a slice of 8-bit numbers holds
+abbrev pub Bytes : List ℕ → Type 0
+Bytes s = (q : ℕ) → get_or s q 0 < 256
 
 -- e is s less its first bytes
 abbrev Behind : List ℕ → List ℕ → Type 0

@@ -9,7 +9,6 @@ use Rattle.rules.specs.Laws.Rounding.Planes.{none_over}
 use Rattle.rules.specs.Laws.Rounding.Magnitudes.{decoded_most}
 use Rattle.pictures.specs.Document.Lifting.{picture_of}
 use Rattle.pictures.specs.Document.Calls.{most_decoded, print_of, printed, grey_out}
-use Rattle.pictures.specs.Promises.CallCases.{cases_hold}
 
 -- where the range is kept, every other refusal of the way back is another one
 not_range : {X : Type 0} (x : X) (k q : ℕ) (size long space fits : Bool)

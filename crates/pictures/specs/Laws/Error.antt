@@ -7,7 +7,7 @@ use Rattle.std.proofs.Math.Nat.{div-one}
 use Rattle.std.proofs.Math.Arith.{digits_lt}
 use Rattle.std.proofs.Math.Pow.{shr_le, field}
 use Rattle.rules.specs.declared.Size.{Size}
-use Rattle.rules.specs.Document.Pyramid.{area, index, row, column, magnitude, levels_from, depths, level_of}
+use Rattle.rules.specs.Document.Pyramid.{area, index, row, column, magnitude, levels, level_of}
 use Rattle.rules.specs.Laws.Family.Sizes.{side_falls, side_some}
 use Rattle.rules.specs.Promises.Vocabulary.{Side, Legal}
 use Rattle.rules.specs.Laws.Offspring.Level.{Within, within_over, outside_level, level_most, row_lt, column_lt}
@@ -16,9 +16,7 @@ use Rattle.pictures.specs.Document.Lifting.{Grid, turn_back, back, grid_of, list
 use Rattle.pictures.specs.Laws.Grids.{list_length, list_at, grid_list, back_same}
 use Rattle.pictures.specs.Laws.Turns.{turn_back_outside, back_most, back_bands, returned, returned_back, returned_unturned}
 use Rattle.pictures.specs.Laws.Room.{most_turns, most_back}
-use Rattle.pictures.specs.Document.Nearness.{share, shares, farthest}
-use Rattle.pictures.specs.Promises.Vocabulary.{halved, top_left, small_picture}
-use Rattle.pictures.specs.Laws.Distance.{Nearby, Pyramids}
+use Rattle.pictures.specs.Laws.Distance.{Nearby, share, shares, farthest, halved, top_left, small_picture, Pyramids}
 use Rattle.pictures.specs.Laws.NearBlocks.{joined_far, joined_far_none, joined_far_some, Blocks, join_near}
 
 -- A level that is there to plane m: its numbers are less than 2^m from the recorded ones.
@@ -30,7 +28,7 @@ joined_far_share a (suc m) =
     rw (lt-ltb 0 (suc m) (omega arith)) (omega (arith, pow-suc 2 m, joined_far_some a (2 ^ suc m - 1) (omega (arith, pow-suc 2 m))))
 
 module _ (z : Size) (plane : ℕ → ℕ) where
-  farthest_band : (l : ℕ) → l ≡ z.n → farthest z plane l ≡ 2 ^ plane (depths z) - 1
+  farthest_band : (l : ℕ) → l ≡ z.n → farthest z plane l ≡ 2 ^ plane (levels z) - 1
   unfolding farthest shares
   farthest_band l h = let e : z.n - l ≡ 0 = omega arith in rw e (omega arith)
 
@@ -43,7 +41,7 @@ module _ (z : Size) (i j : ℕ) (b : j < z.w) where
   place_within : (k : ℕ) → i < z.h / 2 ^ k → j < z.w / 2 ^ k → Within z k (index z i j)
   place_within k p q = rw (row_index z i j b, column_index z i j b) (p, q)
 
-  level_of_band : i < z.h / 2 ^ z.n → j < z.w / 2 ^ z.n → level_of z (index z i j) ≡ depths z
+  level_of_band : i < z.h / 2 ^ z.n → j < z.w / 2 ^ z.n → level_of z (index z i j) ≡ levels z
   level_of_band p q = omega (arith, level_most z (index z i j), within_over z z.n (index z i j) (omega arith) (place_within z.n p q))
 
   level_of_turn : (l : ℕ) → l < z.n → i < z.h / 2 ^ l → j < z.w / 2 ^ l → (i < z.h / 2 ^ suc l → j < z.w / 2 ^ suc l → ⊥)
@@ -95,7 +93,7 @@ module _ (z : Size) (Z : Legal z) (few_turns : z.n ≤ most_turns) (plane : ℕ 
   near_at zero l e i j p q =
       let n : l ≡ z.n = omega arith in
       let b : j < z.w = omega (arith, shr_le z.w l) in
-      let v : level_of z (index z i j) ≡ depths z = level_of_band z i j b (rw (← n) p) (rw (← n) q) in
+      let v : level_of z (index z i j) ≡ levels z = level_of_band z i j b (rw (← n) p) (rw (← n) q) in
       rw (farthest_band z plane l n, ← v) (P.near i j (omega (arith, shr_le z.h l)) b)
   near_at (suc k) l e i j p q =
       let f : z.n - suc k ≡ l = omega arith in
@@ -119,7 +117,7 @@ halved_back : (z : Size) (s : ℕ) (g : Grid) → s ≤ z.n → back (halved z s
 unfolding halved
 halved_back z s g h = sym (returned_back (halved z s) g) ∙ halved_returned (z.n - s) z s g (omega arith)
 
--- Pictures, by row and column: coefficients of depth k less than 2 ^ plane k from each other make pictures, halved s times, that are no
+-- Pictures, by row and column: coefficients of level k less than 2 ^ plane k from each other make pictures, halved s times, that are no
 -- farther from each other than this.
 pub picture_near : (z : Size) → Legal z → z.n ≤ most_turns → (plane : ℕ → ℕ) (g g' : Grid) → Pyramids z plane g g'
     → (s : ℕ) → s ≤ z.n → (i j : ℕ) → i < z.h / 2 ^ s → j < z.w / 2 ^ s
@@ -144,15 +142,13 @@ halved_side n x s h S =
         sym (field x (n - s + 1) s) ∙ rw (e, S.multiple) (omega arith)
 
 pub halved_legal : (z : Size) → Legal z → (s : ℕ) → s < z.n → Legal (halved z s)
-unfolding halved levels_from
+unfolding halved
 halved_legal z Z s h =
     record {
       some = omega arith;
       few = omega (arith, Z.few);
       width = halved_side z.n z.w s h Z.width;
       height = halved_side z.n z.h s h Z.height;
-      some_levels = omega arith;
-      few_levels = omega arith;
     }
 
 small_at : (z : Size) → Legal z → (s : ℕ) → s < z.n → (y : List ℤ) (q : ℕ) → q < area (halved z s)

@@ -12,9 +12,9 @@ use Rattle.rules.specs.Laws.Counting.Booleans.{both_left, both_right, not_test}
 use Rattle.pictures.specs.Document.Netpbm.{line_end, blank, hash, gap_byte, digit, begins, after_comment, after_blanks, after_gap, number}
 use Rattle.pictures.specs.Document.Netpbm.{GreyHeader, no_header, header, is_p5, on_magic, on_number, last_blank, on_end, greatest_pixel, read_grey}
 use Rattle.pictures.specs.Document.Netpbm.{GreyFile, not_grey, picture, pixels_there, taken, read_file}
-use Rattle.pictures.specs.Promises.Grammar.{InLine, Gap, no_more, worth, Field, Fields, none, next, NoDigit, another_byte, in_comment, End, Magic}
-use Rattle.pictures.specs.Promises.Grammar.{GreyCase, NOT-P5, NO-GAP, NO-DIGIT, MAXVAL, NO-END, PIXELS, PICTURE}
-use Rattle.pictures.specs.Promises.Grammar as grammar
+use Rattle.pictures.specs.Laws.GreyCauses.{InLine, Gap, no_more, worth, Field, Fields, none, next, NoDigit, another_byte, in_comment, End, Magic}
+use Rattle.pictures.specs.Laws.GreyCauses.{GreyCase, NOT-P5, NO-GAP, NO-DIGIT, MAXVAL, NO-END, PIXELS, PICTURE}
+use Rattle.pictures.specs.Laws.GreyCauses as causes
 
 -- Bytes.
 pub digit_no_gap : (b : ℕ) → digit b ≡ true → gap_byte b ≡ false
@@ -26,8 +26,6 @@ digit_no_gap b e =
       ne_eqb b 13 (λ q. omega arith),
       ne_eqb b 32 (λ q. omega arith),
       ne_eqb b 9 (λ q. omega arith),
-      ne_eqb b 11 (λ q. omega arith),
-      ne_eqb b 12 (λ q. omega arith),
       ne_eqb b 35 (λ q. omega arith),
     )
 
@@ -58,9 +56,9 @@ comment_cut (b ∷ c) l = ap (λ y. after_blanks y c) (both_left (not (line_end 
 pub gap_passed : {g : List ℕ} → Gap g → (u : List ℕ) → after_gap (g ++ u) ≡ after_gap u
 unfolding after_gap after_blanks gap_byte blank line_end
 gap_passed no_more u = refl
-gap_passed (grammar.Gap.a_blank b {g} e G) u =
+gap_passed (causes.Gap.a_blank b {g} e G) u =
     rw (blank_gap b e) (ap (λ y. after_blanks y (g ++ u)) (blank_no_hash b e) ∙ gap_passed G u)
-gap_passed (grammar.Gap.a_comment c {g} e l x G) u =
+gap_passed (causes.Gap.a_comment c {g} e l x G) u =
     ap (after_blanks true) (append_assoc c (e ∷ g) u) ∙ comment_passed c l e x (g ++ u) ∙ gap_passed G u
 
 pub gap_ends : (u : List ℕ) → begins gap_byte u ≡ false → after_gap u ≡ u
@@ -71,8 +69,8 @@ gap_ends (b ∷ u) e = rw e
 gap_begins : {g : List ℕ} → Gap g → 1 ≤ length g → (u : List ℕ) → begins gap_byte (g ++ u) ≡ true
 unfolding begins gap_byte blank line_end
 gap_begins no_more l u = absurd (omega arith)
-gap_begins (grammar.Gap.a_blank b e G) l u = blank_gap b e
-gap_begins (grammar.Gap.a_comment c e x y G) l u = refl
+gap_begins (causes.Gap.a_blank b e G) l u = blank_gap b e
+gap_begins (causes.Gap.a_comment c e x y G) l u = refl
 
 -- Digits are read up to a byte that is none.
 pub number_digits : (d : List ℕ) (v : ℕ) (t : List ℕ) → every digit d ≡ true → begins digit t ≡ false
@@ -127,14 +125,14 @@ data Inside : List ℕ → Type 0 where
   unended : (c : List ℕ) → InLine c → Inside c
 
 blank_first : (b : ℕ) {s : List ℕ} → blank b ≡ true → Outside s → Outside (b ∷ s)
-blank_first b e (stops u G n) = stops u (grammar.Gap.a_blank b e G) n
-blank_first b e (cut c G l) = cut c (grammar.Gap.a_blank b e G) l
+blank_first b e (stops u G n) = stops u (causes.Gap.a_blank b e G) n
+blank_first b e (cut c G l) = cut c (causes.Gap.a_blank b e G) l
 
 comment_first : {s : List ℕ} → Inside s → Outside (hash ∷ s)
 comment_first (ended c e r l x (stops {g} u G n)) =
-    subst (λ y. Outside (hash ∷ y)) (append_assoc c (e ∷ g) u) (stops u (grammar.Gap.a_comment c e l x G) n)
+    subst (λ y. Outside (hash ∷ y)) (append_assoc c (e ∷ g) u) (stops u (causes.Gap.a_comment c e l x G) n)
 comment_first (ended c e r l x (cut {g} k G m)) =
-    subst (λ y. Outside (hash ∷ y)) (append_assoc c (e ∷ g) (hash ∷ k)) (cut k (grammar.Gap.a_comment c e l x G) m)
+    subst (λ y. Outside (hash ∷ y)) (append_assoc c (e ∷ g) (hash ∷ k)) (cut k (causes.Gap.a_comment c e l x G) m)
 comment_first (unended c l) = cut c no_more l
 
 line_goes_on : (b : ℕ) {s : List ℕ} → line_end b ≡ false → Inside s → Inside (b ∷ s)
@@ -188,8 +186,8 @@ field_case s = cases (beginning s).0
   where
     gapped : {g : List ℕ} (u : List ℕ) → Gap g → begins gap_byte u ≡ false → FieldCase (g ++ u)
     gapped u no_more n = no_gap n
-    gapped u (grammar.Gap.a_blank b e G) n = behind_gap u (grammar.Gap.a_blank b e G) (omega arith) n
-    gapped u (grammar.Gap.a_comment c e l x G) n = behind_gap u (grammar.Gap.a_comment c e l x G) (omega arith) n
+    gapped u (causes.Gap.a_blank b e G) n = behind_gap u (causes.Gap.a_blank b e G) (omega arith) n
+    gapped u (causes.Gap.a_comment c e l x G) n = behind_gap u (causes.Gap.a_comment c e l x G) (omega arith) n
 
     cases : {s : List ℕ} → Outside s → FieldCase s
     cases (stops u G n) = gapped u G n
@@ -218,8 +216,8 @@ comment_behind_none (b ∷ c) l = rw (not-true (line_end b) (both_left _ _ l)) (
 
 end_last : {e p : List ℕ} → End e p → (b : ℕ) × (blank b ≡ true) × (last_blank e ≡ b ∷ p)
 unfolding last_blank begins after_comment line_end
-end_last (grammar.End.a_blank b p x) = (b, x, rw (blank_no_hash b x))
-end_last (grammar.End.a_comment c e p l x) = (e, end_blank e x, comment_behind c l e x p)
+end_last (causes.End.a_blank b p x) = (b, x, rw (blank_no_hash b x))
+end_last (causes.End.a_comment c e p l x) = (e, end_blank e x, comment_behind c l e x p)
 
 pub on_end_is : {e p : List ℕ} (go : List ℕ → GreyHeader) → End e p → on_end e go ≡ go p
 unfolding on_end begins
@@ -231,7 +229,7 @@ data EndCase : List ℕ → Type 0 where
 
 comment_ends : {s : List ℕ} → Inside s → EndCase (hash ∷ s)
 unfolding last_blank begins after_comment line_end
-comment_ends (ended c e r l x o) = ends r (grammar.End.a_comment c e r l x)
+comment_ends (ended c e r l x o) = ends r (causes.End.a_comment c e r l x)
 comment_ends (unended c l) = never (hash ∷ c) (rw (comment_behind_none c l))
 
 end_case : (e : List ℕ) → EndCase e
@@ -241,7 +239,7 @@ end_case (b ∷ s) = cases (eqb b hash) refl (blank b) refl
   where
     cases : (x : Bool) → eqb b hash ≡ x → (y : Bool) → blank b ≡ y → EndCase (b ∷ s)
     cases true e y f = subst (λ a. EndCase (a ∷ s)) (sym (eqb-true b hash e)) (comment_ends (beginning s).1)
-    cases false e true f = ends s (grammar.End.a_blank b s f)
+    cases false e true f = ends s (causes.End.a_blank b s f)
     cases false e false f = never (b ∷ s) (rw (e, f))
 
 ends_blank : {e p : List ℕ} → End e p → begins blank (last_blank e) ≡ true

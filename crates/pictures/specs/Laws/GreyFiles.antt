@@ -10,9 +10,9 @@ use Rattle.rules.specs.Document.Pyramid.{area}
 use Rattle.rules.specs.Laws.Counting.Booleans.{clash, every_append}
 use Rattle.pictures.specs.Document.Netpbm.{line_end, blank, hash, digit, begins, greatest_pixel, read_grey, header, GreyFile, picture}
 use Rattle.pictures.specs.Document.Netpbm.{pixels_there, taken, read_file, digits_up_to, decimal, grey_lines, grey_file}
-use Rattle.pictures.specs.Promises.Grammar.{Gap, no_more, worth, Field, Fields, none, next, End, Magic, GreyCase}
-use Rattle.pictures.specs.Promises.Grammar.{NOT-P5, NO-GAP, NO-DIGIT, MAXVAL, NO-END, PIXELS, PICTURE}
-use Rattle.pictures.specs.Promises.Grammar as grammar
+use Rattle.pictures.specs.Laws.GreyCauses.{Gap, no_more, worth, Field, Fields, none, next, End, Magic, GreyCase}
+use Rattle.pictures.specs.Laws.GreyCauses.{NOT-P5, NO-GAP, NO-DIGIT, MAXVAL, NO-END, PIXELS, PICTURE}
+use Rattle.pictures.specs.Laws.GreyCauses as causes
 use Rattle.pictures.specs.Laws.GreyCases.{grey_case, grey_is, read_header_lem}
 
 -- The digits of a number: the last one, and those before it.
@@ -86,7 +86,7 @@ decimal_field b v t e n =
       gap = b ∷ [];
       digits = decimal v;
       split = refl;
-      is_gap = grammar.Gap.a_blank b e no_more;
+      is_gap = causes.Gap.a_blank b e no_more;
       some_gap = omega arith;
       are_digits = decimal_digits v;
       some_digit = decimal_some v;
@@ -97,7 +97,7 @@ decimal_field b v t e n =
 pub lines_read : (z : Size) (p : List ℕ) → read_grey (grey_lines z ++ p) ≡ header z.w z.h p
 unfolding grey_lines blank line_end digit begins decimal digits_up_to
 lines_read z p =
-    read_header_lem (grey_lines z ++ p) magic (next width (next height (next greatest none))) (grammar.End.a_blank 10 p refl)
+    read_header_lem (grey_lines z ++ p) magic (next width (next height (next greatest none))) (causes.End.a_blank 10 p refl)
   where
     behind_height : List ℕ
     behind_height = 10 ∷ 50 ∷ 53 ∷ 53 ∷ 10 ∷ p
@@ -140,13 +140,13 @@ fields_behind {e = e} (next F r) =
     (a.0 ++ b.0, a.1 ∙ ap (λ x. a.0 ++ x) b.1 ∙ sym (append_assoc a.0 b.0 e))
 
 end_behind : {e p : List ℕ} → End e p → (f : List ℕ) × (e ≡ f ++ p)
-end_behind (grammar.End.a_blank b p x) = (b ∷ [], refl)
-end_behind (grammar.End.a_comment c e p l x) = (hash ∷ c ++ e ∷ [], ap (λ x. hash ∷ x) (sym (append_assoc c (e ∷ []) p)))
+end_behind (causes.End.a_blank b p x) = (b ∷ [], refl)
+end_behind (causes.End.a_comment c e p l x) = (hash ∷ c ++ e ∷ [], ap (λ x. hash ∷ x) (sym (append_assoc c (e ∷ []) p)))
 
 -- The same with more bytes at the end, as long as no number is the last there was.
 end_some : {e p : List ℕ} → End e p → 1 ≤ length e
-end_some (grammar.End.a_blank b p x) = omega arith
-end_some (grammar.End.a_comment c e p l x) = omega arith
+end_some (causes.End.a_blank b p x) = omega arith
+end_some (causes.End.a_comment c e p l x) = omega arith
 
 field_some : {s t : List ℕ} {v : ℕ} → Field s v t → 1 ≤ length s
 field_some {t = t} F = omega (arith, F.some_gap, ap length F.split, length-append F.gap (F.digits ++ t))
@@ -180,9 +180,9 @@ module _ (more : List ℕ) where
   fields_more l (next F r) = next (field_more (fields_some r l) F) (fields_more l r)
 
   end_more : {e p : List ℕ} → End e p → End (e ++ more) (p ++ more)
-  end_more (grammar.End.a_blank b p x) = grammar.End.a_blank b (p ++ more) x
-  end_more (grammar.End.a_comment c e p l x) =
-      subst (λ y. End (hash ∷ y) (p ++ more)) (sym (append_assoc c (e ∷ p) more)) (grammar.End.a_comment c e (p ++ more) l x)
+  end_more (causes.End.a_blank b p x) = causes.End.a_blank b (p ++ more) x
+  end_more (causes.End.a_comment c e p l x) =
+      subst (λ y. End (hash ∷ y) (p ++ more)) (sym (append_assoc c (e ∷ p) more)) (causes.End.a_comment c e (p ++ more) l x)
 
 -- A file that is a picture.
 pub record IsPicture (s : List ℕ) (w h : ℕ) (pixels : List ℕ) : Type 0 where

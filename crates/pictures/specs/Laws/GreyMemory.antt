@@ -1,30 +1,80 @@
--- For Promises/Memory, a law for each field: each call is led back to `grey_in` or `grey_out`, the export by way of its routine; coding and decoding are rules'.
-use Rattle.std.specs.Prelude.{◌≡◌, refl, List, ℕ, ◌+◌, ◌-◌, ◌≤◌, length, take, ℤ}
+-- From a picture's file to a picture's file: the theorem of W3, said of what the calls leave in the memory lent to them. The pyramid is what stands
+-- in the output of the way in, the record what stands in the coder's, and what is promised is said of the output and the answer of the way back.
+use Rattle.std.specs.Prelude.{◌≡◌, refl, List, ◌++◌, ℕ, ◌-◌, ◌≤◌, length, take, ℤ}
 use Rattle.std.proofs.Math.Path.{ap, subst}
 use Rattle.std.proofs.Common.{sym, ◌∙◌, arith}
 use Rattle.std.proofs.Math.Decide.{dec_le}
 use Rattle.std.proofs.Math.ListN.{get_or}
 use Rattle.rules.specs.declared.Size.{Size}
 use Rattle.rules.specs.declared.Verdict.TheVariants.{Accepted}
-use Rattle.rules.specs.Document.Pyramid.{area, levels}
+use Rattle.rules.specs.Document.Notation.{zeros}
+use Rattle.rules.specs.Document.Pyramid.{area}
 use Rattle.rules.specs.Document.Numbers.{verdict_number}
 use Rattle.rules.specs.Document.Calls.{Result, refused, accepted, work_for, filled, code_places, AfsCode, decode_places, AfsDecode}
 use Rattle.rules.specs.Laws.Calls.Results.{number_accepts}
-use Rattle.rules.specs.Promises.Vocabulary.{Codable, Stated, enough_room, Recorded, Selected, Decodes, names, whole_parts, cut_parts, cut_bytes}
-use Rattle.rules.specs.Promises.Vocabulary.{planes_told, counts_told}
+use Rattle.rules.specs.Promises.Vocabulary.{Codable, Stated, enough_room}
 use Rattle.rules.specs.Laws.Calls.Exports.{afs_code_codes}
 use Rattle.rules.specs.Laws.Bytes.Room.{coding_accepts}
 use Rattle.rules.specs.Promises.Memory.{from_memory_to_memory}
 use Rattle.pictures.specs.declared.GreyRead.{GreyRead}
 use Rattle.pictures.specs.Document.Lifting.{pyramid_of}
-use Rattle.pictures.specs.Document.Netpbm.{grey_lines, grey_file}
+use Rattle.pictures.specs.Document.Netpbm.{picture, read_file, grey_file}
 use Rattle.pictures.specs.Document.Calls.{GreyPyramid, grey_in, grey_out, grey_in_answer, grey_in_out, grey_out_answer, grey_out_out}
 use Rattle.pictures.specs.Document.Calls.{GreyIn, grey_read_numbers, grey_written_numbers, grey_places, AfsGreyIn, AfsGreyOut}
-use Rattle.pictures.specs.Document.Nearness.{farthest, at_depths}
-use Rattle.pictures.specs.Promises.Vocabulary.{Bytes, sized, size_told, Taken, Pictured, Printed, PrintedNear}
-use Rattle.pictures.specs.Laws.NearMemory.{printed_near, none_set}
-use Rattle.pictures.specs.Laws.GreyRefusals.{afs_grey_in_short, afs_grey_in_takes, afs_grey_out_prints}
-use Rattle.pictures.specs.Laws.GreyReturns.{grey_in_takes, taken_codable, grey_out_prints}
+use Rattle.pictures.specs.Laws.Behind.{Bytes}
+use Rattle.pictures.specs.Laws.GreyRefusals.{sized, afs_grey_in_short, afs_grey_in_takes, afs_grey_out_prints}
+use Rattle.pictures.specs.Laws.GreyReturns.{Taken, grey_in_takes, taken_codable, grey_out_prints}
+
+-- WHAT IS PROMISED
+
+-- Of the way in, where it came back with number 0: the file is a picture of the size that is told, W x H bytes are its pixels, and the output is the
+-- pyramid of these; coding takes it.
+pub record Pictured (file : List ℕ) (z : Size) (pixels : List ℕ) (pyramid : List ℤ) : Type 0 where
+  pub reads : read_file file ≡ picture z.w z.h pixels
+  pub whole : length pixels ≡ area z
+  pub bytes : Bytes pixels
+  pub its_pyramid : pyramid ≡ pyramid_of z pixels
+  pub codable : Codable z pyramid
+
+-- Of the way back: at the front of the output stands the file of these pixels, as long as is told, the rest is 0, and no pixel was set to another value.
+pub record Printed (z : Size) (pixels : List ℕ) (number len clipped : ℕ) (out out' work work' : List ℕ) : Type 0 where
+  pub accepts : number ≡ 0
+  pub writes : out' ≡ grey_file z pixels ++ zeros (length out - length (grey_file z pixels))
+  pub tells : len ≡ length (grey_file z pixels)
+  pub unclipped : clipped ≡ 0
+  pub clears : work' ≡ zeros (length work)
+
+-- The size that the way in tells, for the decompositions that were asked for.
+abbrev pub size_told : List ℕ → ℕ → Size
+size_told told n = sized (get_or told 2 0) (get_or told 3 0) n
+
+-- THE THEOREM, `from_picture_to_picture`, for any file of bytes and for buffers whatever they held.
+pub record FromPictureToPicture : Type 0 where
+  pub taken : {file : List ℕ} {n : ℕ} {out out' : List ℤ} {work told work' told' : List ℕ} → Bytes file
+      → AfsGreyIn file n out work told 0 out' work' told' → (pixels : List ℕ) × Pictured file (size_told told' n) pixels out'
+  -- What was taken is coded: with room that is always enough, a workspace and places for an answer the number is 0.
+  pub coded : {file : List ℕ} {z : Size} {pixels : List ℕ} {pyramid : List ℤ} {out work answer : List ℕ} {number : ℕ} {out' work' answer' : List ℕ}
+      → Pictured file z pixels pyramid → AfsCode pyramid z out work answer number out' work' answer'
+      → enough_room z ≤ length out → work_for z ≤ length work → code_places ≤ length answer → number ≡ 0
+  -- The pyramid of a picture is printed as the file of its pixels.
+  pub printed : {file : List ℕ} {z : Size} {pixels : List ℕ} {pyramid : List ℤ} {out work answer : List ℕ} {number : ℕ} {out' work' answer' : List ℕ}
+      → Pictured file z pixels pyramid → AfsGreyOut pyramid z out work answer number out' work' answer'
+      → length (grey_file z pixels) ≤ length out → work_for z ≤ length work → grey_places ≤ length answer
+      → Printed z pixels number (get_or answer' 2 0) (get_or answer' 3 0) out out' work work'
+  -- Taken, coded, decoded whole and printed: the file of the same pixels.
+  pub whole : {file : List ℕ} {n : ℕ} {pyramid pyramid' : List ℤ} {w₁ told w₁' told' out w₂ note out' w₂' note' : List ℕ} {print print' : List ℤ}
+      {w₃ seen w₃' seen' paper w₄ count paper' w₄' count' : List ℕ} {number₃ number₄ : ℕ}
+      → Bytes file → AfsGreyIn file n pyramid w₁ told 0 pyramid' w₁' told'
+      → AfsCode pyramid' (size_told told' n) out w₂ note 0 out' w₂' note'
+      → AfsDecode (take (get_or note' 2 0) out') print w₃ seen number₃ print' w₃' seen'
+      → Stated (size_told told' n) (length print) (length w₃) → decode_places ≤ length seen
+      → AfsGreyOut print' (size_told told' n) paper w₄ count number₄ paper' w₄' count'
+      → work_for (size_told told' n) ≤ length w₄ → grey_places ≤ length count
+      → (pixels : List ℕ) × Pictured file (size_told told' n) pixels pyramid' × (number₃ ≡ 0) × (print' ≡ pyramid')
+      × (length (grey_file (size_told told' n) pixels) ≤ length paper
+      → Printed (size_told told' n) pixels number₄ (get_or count' 2 0) (get_or count' 3 0) paper paper' w₄ w₄')
+
+-- PROOFS
 
 -- A result that was accepted, by what the routine left.
 told_in : (y : Result GreyPyramid) → (grey_in_answer y).verdict ≡ Accepted → (x : GreyPyramid) × (y ≡ accepted x)
@@ -43,7 +93,7 @@ pictured {file} {n} {out} {work} {answer} {out'} b g e =
     let t = grey_in_takes file n (length out) (length work) x y.1 in
     let took : Taken file n x t.0 = t.1 in
     let size : x.size ≡ sized answer.w answer.h n
-    = λ i. record { w = sym (ap (λ a. a.w) told) i; h = sym (ap (λ a. a.h) told) i; n = took.asked i; merged = took.unmerged i } in
+    = λ i. record { w = sym (ap (λ a. a.w) told) i; h = sym (ap (λ a. a.h) told) i; n = took.asked i } in
     let left : x.pyramid ≡ out' = sym (g.writes ∙ ap (grey_in_out (length out)) y.1) in (
       t.0,
       subst (λ v. Pictured file v t.0 out') size (subst (Pictured file x.size t.0) left
@@ -57,7 +107,7 @@ pictured {file} {n} {out} {work} {answer} {out'} b g e =
     )
 
 -- The exports: each does what its routine does, and its answer stands in the slice lent for it.
-pub pictured_told : {file : List ℕ} {n : ℕ} {out out' : List ℤ} {work told work' told' : List ℕ} → Bytes file
+pictured_told : {file : List ℕ} {n : ℕ} {out out' : List ℤ} {work told work' told' : List ℕ} → Bytes file
     → AfsGreyIn file n out work told 0 out' work' told' → (pixels : List ℕ) × Pictured file (size_told told' n) pixels out'
 unfolding grey_read_numbers
 pictured_told {file} {n} {out} {out'} {told = told} {told' = told'} b g = by (dec_le grey_places (length told))
@@ -70,14 +120,14 @@ pictured_told {file} {n} {out} {out'} {told = told} {told' = told'} b g = by (de
         (pictured b c.1 (number_accepts c.0.verdict (sym c.2)))
 
 module _ {file : List ℕ} {z : Size} {pixels : List ℕ} {pyramid : List ℤ} (p : Pictured file z pixels pyramid) where
-  pub pictured_coded : {out work answer : List ℕ} {number : ℕ} {out' work' answer' : List ℕ}
+  pictured_coded : {out work answer : List ℕ} {number : ℕ} {out' work' answer' : List ℕ}
       → AfsCode pyramid z out work answer number out' work' answer'
       → enough_room z ≤ length out → work_for z ≤ length work → code_places ≤ length answer → number ≡ 0
   pictured_coded c room space places =
       let a = afs_code_codes c places in
       a.2 ∙ ap verdict_number (coding_accepts a.1 p.codable room space)
 
-  pub pictured_printed : {out work answer : List ℕ} {number : ℕ} {out' work' answer' : List ℕ}
+  pictured_printed : {out work answer : List ℕ} {number : ℕ} {out' work' answer' : List ℕ}
       → AfsGreyOut pyramid z out work answer number out' work' answer'
       → length (grey_file z pixels) ≤ length out → work_for z ≤ length work → grey_places ≤ length answer
       → Printed z pixels number (get_or answer' 2 0) (get_or answer' 3 0) out out' work work'
@@ -99,52 +149,19 @@ module _ {file : List ℕ} {z : Size} {pixels : List ℕ} {pyramid : List ℤ} (
 pictured_same : {file : List ℕ} {z : Size} {pixels : List ℕ} {v u : List ℤ} → Pictured file z pixels v → u ≡ v → Pictured file z pixels u
 pictured_same {file} {z} {pixels} p e = subst (Pictured file z pixels) (sym e) p
 
--- What is decoded of a picture's record.
-module _ {file : List ℕ} {z : Size} {planes : ℕ} {pixels : List ℕ} {pyramid : List ℤ} {bytes s : List ℕ} (p : Pictured file z pixels pyramid)
-    (w : Recorded z planes pyramid bytes) (x : Selected bytes s) {print print' : List ℤ} {w₃ seen w₃' seen' : List ℕ} {number₃ : ℕ}
-    (d : AfsDecode s print w₃ seen number₃ print' w₃' seen') (sizes : Stated z (length print) (length w₃)) (places : decode_places ≤ length seen) where
-  pictured_decodes : Decodes z planes (pyramid_of z pixels) (names (whole_parts x)) (names (cut_parts x)) (cut_bytes x) number₃ (get_or seen' 1 0) (get_or seen' 2 0)
-      (planes_told seen') (counts_told seen') print' w₃ w₃'
-  pictured_decodes =
-      subst (λ y. Decodes z planes y (names (whole_parts x)) (names (cut_parts x)) (cut_bytes x) number₃ (get_or seen' 1 0) (get_or seen' 2 0)
-      (planes_told seen') (counts_told seen') print' w₃ w₃')
-      p.its_pyramid (from_memory_to_memory.stored w x d sizes places)
-
-  module _ {paper w₄ count paper' w₄' count' : List ℕ} {number₄ : ℕ} (g : AfsGreyOut print' z paper w₄ count number₄ paper' w₄' count') where
-    pub pictured_near : length (grey_lines z) + area z ≤ length paper → work_for z ≤ length w₄ → grey_places ≤ length count
-        → PrintedNear (farthest z (at_depths z (planes_told seen')) 0) z pixels number₄ (get_or count' 2 0) paper' w₄ w₄'
-    pictured_near room space told = printed_near z pixels p.whole p.bytes p.codable.legal_size_lem pictured_decodes g room space told
-
-    pub pictured_set : ((k : ℕ) → 1 ≤ k → k ≤ levels z → planes_told seen' k ≡ 0) → 1 ≤ get_or count' 3 0 → ⊥
-    pictured_set all some = none_set z pixels p.whole p.bytes p.codable.legal_size_lem pictured_decodes g all some
-
--- Taken, coded, decoded whole and printed.
-module _ {file : List ℕ} {n : ℕ} {pyramid pyramid' : List ℤ} {w₁ told w₁' told' out w₂ note out' w₂' note' : List ℕ} (b : Bytes file)
-    (i : AfsGreyIn file n pyramid w₁ told 0 pyramid' w₁' told') (c : AfsCode pyramid' (size_told told' n) out w₂ note 0 out' w₂' note') where
-  pub pictured_whole : {print print' : List ℤ} {w₃ seen w₃' seen' paper w₄ count paper' w₄' count' : List ℕ} {number₃ number₄ : ℕ}
-      → AfsDecode (take (get_or note' 2 0) out') print w₃ seen number₃ print' w₃' seen'
-      → Stated (size_told told' n) (length print) (length w₃) → decode_places ≤ length seen
-      → AfsGreyOut print' (size_told told' n) paper w₄ count number₄ paper' w₄' count'
-      → work_for (size_told told' n) ≤ length w₄ → grey_places ≤ length count
-      → (pixels : List ℕ) × Pictured file (size_told told' n) pixels pyramid' × (number₃ ≡ 0) × (print' ≡ pyramid')
-      × (length (grey_file (size_told told' n) pixels) ≤ length paper
-      → Printed (size_told told' n) pixels number₄ (get_or count' 2 0) (get_or count' 3 0) paper paper' w₄ w₄')
-  pictured_whole d sizes places o space told =
-      let p = pictured_told b i in
-      let back = from_memory_to_memory.whole c d sizes places in
-      (p.0, p.1, back.0, back.1, λ room. pictured_printed (pictured_same p.1 back.1) o room space told)
-
-  -- And of any selection.
-  pub taken_near : {s : List ℕ} → Selected (take (get_or note' 2 0) out') s
-      → {print print' : List ℤ} {w₃ seen w₃' seen' paper w₄ count paper' w₄' count' : List ℕ} {number₃ number₄ : ℕ}
-      → AfsDecode s print w₃ seen number₃ print' w₃' seen'
-      → Stated (size_told told' n) (length print) (length w₃) → decode_places ≤ length seen
-      → AfsGreyOut print' (size_told told' n) paper w₄ count number₄ paper' w₄' count'
-      → length (grey_lines (size_told told' n)) + area (size_told told' n) ≤ length paper → work_for (size_told told' n) ≤ length w₄
-      → grey_places ≤ length count
-      → (pixels : List ℕ) × Pictured file (size_told told' n) pixels pyramid'
-      × PrintedNear (farthest (size_told told' n) (at_depths (size_told told' n) (planes_told seen')) 0) (size_told told' n) pixels number₄ (get_or count' 2 0)
-      paper' w₄ w₄'
-  taken_near x d sizes places o room space told =
-      let p = pictured_told b i in
-      (p.0, p.1, pictured_near p.1 (from_memory_to_memory.coded c).0 x d sizes places o room space told)
+pub from_picture_to_picture : FromPictureToPicture
+from_picture_to_picture =
+    record {
+      taken = pictured_told;
+      coded = λ p c. pictured_coded p c;
+      printed = λ p g. pictured_printed p g;
+      whole = λ b i c d sizes places o space told.
+          let p = pictured_told b i in
+          let back = from_memory_to_memory.whole c d sizes places in (
+            p.0,
+            p.1,
+            back.0,
+            back.1,
+            λ room. pictured_printed (pictured_same p.1 back.1) o room space told,
+          );
+    }

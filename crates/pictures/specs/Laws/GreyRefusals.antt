@@ -1,13 +1,13 @@
--- The way in and the way back come back with a number and place exactly where the case of that refusal holds (Promises/Refusals), with 0 exactly where
--- they accept, and leave in memory what document 01 says.
-use Rattle.std.specs.Prelude.{◌≡◌, List, ◌++◌, ◌≢◌, ◌↔◌, ℕ, ◌-◌, ◌≤◌, ◌<◌, replicate, ℤ, pos}
+-- Document 02's order of refusals for grey pictures, as statements: the way in and the way back come back with a number and place exactly where
+-- the case of that refusal holds, with 0 exactly where they accept, and leave in memory what document 01 says. A case asks for its cause, and
+-- that no cause before it in the order holds. GreyCase, in GreyCauses, has the causes of 13.
+use Rattle.std.specs.Prelude.{◌≡◌, List, [], ◌∷◌, ◌++◌, ◌≢◌, ◌↔◌, ℕ, ◌-◌, ◌≤◌, ◌<◌, replicate, ℤ, pos}
 use Rattle.std.proofs.Math.Path.{refl, ap, subst}
 use Rattle.std.proofs.Common.{sym, ◌∙◌, arith}
 use Rattle.std.proofs.Math.Bool.{true, false}
 use Rattle.std.proofs.Math.Dec.{leb, eqb}
 use Rattle.std.proofs.Math.ListN.{length}
 use borrow.Author.Tests.{leb-true, leb-false, le-leb, lt-leb, eqb-true, eqb-false, eq-eqb, ne_eqb}
-use Rattle.rules.specs.declared.Merged.TheVariants.{Never}
 use Rattle.rules.specs.declared.Size.{Size}
 use Rattle.rules.specs.declared.Refusal.TheVariants as refusal
 use Rattle.rules.specs.declared.Verdict.TheVariants.{Accepted}
@@ -21,20 +21,51 @@ use Rattle.rules.specs.Promises.Vocabulary.{Legal, among, Exactly}
 use Rattle.rules.specs.Laws.Rounding.Planes.{under_first, first_over_lem, none_over, over_first}
 use Rattle.rules.specs.Laws.Calls.Results.{unless_case}
 use Rattle.rules.specs.Laws.Reading.PartCases.{failed}
-use Rattle.rules.specs.Promises.Refusals.{InRange}
+use Rattle.rules.specs.Promises.Refusals.{InRange, FirstOver}
 use Rattle.rules.specs.Laws.Calls.Refused.{verdict_of, exactly}
 use Rattle.pictures.specs.declared.GreyRead.{GreyRead}
 use Rattle.pictures.specs.declared.GreyWritten.{GreyWritten}
-use Rattle.pictures.specs.Document.Lifting.{picture_of}
+use Rattle.pictures.specs.Document.Lifting.{pyramid_of, picture_of}
 use Rattle.pictures.specs.Document.Netpbm.{GreyFile, not_grey, picture, read_file, told}
 use Rattle.pictures.specs.Document.Calls.{GreyPyramid, on_picture, lifted, grey_in, most_decoded, GreyPrint, print_of, printed, grey_out}
 use Rattle.pictures.specs.Document.Calls.{grey_in_out, grey_in_answer, grey_out_out, grey_out_answer, grey_size, GreyIn, GreyOut, GreySize}
 use Rattle.pictures.specs.Document.Calls.{grey_read_numbers, grey_written_numbers, grey_places, AfsGreyIn, AfsGreyOut, AfsGreySize}
-use Rattle.pictures.specs.Promises.Vocabulary.{sized, grey_in_numbers, grey_out_numbers}
-use Rattle.pictures.specs.Promises.Grammar.{GreyCase}
-use Rattle.pictures.specs.Promises.Refusals.{GreyInCase, GREY, LIFTED, GreyOutCase, RANGE, ROOM, PRINTED}
-use Rattle.pictures.specs.Promises.Refusals as cases
+use Rattle.pictures.specs.Laws.GreyCauses.{GreyCase}
 use Rattle.pictures.specs.Laws.GreyCases.{grey_case, grey_is}
+
+-- "13 GREY (..), place 0, before 1; then 1, 2, 3."
+abbrev pub sized : ℕ → ℕ → ℕ → Size
+sized w h n = record { w = w; h = h; n = n }
+
+pub data GreyInCase (file : List ℕ) (n room work : ℕ) : Result GreyPyramid → Type 0 where
+  GREY : GreyCase file not_grey → GreyInCase file n room work (refused refusal.Grey)
+  SIZE : {w h : ℕ} {pixels : List ℕ} → GreyCase file (picture w h pixels) → ¬ Legal (sized w h n)
+      → GreyInCase file n room work (refused refusal.Size)
+  LENGTH : {w h : ℕ} {pixels : List ℕ} → GreyCase file (picture w h pixels) → Legal (sized w h n) → room ≢ area (sized w h n)
+      → GreyInCase file n room work (refused refusal.Length)
+  WORK : {w h : ℕ} {pixels : List ℕ} → GreyCase file (picture w h pixels) → Legal (sized w h n) → room ≡ area (sized w h n)
+      → work < work_for (sized w h n) → GreyInCase file n room work (refused refusal.Work)
+  LIFTED : {w h : ℕ} {pixels : List ℕ} → GreyCase file (picture w h pixels) → Legal (sized w h n) → room ≡ area (sized w h n)
+      → work_for (sized w h n) ≤ work
+      → GreyInCase file n room work (accepted (record { size = sized w h n; pyramid = pyramid_of (sized w h n) pixels }))
+
+-- "Then 1, 2, 3 and, going back, 4 for a magnitude over 131,071; last 5."
+pub data GreyOutCase (pyramid : List ℤ) (z : Size) (room work : ℕ) : Result GreyPrint → Type 0 where
+  SIZE : ¬ Legal z → GreyOutCase pyramid z room work (refused refusal.Size)
+  LENGTH : Legal z → length pyramid ≢ area z → GreyOutCase pyramid z room work (refused refusal.Length)
+  WORK : Legal z → length pyramid ≡ area z → work < work_for z → GreyOutCase pyramid z room work (refused refusal.Work)
+  RANGE : {at : ℕ} → Legal z → length pyramid ≡ area z → work_for z ≤ work → FirstOver most_decoded pyramid at
+      → GreyOutCase pyramid z room work (refused (refusal.Range at))
+  ROOM : Legal z → length pyramid ≡ area z → work_for z ≤ work → InRange most_decoded pyramid (length pyramid)
+      → room < length (print_of z (picture_of z pyramid)).file → GreyOutCase pyramid z room work (refused refusal.Room)
+  PRINTED : Legal z → length pyramid ≡ area z → work_for z ≤ work → InRange most_decoded pyramid (length pyramid)
+      → length (print_of z (picture_of z pyramid)).file ≤ room → GreyOutCase pyramid z room work (accepted (print_of z (picture_of z pyramid)))
+
+abbrev pub grey_in_numbers : List ℕ
+grey_in_numbers = 0 ∷ 1 ∷ 2 ∷ 3 ∷ 13 ∷ []
+
+abbrev pub grey_out_numbers : List ℕ
+grey_out_numbers = 0 ∷ 1 ∷ 2 ∷ 3 ∷ 4 ∷ 5 ∷ []
 
 -- Each way has the outcome that its case says, and no other.
 module _ (file : List ℕ) (n room work : ℕ) where
@@ -45,11 +76,11 @@ module _ (file : List ℕ) (n room work : ℕ) where
   unfolding lifted
   lifted_case w h pixels c =
       let z : Size = sized w h n in
-      unless_case Takes (legal_size z) refusal.Size _ (λ e. cases.GreyInCase.SIZE c (failed _ (size_legal z) e)) (λ e.
+      unless_case Takes (legal_size z) refusal.Size _ (λ e. SIZE c (failed _ (size_legal z) e)) (λ e.
       let Z : Legal z = legal z e in
-      unless_case Takes (eqb room (area z)) refusal.Length _ (λ e. cases.GreyInCase.LENGTH c Z (eqb-false _ _ e)) (λ e.
+      unless_case Takes (eqb room (area z)) refusal.Length _ (λ e. LENGTH c Z (eqb-false _ _ e)) (λ e.
       let L : room ≡ area z = eqb-true _ _ e in
-      unless_case Takes (leb (work_for z) work) refusal.Work _ (λ e. cases.GreyInCase.WORK c Z L (leb-false _ _ e)) (λ e. LIFTED c Z L (leb-true _ _ e))))
+      unless_case Takes (leb (work_for z) work) refusal.Work _ (λ e. WORK c Z L (leb-false _ _ e)) (λ e. LIFTED c Z L (leb-true _ _ e))))
 
   picture_case : (x : GreyFile) → GreyCase file x → Takes (on_picture x (λ w h pixels. lifted (sized w h n) pixels room work))
   unfolding on_picture
@@ -63,11 +94,11 @@ module _ (file : List ℕ) (n room work : ℕ) where
   pub grey_in_is : (x : Result GreyPyramid) → GreyInCase file n room work x → grey_in file n room work ≡ x
   unfolding grey_in on_picture lifted unless
   grey_in_is x (GREY c) = rw (grey_is file not_grey c)
-  grey_in_is x (cases.GreyInCase.SIZE {w = w} {h = h} {pixels = p} c isnt) =
+  grey_in_is x (SIZE {w = w} {h = h} {pixels = p} c isnt) =
       rw (grey_is file (picture w h p) c, not_test (legal_size (sized w h n)) (λ e. isnt (legal (sized w h n) e)))
-  grey_in_is x (cases.GreyInCase.LENGTH {w = w} {h = h} {pixels = p} c Z isnt) =
+  grey_in_is x (LENGTH {w = w} {h = h} {pixels = p} c Z isnt) =
       rw (grey_is file (picture w h p) c, size_legal (sized w h n) Z, ne_eqb room (area (sized w h n)) isnt)
-  grey_in_is x (cases.GreyInCase.WORK {w = w} {h = h} {pixels = p} c Z L k) =
+  grey_in_is x (WORK {w = w} {h = h} {pixels = p} c Z L k) =
       rw (grey_is file (picture w h p) c, size_legal (sized w h n) Z, eq-eqb room (area (sized w h n)) L, lt-leb (work_for (sized w h n)) work k)
   grey_in_is x (LIFTED {w = w} {h = h} {pixels = p} c Z L K) =
       rw (grey_is file (picture w h p) c, size_legal (sized w h n) Z, eq-eqb room (area (sized w h n)) L, le-leb (work_for (sized w h n)) work K)
@@ -75,9 +106,9 @@ module _ (file : List ℕ) (n room work : ℕ) where
   grey_in_gives : {y : Result GreyPyramid} → Takes y → among grey_in_numbers (verdict_number (verdict_of y))
   unfolding verdict_of any
   grey_in_gives (GREY c) = refl
-  grey_in_gives (cases.GreyInCase.SIZE c isnt) = refl
-  grey_in_gives (cases.GreyInCase.LENGTH c Z isnt) = refl
-  grey_in_gives (cases.GreyInCase.WORK c Z L k) = refl
+  grey_in_gives (SIZE c isnt) = refl
+  grey_in_gives (LENGTH c Z isnt) = refl
+  grey_in_gives (WORK c Z L k) = refl
   grey_in_gives (LIFTED c Z L K) = refl
 
 module _ (pyramid : List ℤ) (z : Size) (room work : ℕ) where
@@ -87,11 +118,11 @@ module _ (pyramid : List ℤ) (z : Size) (room work : ℕ) where
   pub grey_out_case : GreyOutCase pyramid z room work (grey_out pyramid z room work)
   unfolding grey_out printed
   grey_out_case =
-      unless_case Prints (legal_size z) refusal.Size _ (λ e. cases.GreyOutCase.SIZE (failed _ (size_legal z) e)) (λ e.
+      unless_case Prints (legal_size z) refusal.Size _ (λ e. SIZE (failed _ (size_legal z) e)) (λ e.
       let Z : Legal z = legal z e in
-      unless_case Prints (eqb (length pyramid) (area z)) refusal.Length _ (λ e. cases.GreyOutCase.LENGTH Z (eqb-false _ _ e)) (λ e.
+      unless_case Prints (eqb (length pyramid) (area z)) refusal.Length _ (λ e. LENGTH Z (eqb-false _ _ e)) (λ e.
       let L : length pyramid ≡ area z = eqb-true _ _ e in
-      unless_case Prints (leb (work_for z) work) refusal.Work _ (λ e. cases.GreyOutCase.WORK Z L (leb-false _ _ e)) (λ e.
+      unless_case Prints (leb (work_for z) work) refusal.Work _ (λ e. WORK Z L (leb-false _ _ e)) (λ e.
       let K : work_for z ≤ work = leb-true _ _ e in
       unless_case Prints (eqb (first_over most_decoded pyramid) (length pyramid)) (refusal.Range (first_over most_decoded pyramid)) _
       (λ e. RANGE Z L K (first_over_lem most_decoded pyramid (eqb-false _ _ e))) (λ e.
@@ -109,9 +140,9 @@ module _ (pyramid : List ℤ) (z : Size) (room work : ℕ) where
 
   pub grey_out_is : (x : Result GreyPrint) → GreyOutCase pyramid z room work x → grey_out pyramid z room work ≡ x
   unfolding grey_out printed unless
-  grey_out_is x (cases.GreyOutCase.SIZE isnt) = rw (not_test (legal_size z) (λ e. isnt (legal z e)))
-  grey_out_is x (cases.GreyOutCase.LENGTH Z isnt) = rw (size_legal z Z, ne_eqb (length pyramid) (area z) isnt)
-  grey_out_is x (cases.GreyOutCase.WORK Z L k) = rw (size_legal z Z, eq-eqb (length pyramid) (area z) L, lt-leb (work_for z) work k)
+  grey_out_is x (SIZE isnt) = rw (not_test (legal_size z) (λ e. isnt (legal z e)))
+  grey_out_is x (LENGTH Z isnt) = rw (size_legal z Z, ne_eqb (length pyramid) (area z) isnt)
+  grey_out_is x (WORK Z L k) = rw (size_legal z Z, eq-eqb (length pyramid) (area z) L, lt-leb (work_for z) work k)
   grey_out_is x (RANGE {at = at} Z L K f) =
       let q : first_over most_decoded pyramid ≡ at = over_first most_decoded pyramid at f in
       let isnt : first_over most_decoded pyramid ≢ length pyramid = λ e. omega (arith, f.inside) in
@@ -127,14 +158,14 @@ module _ (pyramid : List ℤ) (z : Size) (room work : ℕ) where
 
   grey_out_gives : {y : Result GreyPrint} → Prints y → among grey_out_numbers (verdict_number (verdict_of y))
   unfolding verdict_of any
-  grey_out_gives (cases.GreyOutCase.SIZE isnt) = refl
-  grey_out_gives (cases.GreyOutCase.LENGTH Z isnt) = refl
-  grey_out_gives (cases.GreyOutCase.WORK Z L k) = refl
+  grey_out_gives (SIZE isnt) = refl
+  grey_out_gives (LENGTH Z isnt) = refl
+  grey_out_gives (WORK Z L k) = refl
   grey_out_gives (RANGE Z L K f) = refl
   grey_out_gives (ROOM Z L K R l) = refl
   grey_out_gives (PRINTED Z L K R l) = refl
 
--- What is promised. "Refused: output slice all 0. Accepted: number and place 0 .." "A refusal has 0 in all but number and place. Workspace: all 0
+-- The promises. "Refused: output slice all 0. Accepted: number and place 0 .." "A refusal has 0 in all but number and place. Workspace: all 0
 -- after every call."
 pub grey_in_refused : {file : List ℕ} {n : ℕ} {out : List ℤ} {work : List ℕ} {answer : GreyRead} {out' : List ℤ} {work' : List ℕ}
     → GreyIn file n out work answer out' work'

@@ -6,7 +6,6 @@ use mathlib.Core.List.{List, [], ◌∷◌, map}
 use Rattle.std.proofs.Math.Nat.{min-eq_left}
 use Rattle.std.proofs.Math.IntN.{pos}
 use borrow.Author.Tests.{le-leb, eq-eqb, le-ltb}
-use Rattle.rules.specs.declared.Merged.TheVariants.{Never}
 use Rattle.rules.specs.declared.Size.{Size}
 use Rattle.rules.specs.declared.Refusal.TheVariants as refusal
 use Rattle.rules.specs.Document.Pyramid.{legal_size, area, most_magnitude}
@@ -22,10 +21,18 @@ use Rattle.rules.specs.Laws.Rounding.Planes.{none_over, under_first}
 use Rattle.pictures.specs.Document.Lifting.{pyramid_of, picture_of}
 use Rattle.pictures.specs.Document.Netpbm.{greatest_pixel, GreyFile, not_grey, picture, read_file, grey_file}
 use Rattle.pictures.specs.Document.Calls.{GreyPyramid, on_picture, lifted, grey_in, clip, outside, clipped_in, most_decoded, print_of, printed, grey_out}
-use Rattle.pictures.specs.Promises.Vocabulary.{Bytes, Taken}
-use Rattle.pictures.specs.Laws.Behind.{file_pixels}
+use Rattle.pictures.specs.Laws.Behind.{Bytes, file_pixels}
 use Rattle.pictures.specs.Laws.Grids.{pixels_return}
 use Rattle.pictures.specs.Laws.Range.{picture_codable}
+
+-- What the way in took: the file has these pixels, W x H bytes, and the pyramid is theirs.
+pub record Taken (file : List ℕ) (n : ℕ) (x : GreyPyramid) (pixels : List ℕ) : Type 0 where
+  pub reads : read_file file ≡ picture x.size.w x.size.h pixels
+  pub asked : x.size.n ≡ n
+  pub legal_size_lem : legal_size x.size ≡ true
+  pub whole : length pixels ≡ area x.size
+  pub bytes : Bytes file → Bytes pixels
+  pub pyramid_is : x.pyramid ≡ pyramid_of x.size pixels
 
 -- Whatever the way in accepts was taken from the file.
 lifted_accepted : (z : Size) (pixels : List ℕ) (room work : ℕ) (x : GreyPyramid) → lifted z pixels room work ≡ accepted x
@@ -42,16 +49,16 @@ pub grey_in_takes : (file : List ℕ) (n room work : ℕ) (x : GreyPyramid) → 
 unfolding grey_in on_picture
 grey_in_takes file n room work x e = by (read_file file) refl e
   where
-    by : (y : GreyFile) → read_file file ≡ y → on_picture y (λ w h pixels. lifted (record { w = w; h = h; n = n; merged = Never }) pixels room work) ≡ accepted x
+    by : (y : GreyFile) → read_file file ≡ y → on_picture y (λ w h pixels. lifted (record { w = w; h = h; n = n }) pixels room work) ≡ accepted x
         → (pixels : List ℕ) × Taken file n x pixels
     by not_grey r e = absurd (let z : ◌≡◌ {A = ℕ} 0 1 = cc in omega arith)
     by (picture w h pixels) r e =
-        let z : Size = record { w = w; h = h; n = n; merged = Never } in
+        let z : Size = record { w = w; h = h; n = n } in
         let took = lifted_accepted z pixels room work x e in
         let there = file_pixels file w h pixels r in (
           pixels,
           subst (λ y. Taken file n y pixels) took.1
-              (record { reads = r; asked = refl; unmerged = refl; legal_size_lem = took.0; whole = there.whole; bytes = there.bytes; pyramid_is = refl }),
+              (record { reads = r; asked = refl; legal_size_lem = took.0; whole = there.whole; bytes = there.bytes; pyramid_is = refl }),
         )
 
 -- Pixels are printed as they are, and none is set to another value.
@@ -60,7 +67,7 @@ unfolding clip
 clip_pixels [] b = refl
 clip_pixels (v ∷ vs) b = ap₂ ◌∷◌ (min-eq_left (omega (arith, b 0))) (clip_pixels vs (λ q. b (suc q)))
 
-pub none_clipped : (pixels : List ℕ) → Bytes pixels → clipped_in (map pos pixels) ≡ 0
+none_clipped : (pixels : List ℕ) → Bytes pixels → clipped_in (map pos pixels) ≡ 0
 unfolding clipped_in outside
 none_clipped [] b = refl
 none_clipped (v ∷ vs) b = rw (le-ltb greatest_pixel v (omega (arith, b 0))) (none_clipped vs (λ q. b (suc q)))
@@ -74,7 +81,7 @@ print_pixels z pixels b = λ i. record { file = grey_file z (clip_pixels pixels 
 codable_in_range : {z : Size} {pyramid : List ℤ} → Codable z pyramid → first_over most_decoded pyramid ≡ length pyramid
 codable_in_range {pyramid = pyramid} c =
     none_over most_decoded pyramid
-    (λ i l. omega (arith, subst (InRange most_magnitude pyramid) c.in_range_lem (under_first most_magnitude pyramid) i l))
+    (λ i l. omega (arith, subst (InRange most_magnitude pyramid) c.in_range (under_first most_magnitude pyramid) i l))
 
 module _ (z : Size) (pixels : List ℕ) (whole : length pixels ≡ area z) (bytes : Bytes pixels) (c : Codable z (pyramid_of z pixels)) where
   pub grey_out_prints : (room work : ℕ) → length (grey_file z pixels) ≤ room → work_for z ≤ work

@@ -2,7 +2,7 @@
 use Rattle.std.specs.Prelude.{◌≡◌, ℕ, zero, suc, ◌+◌, ◌-◌, ◌*◌, ◌/◌, ◌%◌, ◌≤◌, ◌<◌, min, nat_abs}
 use Rattle.std.proofs.Common.{arith}
 use Rattle.std.proofs.Math.Decide.{dec_lt}
-use Rattle.pictures.specs.Document.Lifting.{Line, Grid, high, low, split, even, odd, joined}
+use Rattle.pictures.specs.Document.Lifting.{Line, high, low, split, even, odd, joined}
 use Rattle.pictures.specs.Laws.Reversible.{split_low, split_high, joined_even, joined_odd}
 use Rattle.pictures.specs.Laws.Tones.{bias, toned, tone_high, tone_low, tone_even, tone_odd, toned_high, toned_low}
 use Rattle.pictures.specs.Laws.Tones.{toned_even, toned_odd, tone_of, tone_is, toned_tone_of, Around, tone_around, around_tone}
@@ -10,10 +10,6 @@ use Rattle.pictures.specs.Laws.Tones.{toned_even, toned_odd, tone_of, tone_is, t
 -- The greatest magnitude that this speaks of: far more than a picture's, and little enough for its tones to be natural numbers.
 abbrev pub roomy : ℕ
 roomy = 67108864
-
--- In the first h rows and w columns no magnitude is over r.
-abbrev pub Most : ℕ → ℕ → ℕ → Grid → Type 0
-Most h w r g = (i j : ℕ) → i < h → j < w → nat_abs (g i j) ≤ r
 
 -- Twice a high and four times a low, on tones, but for what rounding leaves.
 abbrev HighTaps : ℕ → ℕ → ℕ → ℕ → Type 0
@@ -29,10 +25,8 @@ low_taps : (c p q : ℕ) → bias / 2 ≤ c → LowTaps p c q (tone_low c p q)
 low_taps c p q h = omega arith
 
 -- So eight times a low is the weighted sum of five numbers, but for rounding.
-abbrev pub FiveTaps : ℕ → ℕ → ℕ → ℕ → ℕ → ℕ → Type 0
-FiveTaps a b c d e s = (8 * s + (a + e) ≤ 2 * b + 6 * c + 2 * d + 6) × (2 * b + 6 * c + 2 * d ≤ 8 * s + (a + e) + 2)
-
-five_taps : (a b c d e p q s : ℕ) → HighTaps a b c p → HighTaps c d e q → LowTaps p c q s → FiveTaps a b c d e s
+five_taps : (a b c d e p q s : ℕ) → HighTaps a b c p → HighTaps c d e q → LowTaps p c q s
+    → (8 * s + (a + e) ≤ 2 * b + 6 * c + 2 * d + 6) × (2 * b + 6 * c + 2 * d ≤ 8 * s + (a + e) + 2)
 five_taps a b c d e p q s h k l = omega arith
 
 module _ (r : ℕ) (a b c d e s : ℕ) where
@@ -47,27 +41,6 @@ module _ (r : ℕ) (a b c d e s : ℕ) where
 -- A line that is split: its highs may be twice as great, its lows half as great again.
 abbrev pub low_most : ℕ → ℕ
 low_most r = (6 * r + 3) / 4
-
--- the place d before another, mirrored at the start of the line
-abbrev pub mirrored : ℕ → ℕ → ℕ
-mirrored d i = i - d + (d - i)
-
--- the two places before an even one
-abbrev pub before2 : ℕ → ℕ
-before2 i = mirrored 2 (2 * i)
-
-abbrev pub before1 : ℕ → ℕ
-before1 i = mirrored 1 (2 * i)
-
-before2_next : (k : ℕ) → 2 * k ≡ before2 (suc k)
-before2_next k = omega arith
-
-before1_next : (k : ℕ) → 2 * k + 1 ≡ before1 (suc k)
-before1_next k = omega arith
-
--- the second one behind it, mirrored at the end
-abbrev pub behind2 : ℕ → ℕ → ℕ
-behind2 m i = 2 * min (i + 1) (m - 1)
 
 module _ (m : ℕ) (x : Line) (r : ℕ) (room : r ≤ roomy) (few : (i : ℕ) → i < 2 * m → nat_abs (x i) ≤ r) where
   around : (i : ℕ) → i < 2 * m → Around r (tone_of (x i))
@@ -104,35 +77,6 @@ module _ (m : ℕ) (x : Line) (r : ℕ) (room : r ≤ roomy) (few : (i : ℕ) �
       rw (high_tone i h) (high_taps _ _ _ (omega (arith, A, B, C)))
 
   -- a low, of the high before it, which has the numbers at u and 2i beside it, and the one behind
-  low_tapped : (i u v : ℕ) → i < m → u < 2 * m → v < 2 * m → HighTaps (tone_of (x u)) (tone_of (x v)) (tone_of (x (2 * i))) (tone_of (high m x (i - 1)))
-      → FiveTaps (tone_of (x u)) (tone_of (x v)) (tone_of (x (2 * i))) (tone_of (x (2 * i + 1))) (tone_of (x (behind2 m i))) (tone_of (low m x i))
-  low_tapped i u v h k l before =
-      let C : Around r (tone_of (x (2 * i))) = around (2 * i) (omega arith) in
-      let least : bias / 2 ≤ tone_of (x (2 * i)) = omega (arith, C) in
-      let e : tone_of (low m x i) ≡ tone_low (tone_of (x (2 * i))) (tone_of (high m x (i - 1))) (tone_of (high m x i)) =
-      tone_is (low m x i) _
-      (toned_low m x i (tone_of (x (2 * i))) (tone_of (high m x (i - 1))) (tone_of (high m x i))
-      (own (2 * i) (omega arith)) (high_own (i - 1) (omega arith)) (high_own i h) (omega (arith, least))) in
-      rw e
-      (five_taps (tone_of (x u)) (tone_of (x v)) (tone_of (x (2 * i))) (tone_of (x (2 * i + 1))) (tone_of (x (2 * min (i + 1) (m - 1)))) _ _ _
-      before (high_tapped i h) (low_taps (tone_of (x (2 * i))) (tone_of (high m x (i - 1))) (tone_of (high m x i)) least))
-
-  five_at : (u v u' v' : ℕ) → u ≡ u' → v ≡ v' → (c d e s : ℕ) → FiveTaps (tone_of (x u)) (tone_of (x v)) c d e s
-      → FiveTaps (tone_of (x u')) (tone_of (x v')) c d e s
-  five_at u v u' v' p q c d e s F = rw (← p, ← q) F
-
-  pub low_five : (i : ℕ) → 2 ≤ m → i < m
-      → FiveTaps (tone_of (x (before2 i))) (tone_of (x (before1 i))) (tone_of (x (2 * i))) (tone_of (x (2 * i + 1))) (tone_of (x (behind2 m i)))
-      (tone_of (low m x i))
-  low_five zero a h =
-      let e : 2 * min 1 (m - 1) ≡ 2 = omega arith in
-      low_tapped 0 2 1 h (omega arith) (omega arith) (omega (arith, rw e at (high_tapped 0 h)))
-  low_five (suc k) a h =
-      let e : 2 * min (k + 1) (m - 1) ≡ 2 * suc k = omega arith in
-      let f : suc k - 1 ≡ k = omega arith in
-      five_at (2 * k) (2 * k + 1) (before2 (suc k)) (before1 (suc k)) (before2_next k) (before1_next k) _ _ _ _
-      (low_tapped (suc k) (2 * k) (2 * k + 1) h (omega arith) (omega arith) (rw f (rw e at (high_tapped k (omega arith)))))
-
   low_between : (i u v : ℕ) → i < m → u < 2 * m → v < 2 * m → HighTaps (tone_of (x u)) (tone_of (x v)) (tone_of (x (2 * i))) (tone_of (high m x (i - 1)))
       → nat_abs (low m x i) ≤ low_most r
   low_between i u v h k l before =
@@ -140,13 +84,20 @@ module _ (m : ℕ) (x : Line) (r : ℕ) (room : r ≤ roomy) (few : (i : ℕ) �
       let B : Around r (tone_of (x v)) = around v l in
       let C : Around r (tone_of (x (2 * i))) = around (2 * i) (omega arith) in
       let D : Around r (tone_of (x (2 * i + 1))) = around (2 * i + 1) (omega arith) in
-      let E : Around r (tone_of (x (behind2 m i))) = around (behind2 m i) (omega arith) in
-      let taps = low_tapped i u v h k l before in
+      let E : Around r (tone_of (x (2 * min (i + 1) (m - 1)))) = around (2 * min (i + 1) (m - 1)) (omega arith) in
+      let least : bias / 2 ≤ tone_of (x (2 * i)) = omega (arith, C) in
+      let e : tone_of (low m x i) ≡ tone_low (tone_of (x (2 * i))) (tone_of (high m x (i - 1))) (tone_of (high m x i)) =
+      tone_is (low m x i) _
+      (toned_low m x i (tone_of (x (2 * i))) (tone_of (high m x (i - 1))) (tone_of (high m x i))
+      (own (2 * i) (omega arith)) (high_own (i - 1) (omega arith)) (high_own i h) (omega (arith, least))) in
+      let taps : _ =
+      five_taps (tone_of (x u)) (tone_of (x v)) (tone_of (x (2 * i))) (tone_of (x (2 * i + 1))) (tone_of (x (2 * min (i + 1) (m - 1)))) _ _ _
+      before (high_tapped i h) (low_taps (tone_of (x (2 * i))) (tone_of (high m x (i - 1))) (tone_of (high m x i)) least) in
       around_tone (low_most r) (low m x i) (omega arith)
-      (record {
+      (rw e (record {
         least = five_least r _ _ _ _ _ _ A.most B.least C.least D.least E.most taps.1;
         most = five_most r _ _ _ _ _ _ A.least B.most C.most D.most E.least taps.0;
-      })
+      }))
 
   pub low_most_lem : (i : ℕ) → i < m → nat_abs (low m x i) ≤ low_most r
   low_most_lem zero h =

@@ -4,12 +4,14 @@ use Rattle.std.proofs.Common.{arith, add_comm, lt-ltb}
 use Rattle.std.proofs.Math.Decide.{dec_lt}
 use Rattle.std.proofs.Math.IntN.{sub_ℕ}
 use Rattle.pictures.specs.Document.Lifting.{Line, even, odd, joined}
-use Rattle.pictures.specs.Promises.DistanceCases.{distances_hold}
-use Rattle.pictures.specs.Promises.Vocabulary.{Close}
-use Rattle.pictures.specs.Laws.Distance.{Nearby}
 use Rattle.pictures.specs.Laws.Reversible.{joined_even, joined_odd}
 use Rattle.pictures.specs.Laws.Tones.{bias, toned, tone_even, tone_odd, sub_below, sub_least, sub_same, add_sub, neg_sub, tone_of, toned_tone_of, Around}
+use Rattle.pictures.specs.Laws.Distance.{Nearby}
 use Rattle.pictures.specs.Laws.Growth.{roomy, low_around, high_around, even_tone, even_around, odd_tone, joined_most_lem}
+
+-- The same of natural numbers: tones, and pixels.
+abbrev pub Close : ℕ → ℕ → ℕ → Type 0
+Close e s t = (s ≤ t + e) × (t ≤ s + e)
 
 difference : (s t : ℕ) → toned s -ℤ toned t ≡ sub_ℕ s t
 difference s t = rw (neg_sub t bias, add_sub s bias bias t) (sub_same (s + bias) (bias + t) s t (omega arith))

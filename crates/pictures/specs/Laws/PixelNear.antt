@@ -7,30 +7,47 @@ use Rattle.std.proofs.lemmas.List.{length-map}
 use Rattle.std.proofs.Math.ListN.{get_or-map}
 use Rattle.std.proofs.Math.IntN.{ℤ}
 use Rattle.rules.specs.declared.Size.{Size}
-use Rattle.rules.specs.Document.Pyramid.{legal_size, area, magnitude}
+use Rattle.rules.specs.Document.Pyramid.{legal_size, area, levels, magnitude}
 use Rattle.rules.specs.Document.Passes.{PartName}
-use Rattle.rules.specs.Document.Layout.{planes_in, earlier_planes_in, parts_with}
-use Rattle.rules.specs.Document.Calls.{Result, accepted, unless, work_for, first_over, Picture, decoding}
+use Rattle.rules.specs.Document.Layout.{planes_in, parts_of}
+use Rattle.rules.specs.Document.Calls.{Result, accepted, unless, work_for, first_over, Picture, plane_in, decoding}
 use Rattle.rules.specs.Laws.Family.Sizes.{legal, size_legal}
-use Rattle.rules.specs.Promises.Vocabulary.{Legal, Stated, PlaneCount, kept, arrived}
-use Rattle.rules.specs.Laws.Calls.Arrived.{this_count, earlier_count}
+use Rattle.rules.specs.Promises.Vocabulary.{Legal, Stated, kept, arrived}
 use Rattle.rules.specs.Laws.Rounding.Planes.{none_over}
 use Rattle.pictures.specs.Document.Lifting.{pyramid_of, picture_of}
 use Rattle.pictures.specs.Document.Netpbm.{picture, read_file, grey_file}
 use Rattle.pictures.specs.Document.Calls.{GreyPyramid, clip, most_decoded, print_of, printed, grey_in, grey_out}
-use Rattle.pictures.specs.Document.Nearness.{pixel_most}
-use Rattle.pictures.specs.Promises.Vocabulary.{Bytes, Taken, Close, halved, top_left, small_picture, PrintsNear, PixelNear}
-use Rattle.pictures.specs.Laws.Distance.{Nearby}
-use Rattle.pictures.specs.Laws.GreyReturns.{grey_in_takes, taken_codable, grey_returns}
+use Rattle.pictures.specs.Laws.Behind.{Bytes}
+use Rattle.pictures.specs.Laws.GreyReturns.{Taken, grey_in_takes, grey_returns}
 use Rattle.pictures.specs.Laws.Grids.{pyramid_length, picture_length, pixels_return}
 use Rattle.pictures.specs.Laws.Turns.{Pixels}
 use Rattle.pictures.specs.Laws.Range.{picture_most_fits, picture_most_lem}
-use Rattle.pictures.specs.Laws.NearLines.{nearby_pixels}
+use Rattle.pictures.specs.Laws.Distance.{Nearby, pixel_most, halved, top_left, small_picture}
+use Rattle.pictures.specs.Laws.NearLines.{Close, nearby_pixels}
 use Rattle.pictures.specs.Laws.Error.{halved_legal, top_left_length, top_left_most}
 use Rattle.pictures.specs.Laws.Printed.{Printed, picture_printed}
 
+-- With room the way back takes this pyramid, and no pixel in the file that it writes is more than e from the one of these in its place.
+pub record PrintsNear (e : ℕ) (z : Size) (pyramid : List ℤ) (pixels : List ℕ) : Type 0 where
+  pub prints : (room work : ℕ) → length (grey_file z pixels) ≤ room → work_for z ≤ work
+      → grey_out pyramid z room work ≡ accepted (print_of z (picture_of z pyramid))
+  pub near : (q : ℕ) → q < area z → Close e (get_or (map clip (picture_of z pyramid)) q 0) (get_or pixels q 0)
+
+-- Decoding accepts; what it gives is printed within pixel_most of the file's pixels, by the planes that it reports. The picture halved s times
+-- is printed within pixel_most of the same of the record in full, set to the nearer end likewise. Where each level is there to plane 0, the
+-- pixels are the file's, and none was set.
+pub record PixelNear (z : Size) (pixels : List ℕ) (result : Result Picture) : Type 0 where
+  pub picture : Picture
+  pub accepts : result ≡ accepted picture
+  pub whole : PrintsNear (pixel_most z picture.reached 0) z picture.pyramid pixels
+  pub small : (s : ℕ) → s < z.n
+      → PrintsNear (pixel_most z picture.reached s) (halved z s) (top_left z s picture.pyramid) (map clip (small_picture z s (pyramid_of z pixels)))
+  pub exact : ((k : ℕ) → 1 ≤ k → k ≤ levels z → plane_in picture.reached (k - 1) ≡ 0)
+      → (room work : ℕ) → length (grey_file z pixels) ≤ room → work_for z ≤ work
+      → grey_out picture.pyramid z room work ≡ accepted (record { file = grey_file z pixels; clipped = 0 })
+
 -- Setting to the nearer end brings no two numbers farther apart.
-pub clip_near : (e : ℕ) (v u : ℤ) → Nearby e v u → Close e (clip v) (clip u)
+clip_near : (e : ℕ) (v u : ℤ) → Nearby e v u → Close e (clip v) (clip u)
 unfolding clip
 clip_near e (pos v) (pos u) h = let c = nearby_pixels e v u h in omega (arith, c)
 clip_near e (pos v) (negsuc u) h = omega arith
@@ -38,11 +55,11 @@ clip_near e (negsuc v) (pos zero) h = omega arith
 clip_near e (negsuc v) (pos (suc u)) h = omega arith
 clip_near e (negsuc v) (negsuc u) h = omega arith
 
-pub clip_byte : (v : ℕ) → v < 256 → clip (pos v) ≡ v
+clip_byte : (v : ℕ) → v < 256 → clip (pos v) ≡ v
 unfolding clip
 clip_byte v h = min-eq_left (omega arith)
 
-pub clip_at : (numbers : List ℤ) (q : ℕ) → get_or (map clip numbers) q 0 ≡ clip (get_or numbers q (pos 0))
+clip_at : (numbers : List ℤ) (q : ℕ) → get_or (map clip numbers) q 0 ≡ clip (get_or numbers q (pos 0))
 unfolding clip
 clip_at numbers q = get_or-map clip numbers q (pos 0)
 
@@ -50,7 +67,7 @@ file_length : (z : Size) (a b : List ℕ) → length a ≡ length b → length (
 unfolding grey_file
 file_length z a b e = simp length-append (omega arith)
 
-pub way_back : (z : Size) (pyramid : List ℤ) (pixels : List ℕ) → legal_size z ≡ true → length pyramid ≡ area z
+way_back : (z : Size) (pyramid : List ℤ) (pixels : List ℕ) → legal_size z ≡ true → length pyramid ≡ area z
     → ((q : ℕ) → q < area z → magnitude pyramid q ≤ most_decoded) → length pixels ≡ area z
     → (room work : ℕ) → length (grey_file z pixels) ≤ room → work_for z ≤ work
     → grey_out pyramid z room work ≡ accepted (print_of z (picture_of z pyramid))
@@ -127,24 +144,17 @@ module _ {file : List ℕ} {n : ℕ} {x : GreyPyramid} {pixels : List ℕ} (t : 
             ∙ grey_returns t b room work enough space;
       }
 
-  taken_near : {planes : ℕ} → PlaneCount x.pyramid planes → (room work : ℕ) → Stated x.size room work → (keep : PartName → Bool) (cut : ℕ)
-      → PixelNear x.size pixels (decoding (arrived x.size planes (kept keep (parts_with x.size planes x.pyramid)) cut) room work)
-  taken_near {planes} count room work sizes keep cut =
-      subst (λ y. PixelNear x.size pixels (decoding (arrived x.size planes (kept keep (parts_with x.size planes y)) cut) room work))
+  taken_near : (room work : ℕ) → Stated x.size room work → (keep : PartName → Bool) (cut : ℕ)
+      → PixelNear x.size pixels (decoding (arrived x.size (planes_in x.pyramid) (kept keep (parts_of x.size x.pyramid)) cut) room work)
+  taken_near room work sizes keep cut =
+      subst (λ y. PixelNear x.size pixels (decoding (arrived x.size (planes_in y) (kept keep (parts_of x.size y)) cut) room work))
       (sym t.pyramid_is)
-      (pixel_near_of (picture_printed x.size pixels pixels_few t.legal_size_lem t.whole (subst (λ y. PlaneCount y planes) t.pyramid_is count)
-      room work sizes keep cut))
+      (pixel_near_of (picture_printed x.size pixels pixels_few t.legal_size_lem t.whole room work sizes keep cut))
 
--- Of every file of bytes that the way in accepts: whatever parts of its pyramid's record arrive, cut anywhere behind the header. The record may have
--- any number of planes that is enough; the coder's is, and so is the earlier one.
+-- Of every file of bytes that the way in accepts: whatever parts of its pyramid's record arrive, cut anywhere behind the header.
 pub pixel_near : (file : List ℕ) (n out space : ℕ) (x : GreyPyramid) → Bytes file → grey_in file n out space ≡ accepted x
     → (pixels : List ℕ)
     × (read_file file ≡ picture x.size.w x.size.h pixels)
-    × PlaneCount x.pyramid (planes_in x.pyramid)
-    × PlaneCount x.pyramid (earlier_planes_in x.pyramid)
-    × ((planes : ℕ) → PlaneCount x.pyramid planes → (room work : ℕ) → Stated x.size room work → (keep : PartName → Bool) (cut : ℕ)
-    → PixelNear x.size pixels (decoding (arrived x.size planes (kept keep (parts_with x.size planes x.pyramid)) cut) room work))
-pixel_near file n out space x b e =
-    let t = grey_in_takes file n out space x e in
-    let c = taken_codable t.1 b in
-    (t.0, t.1.reads, this_count c, earlier_count c, λ planes count. taken_near t.1 b count)
+    × ((room work : ℕ) → Stated x.size room work → (keep : PartName → Bool) (cut : ℕ)
+    → PixelNear x.size pixels (decoding (arrived x.size (planes_in x.pyramid) (kept keep (parts_of x.size x.pyramid)) cut) room work))
+pixel_near file n out space x b e = let t = grey_in_takes file n out space x e in (t.0, t.1.reads, taken_near t.1 b)

@@ -13,7 +13,6 @@ use Rattle.rules.specs.Laws.Counting.Booleans.{not_test, both_left, both_right}
 use Rattle.rules.specs.Promises.Vocabulary.{Legal}
 use Rattle.pictures.specs.Document.Lifting.{Line, Grid, half, quarter, high, low, split, even, odd, joined, along_rows, along_columns, columns_split}
 use Rattle.pictures.specs.Document.Lifting.{rows_split, columns_joined, rows_joined, turn, turn_back, forward, back}
-use Rattle.pictures.specs.Promises.CallCases.{cases_hold}
 
 -- Where the lows and the highs of a split line stand, and the even and the odd numbers of a joined one.
 module _ (m : ℕ) (x : Line) where
@@ -47,7 +46,7 @@ module _ (m : ℕ) (x y : Line) (same : (i : ℕ) → i < 2 * m → x i ≡ y i)
       let right : x (2 * min (i + 1) (m - 1)) ≡ y (2 * min (i + 1) (m - 1)) = same (2 * min (i + 1) (m - 1)) (omega arith) in
       cc
 
-  pub low_same : (i : ℕ) → i < m → low m x i ≡ low m y i
+  low_same : (i : ℕ) → i < m → low m x i ≡ low m y i
   unfolding low
   low_same i h = rw (same (2 * i) (omega arith), high_same (i - 1) (omega arith), high_same i h)
 

@@ -6,8 +6,7 @@ use Rattle.rules.specs.declared.Size.{Size}
 use Rattle.rules.specs.Promises.Vocabulary.{Legal}
 use Rattle.pictures.specs.Document.Lifting.{Grid, columns_split, rows_joined, forward, back}
 use Rattle.pictures.specs.Laws.Reversible.{even_rows, even_columns}
-use Rattle.pictures.specs.Laws.Growth.{Most}
-use Rattle.pictures.specs.Laws.Turns.{most_pixel, grown, grown_more, columns_split_most, forward_low, forward_most}
+use Rattle.pictures.specs.Laws.Turns.{Most, most_pixel, grown, grown_more, columns_split_most, forward_low, forward_most}
 use Rattle.pictures.specs.Laws.Turns.{Bands, bands_most, rows_joined_most, back_most, Unturned, back_bands, returned, returned_back, returned_unturned}
 
 abbrev pub most_turns : ℕ
@@ -31,14 +30,14 @@ pub record RoomBack (z : Size) (g : Grid) (l : ℕ) : Type 0 where
   pub taken : Most (z.h / 2 ^ l) (z.w / 2 ^ l) shallow g
   pub rows : Most (z.h / 2 ^ l) (z.w / 2 ^ l) shallow (rows_joined (z.h / 2 ^ l) (z.w / 2 ^ l) g)
 
-grown_room : (l : ℕ) → l ≤ most_turns → 8 * grown l most_pixel + 8 ≤ shallow
+grown_room : (l : ℕ) → l ≤ most_turns → 4 * grown l most_pixel ≤ shallow
 unfolding grown
 grown_room l h = omega (arith, grown_more l most_turns most_pixel h)
 
 module _ (z : Size) (Z : Legal z) (few_turns : z.n ≤ most_turns) where
   pub room_in : (g : Grid) → Most z.h z.w most_pixel g → (l : ℕ) → l ≤ z.n → RoomIn z g l
   room_in g few l a =
-      let room : 8 * grown l most_pixel + 8 ≤ shallow = grown_room l (omega arith) in
+      let room : 4 * grown l most_pixel ≤ shallow = grown_room l (omega arith) in
       let low : Most (z.h / 2 ^ l) (z.w / 2 ^ l) (grown l most_pixel) (forward z l g) = forward_low z Z most_pixel g few l a (omega arith) in
       record {
         taken = λ i j c d. omega (arith, low i j c d);

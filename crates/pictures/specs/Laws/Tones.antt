@@ -5,7 +5,6 @@ use Rattle.std.proofs.Common.{ap, sym, ◌∙◌, arith, lt-ltb, le-ltb}
 use Rattle.std.proofs.Math.Decide.{dec_lt}
 use Rattle.std.proofs.Math.IntN.{sub_ℕ}
 use Rattle.pictures.specs.Document.Lifting.{Line, half, quarter, high, low, even, odd}
-use Rattle.pictures.specs.Promises.CallCases.{cases_hold}
 
 abbrev pub bias : ℕ
 bias = 268435456

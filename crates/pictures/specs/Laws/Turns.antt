@@ -10,13 +10,15 @@ use Rattle.std.proofs.Math.Arith.{digits_lt}
 use Rattle.std.proofs.lemmas.Nat.{shr_le}
 use Rattle.rules.specs.declared.Size.{Size}
 use Rattle.rules.specs.Document.Pyramid.{area}
-use Rattle.rules.specs.Laws.Family.Sizes.{side_falls, side_some}
-use Rattle.rules.specs.Promises.Vocabulary.{Side, Legal}
+use Rattle.rules.specs.Laws.Family.Sizes.{side_falls}
+use Rattle.rules.specs.Promises.Vocabulary.{Legal}
 use Rattle.pictures.specs.Document.Lifting.{Grid, split, joined, columns_split, rows_split, rows_joined, turn, turn_back, forward, back, grey_of}
-use Rattle.pictures.specs.Laws.Reversible.{low_same, by_block, rows_inside, rows_outside, columns_inside, columns_outside, even_rows, even_columns}
-use Rattle.pictures.specs.Laws.Growth.{roomy, Most, low_most, split_low_most, split_most, joined_most, joined_most_lem}
-use Rattle.pictures.specs.Laws.TwoTurns.{twice_most}
-use Rattle.pictures.specs.Laws.TwoLows.{column_lows, row_lows, split_lows, two_lows_most}
+use Rattle.pictures.specs.Laws.Reversible.{by_block, rows_inside, rows_outside, columns_inside, columns_outside, even_rows, even_columns}
+use Rattle.pictures.specs.Laws.Growth.{roomy, low_most, split_low_most, split_most, joined_most, joined_most_lem}
+
+-- In the first h rows and w columns no magnitude is over r.
+abbrev pub Most : ℕ → ℕ → ℕ → Grid → Type 0
+Most h w r g = (i j : ℕ) → i < h → j < w → nat_abs (g i j) ≤ r
 
 -- each pixel at most 255
 abbrev pub most_pixel : ℕ
@@ -123,38 +125,6 @@ module _ (z : Size) (Z : Legal z) where
         (λ k m. rows_joined_upper h w s b g (omega arith) (omega arith) B e k j m d)
         (λ k m. rows_joined_lower h w s b g (omega arith) (omega arith) B e (h / 2 + k) j (omega arith) (omega arith) d) i (omega arith))
 
--- Two turns at once.
-module _ (z : Size) (Z : Legal z) (l : ℕ) (a : suc l ≤ z.n) (r : ℕ) (g : Grid) where
-  abbrev m : ℕ
-  m = z.h / 2 ^ suc (suc l)
-
-  abbrev n : ℕ
-  n = z.w / 2 ^ suc (suc l)
-
-  turn_twice : (i j : ℕ) → i < m → j < n
-      → turn z (suc l) (turn z l g) i j ≡ row_lows n (column_lows m (row_lows (2 * n) (column_lows (2 * m) g))) i j
-  unfolding turn
-  turn_twice i j c d =
-      let h = Z.height.half l (omega arith) in
-      let h' = Z.height.half (suc l) a in
-      let w = Z.width.half l (omega arith) in
-      let w' = Z.width.half (suc l) a in
-      let x : Grid = row_lows (2 * n) (column_lows (2 * m) g) in
-      split_lows (z.h / 2 ^ suc l) (z.w / 2 ^ suc l) m n h' w' (turn z l g) i j c d
-      ∙ low_same n (column_lows m (turn z l g) i) (column_lows m x i)
-      (λ k p. low_same m (λ q. turn z l g q k) (λ q. x q k)
-      (λ q o. split_lows (z.h / 2 ^ l) (z.w / 2 ^ l) (2 * m) (2 * n) (omega (arith, h, h')) (omega (arith, w, w')) g q k o p) i c) j d
-
-  pub turn_twice_low : 8 * r + 8 ≤ roomy → 2 ≤ m → 2 ≤ n → Most (z.h / 2 ^ l) (z.w / 2 ^ l) r g
-      → Most m n (twice_most 2 (twice_most 0 r)) (turn z (suc l) (turn z l g))
-  turn_twice_low room two two' few i j c d =
-      let h = Z.height.half l (omega arith) in
-      let h' = Z.height.half (suc l) a in
-      let w = Z.width.half l (omega arith) in
-      let w' = Z.width.half (suc l) a in
-      rw (turn_twice i j c d)
-      (two_lows_most m n r g room (λ u v p q. few u v (omega (arith, h, h')) (omega (arith, w, w'))) two two' i j c d)
-
 -- Outside of its block a turn changes nothing.
 module _ (z : Size) (l : ℕ) (g : Grid) (i j : ℕ) (o : i < z.h / 2 ^ l → j < z.w / 2 ^ l → ⊥) where
   pub turn_outside : turn z l g i j ≡ g i j
@@ -165,47 +135,33 @@ module _ (z : Size) (l : ℕ) (g : Grid) (i j : ℕ) (o : i < z.h / 2 ^ l → j 
   unfolding turn_back
   turn_back_outside = columns_outside joined _ _ _ i j o ∙ rows_outside joined _ _ g i j o
 
--- The greatest magnitude in the block that turn l takes, of a picture with magnitudes up to r: two turns at a time, and one more first.
+-- The greatest magnitude in the block that turn l takes, of a picture with magnitudes up to r.
 unfoldable pub grown : ℕ → ℕ → ℕ
 grown zero r = r
-grown (suc zero) r = low_most (low_most r)
-grown (suc (suc l)) r = twice_most 2 (twice_most 0 (grown l r))
-
-twice_more : (e a b : ℕ) → a ≤ b → twice_most e a ≤ twice_most e b
-twice_more e a b h = omega arith
-
-grown_next : (l r : ℕ) → grown l r ≤ grown (suc l) r
-unfolding grown
-grown_next zero r = omega arith
-grown_next (suc zero) r = omega arith
-grown_next (suc (suc l)) r = twice_more 2 _ _ (twice_more 0 _ _ (grown_next l r))
-
-pub grown_more : (k l r : ℕ) → k ≤ l → grown k r ≤ grown l r
-grown_more k zero r h = let e : k ≡ 0 = omega arith in rw e (omega arith)
-grown_more k (suc l) r h = by (dec_lt l k) (λ m. grown_more k l r m)
-  where
-    by : Dec (l < k) → (k ≤ l → grown k r ≤ grown l r) → grown k r ≤ grown (suc l) r
-    by (yes m) before = let e : k ≡ suc l = omega arith in rw e (omega arith)
-    by (no m) before = omega (arith, before (omega arith), grown_next l r)
+grown (suc l) r = low_most (low_most (grown l r))
 
 grown_least : (l r : ℕ) → r ≤ grown l r
 unfolding grown
-grown_least l r = grown_more 0 l r (omega arith)
+grown_least zero r = omega arith
+grown_least (suc l) r = omega (arith, grown_least l r)
 
-two_left : {n : ℕ} (x l : ℕ) → Side n x → suc (suc l) ≤ n → 2 ≤ x / 2 ^ suc (suc l)
-two_left {n} x l S h = omega (arith, S.half (suc (suc l)) h, side_some n x S (suc (suc (suc l))) (omega arith))
+low_most_more : (a b : ℕ) → a ≤ b → low_most a ≤ low_most b
+low_most_more a b h = omega arith
+
+pub grown_more : (k l r : ℕ) → k ≤ l → grown k r ≤ grown l r
+unfolding grown
+grown_more zero l r h = grown_least l r
+grown_more (suc k) zero r h = absurd (omega arith)
+grown_more (suc k) (suc l) r h = low_most_more _ _ (low_most_more _ _ (grown_more k l r (omega arith)))
 
 module _ (z : Size) (Z : Legal z) (r : ℕ) (g : Grid) (few : Most z.h z.w r g) where
-  pub forward_low : (l : ℕ) → l ≤ z.n → 8 * grown l r + 8 ≤ roomy → Most (z.h / 2 ^ l) (z.w / 2 ^ l) (grown l r) (forward z l g)
+  pub forward_low : (l : ℕ) → l ≤ z.n → 2 * grown l r ≤ roomy → Most (z.h / 2 ^ l) (z.w / 2 ^ l) (grown l r) (forward z l g)
   unfolding grown forward
   forward_low zero a room = λ i j c d. few i j (omega (arith, div-one z.h)) (omega (arith, div-one z.w))
-  forward_low (suc zero) a room =
-      turn_low z Z 0 (omega arith) r g (omega arith) (λ i j c d. few i j (omega (arith, div-one z.h)) (omega (arith, div-one z.w)))
-  forward_low (suc (suc l)) a room =
-      turn_twice_low z Z l (omega arith) (grown l r) (forward z l g) (omega arith)
-      (two_left z.h l Z.height (omega arith)) (two_left z.w l Z.width (omega arith)) (forward_low l (omega arith) (omega arith))
+  forward_low (suc l) a room =
+      turn_low z Z l (omega arith) (grown l r) (forward z l g) (omega arith) (forward_low l (omega arith) (omega arith))
 
-  pub forward_most : (l m : ℕ) → l ≤ z.n → l ≤ suc m → 8 * grown m r + 8 ≤ roomy → Most z.h z.w (4 * grown m r) (forward z l g)
+  pub forward_most : (l m : ℕ) → l ≤ z.n → l ≤ suc m → 2 * grown m r ≤ roomy → Most z.h z.w (4 * grown m r) (forward z l g)
   unfolding forward
   forward_most zero m a b room i j c d = omega (arith, few i j c d, grown_least m r)
   forward_most (suc l) m a b room i j c d =

@@ -41,8 +41,8 @@ mul-result c = let R = band_room _ _ _ c.before.before.before.before.before.requ
 add-result : tie.Need-overflow-add-result
 add-result c = let R = band_room _ _ _ c.before.before.before.before.before.requires in search rules
 
-sub_result : tie.Need-overflow-sub-result
-sub_result c = search rules
+sub-result : tie.Need-overflow-sub-result
+sub-result c = search rules
 
 add-result-2 : tie.Need-overflow-add-result-2
 add-result-2 c = let R = band_room _ _ _ c.before.before.before.before.before.requires in search rules
@@ -53,4 +53,4 @@ returns_2 c = numbered_odd _ _ _ c.before.before.before.before.before.requires c
 pub band-number-spec : {M : Type 1} → statement M
 band-number-spec =
     tie.close (tie.spec add-across shr-across mul-group add-group mul-rank add-rank returns add-groups shr-groups mul-groups mul-result add-result
-    sub_result add-result-2 returns_2)
+    sub-result add-result-2 returns_2)

@@ -6,11 +6,11 @@ use Rattle.placing.proofs.Calls.{level_room}
 use Rattle.placing.proofs.blocks_from.Statement.{statement}
 use Rattle.placing.proofs.blocks_from.Tie as tie
 
-depth-from-requires : tie.Need-depth-from-requires
-depth-from-requires c κs = search rules
+stretch-from-requires : tie.Need-stretch-from-requires
+stretch-from-requires c κs = search rules
 
-depth-size-requires : tie.Need-depth-size-requires
-depth-size-requires c κs = search rules
+level-size-requires : tie.Need-level-size-requires
+level-size-requires c κs = search rules
 
 maxima-from-requires : tie.Need-maxima-from-requires
 maxima-from-requires c κs = let R = level_room _ _ c.before.before.requires in search rules
@@ -24,4 +24,4 @@ unfolding maxima_from blocks_from
 returns c = let R = level_room _ _ c.before.before.before.requires in search rules
 
 pub blocks-from-spec : {M : Type 1} → statement M
-blocks-from-spec = tie.close (tie.spec depth-from-requires depth-size-requires maxima-from-requires add-result returns)
+blocks-from-spec = tie.close (tie.spec stretch-from-requires level-size-requires maxima-from-requires add-result returns)

@@ -4,11 +4,11 @@ use Rattle.placing.proofs.Loops.{level_cleared}
 use Rattle.placing.proofs.clear_level.Statement.{statement}
 use Rattle.placing.proofs.clear_level.Tie as tie
 
-depth-from-requires : tie.Need-depth-from-requires
-depth-from-requires c κs = search rules
+stretch-from-requires : tie.Need-stretch-from-requires
+stretch-from-requires c κs = search rules
 
-depth-size-requires : tie.Need-depth-size-requires
-depth-size-requires c κs = search rules
+level-size-requires : tie.Need-level-size-requires
+level-size-requires c κs = search rules
 
 add-zero-u32 : tie.Need-overflow-add-zero-u32
 add-zero-u32 c = search rules
@@ -36,5 +36,5 @@ returns c = search (rules, level_cleared)
 
 pub clear-level-spec : {M : Type 1} → statement M
 clear-level-spec =
-    tie.close (tie.spec depth-from-requires depth-size-requires add-zero-u32 mul-zero-u32 sub-zero-u32 part-zero-u32-start part-zero-u32-end
+    tie.close (tie.spec stretch-from-requires level-size-requires add-zero-u32 mul-zero-u32 sub-zero-u32 part-zero-u32-start part-zero-u32-end
     zero-u32-requires same_length returns)

@@ -51,8 +51,8 @@ add-value-in-3 c = search rules
 value-in-requires-4 : tie.Need-value-in-requires-4
 value-in-requires-4 c κs = search rules
 
-add_t9 : tie.Need-overflow-add-t9
-add_t9 c = search rules
+add-t9 : tie.Need-overflow-add-t9
+add-t9 c = search rules
 
 add-t10 : tie.Need-overflow-add-t10
 add-t10 c = search rules
@@ -77,5 +77,5 @@ returns c = let begun = c.before.before.before.before.before in
 pub lay-block-spec : {M : Type 1} → statement M
 lay-block-spec =
     tie.close (tie.spec value-in-requires mul-out slice-set-from-out add-value-in value-in-requires-2 add-out mul-out-2 slice-set-from-out-2
-    add-value-in-2 value-in-requires-3 add-out-2 mul-out-3 slice-set-from-out-3 add-value-in-3 value-in-requires-4 add_t9 add-t10 mul-t13
+    add-value-in-2 value-in-requires-3 add-out-2 mul-out-3 slice-set-from-out-3 add-value-in-3 value-in-requires-4 add-t9 add-t10 mul-t13
     slice-set-from-out-4 same_length returns)

@@ -9,8 +9,8 @@ use Rattle.placing.proofs.place_level.Tie as tie
 add-blocks : tie.Need-overflow-add-blocks
 add-blocks c = omega (arith, few)
 
-depth-size-requires : tie.Need-depth-size-requires
-depth-size-requires c κs = search rules
+level-size-requires : tie.Need-level-size-requires
+level-size-requires c κs = search rules
 
 blocks-from-requires : tie.Need-blocks-from-requires
 blocks-from-requires c κs = search rules
@@ -23,7 +23,7 @@ cast-place-under c = omega (arith, wide)
 
 place-under-requires : tie.Need-place-under-requires
 place-under-requires c κs = let begun = c.before.before.before.before.before.before.before.requires in
-    let size = c.before.before.before.before.depth-size.ensures in
+    let size = c.before.before.before.before.level-size.ensures in
     level_under_asks begun size c.before.before.blocks_from.ensures c.before.blocks-from2.ensures
 
 same_length : tie.Need-same-length
@@ -34,9 +34,9 @@ returns c = let sized = c.before.before.before.before.before.before.before in
     let begun = sized.before.before.before.requires in
     let from = c.before.before.before.before.before.blocks_from.ensures in
     let to = c.before.before.before.before.blocks-from2.ensures in
-    level_under begun sized.depth-size.ensures from to c.before.before.place-under.ensures
+    level_under begun sized.level-size.ensures from to c.before.before.place-under.ensures
 
 pub place-level-spec : {M : Type 1} → statement M
 place-level-spec =
-    tie.close (tie.spec add-blocks depth-size-requires blocks-from-requires blocks-from-requires-2 cast-place-under place-under-requires same_length
+    tie.close (tie.spec add-blocks level-size-requires blocks-from-requires blocks-from-requires-2 cast-place-under place-under-requires same_length
     returns)

@@ -1,8 +1,8 @@
 -- `reached::none_reached` meets its contract.
+use mathlib.Core.Path.{refl}
 use Prim.Native.Nat.{◌-◌}
 use native.Mathlib.Omega.{arith}
-use Rattle.rules.specs.Laws.Family.Sizes.{legal}
-use Rattle.reached.specs.Planes.{Begun, begun_none, begun_more, begun_all}
+use Rattle.reached.specs.Planes.{size_levels, Begun, begun_none, begun_more, begun_all}
 use borrow.Author.Rules.{rules}
 use Rattle.reached.proofs.none_reached.Statement.{statement}
 use Rattle.reached.proofs.none_reached.Tie as tie
@@ -13,11 +13,11 @@ invariant-loop h levels reached₀ done₀ reached done = Begun h levels done re
 abbrev decreases-loop : tie.decreases-loop
 decreases-loop h levels reached₀ done₀ reached done = levels - done
 
-levels-requires : tie.Need-levels-requires invariant-loop decreases-loop
-levels-requires c κs = omega (arith, (legal _ c.requires).few)
+add-levels : tie.Need-overflow-add-levels invariant-loop decreases-loop
+add-levels c = record { fits = omega (arith, size_levels _ c.before.requires) }
 
 loop-holds : tie.Need-loop-init invariant-loop decreases-loop
-loop-holds c = search (rules, begun_none)
+loop-holds c = begun_none _ c.before.requires refl
 
 mul-reached : tie.Need-overflow-mul-reached invariant-loop decreases-loop
 mul-reached c = search rules
@@ -39,4 +39,4 @@ returns c = search (rules, begun_all)
 
 pub none-reached-spec : {M : Type 1} → statement M
 none-reached-spec =
-    tie.close (tie.spec invariant-loop decreases-loop levels-requires loop-holds mul-reached array-set-from-reached add_done loop-less loop-again returns)
+    tie.close (tie.spec invariant-loop decreases-loop add-levels loop-holds mul-reached array-set-from-reached add_done loop-less loop-again returns)

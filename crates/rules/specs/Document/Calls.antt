@@ -61,22 +61,15 @@ on_ending (tail t) go = go t
 on_ending (fault r) go = refused r
 
 -- "Serving takes a record, a level r (1 to N+1) and a plane p (0 to planes). It writes the header and the parts with level >= r and plane
--- >= p, unaltered." "Serving: 11, the parts, at the very end 5." W9: "r runs 1 to K".
+-- >= p, unaltered." "Serving: 11, the parts, at the very end 5."
 unfoldable pub legal_ask : Header → ℕ → ℕ → Bool
 legal_ask h r p = leb 1 r && leb r (top_level h) && leb p h.planes
 
-abbrev pub asked : ℕ → ℕ → PartName → Bool
-asked r p x = leb r x.level && leb p x.plane
+unfoldable pub kept_of : List ℕ → ℕ → ℕ → Part → List ℕ
+kept_of s r p x = cond (leb r x.level.0 && leb p x.plane.0) (whole_of s x) []
 
--- what is kept of a part, where a test of its name decides
-unfoldable pub kept_by : List ℕ → (PartName → Bool) → Part → List ℕ
-kept_by s test x = cond (test (name_of x)) (whole_of s x) []
-
-unfoldable pub selected_bytes : Header → List ℕ → (PartName → Bool) → List Part → List ℕ
-selected_bytes h s test parts = take h.end s ++ flat (kept_by s test) parts
-
-abbrev pub served_bytes : Header → List ℕ → ℕ → ℕ → List Part → List ℕ
-served_bytes h s r p = selected_bytes h s (asked r p)
+unfoldable pub served_bytes : Header → List ℕ → ℕ → ℕ → List Part → List ℕ
+served_bytes h s r p parts = take h.end s ++ flat (kept_of s r p) parts
 
 pub record Portion : Type 0 where
   pub bytes : List ℕ
@@ -127,8 +120,7 @@ module _ (h : Header) (s : List ℕ) (there : List PartName) where
   tail_onward part.Tail g = g
   tail_onward (part.Refused r) g = g
 
--- "Then decoding: 2, 3 and the parts." "Decoding: number, place, tail length and six reached planes, level 1 first, 0 beyond level N+1." W10:
--- "per-level answers go from 6 to 9 places". W9: "Reached planes and W8's counts are by part level, 0 beyond K."
+-- "Then decoding: 2, 3 and the parts." "Decoding: number, place, tail length and six reached planes, level 1 first, 0 beyond level N+1."
 pub record Picture : Type 0 where
   pub pyramid : List ℤ
   pub tail : ℕ
@@ -136,7 +128,7 @@ pub record Picture : Type 0 where
   pub skipped : List ℕ
 
 abbrev pub level_places : ℕ
-level_places = 9
+level_places = 6
 
 unfoldable pub reached_plane : Header → List PartName → ℕ → Plane
 reached_plane h there k = record { 0 = cond (leb k (top_level h)) (reached (top_level h) h.planes there k) 0 }
@@ -215,7 +207,7 @@ pub record Decoding (s : List ℕ) (out : List ℤ) (work : List ℕ) (answer : 
   pub clears : work' ≡ zeros (length work)
 
 -- "Coding answers number, place, length; serving also the tail length; decoding number, place, tail length and six reached planes." W8: and the
--- counts of skipped parts behind them. W10: nine of each.
+-- counts of skipped parts behind them.
 unfoldable pub code_numbers : Coded → List ℕ
 code_numbers a = verdict_number a.verdict ∷ verdict_place a.verdict ∷ a.length ∷ []
 

@@ -1,14 +1,12 @@
 -- Document 01, "Record layout": bytes of numbers, parts and records, and which parts of a record are usable.
 use Rattle.std.specs.Prelude.{List, [], ◌∷◌, ◌++◌, Bool, true, false, cond, not, ◌&&◌, ◌||◌, ℕ, zero, suc, ◌+◌, ◌-◌, ◌*◌, ◌/◌, ◌%◌, ◌^◌, min, leb, ltb, eqb, length, get_or, take, drop, ℤ, nat_abs}
-use Rattle.rules.specs.declared.Merged.{Merged}
-use Rattle.rules.specs.declared.Merged.TheVariants.{Never, From}
 use Rattle.rules.specs.declared.Size.{Size}
 use Rattle.rules.specs.declared.Number.{Number}
 use Rattle.rules.specs.declared.Number.TheVariants.{Value, TooManyBytes, LongForm, CutOff}
 use Rattle.rules.specs.declared.Part.{Part}
 use Rattle.rules.specs.Document.Notation.{any, every, flat, greatest, lowest}
 use Rattle.rules.specs.Document.Pyramid.{Family, family, levels, magnitude, negative, earlier_planes_of, planes_of}
-use Rattle.rules.specs.Document.Passes.{State, start, after, PartName, part_names, coded}
+use Rattle.rules.specs.Document.Passes.{Course, State, start, after, PartName, part_names, coded}
 
 -- "Numbers are groups of seven bits, lowest group first; a set top bit says that another byte follows. At most four bytes; shortest form
 -- only."
@@ -63,20 +61,11 @@ unfoldable pub pad_clear : List ℕ → ℕ → Bool
 pad_clear body bits = clear_from body bits (8 * bytes_for bits - bits)
 
 -- "Header: version (1), W, H, N, planes (0 to 17). Then parts: plane, level, bit count, body."
--- W9: "A version 2 header has one more number after planes: K, 1 to N+1."
-unfoldable pub version_of : Merged → ℕ
-version_of Never = 1
-version_of (From k) = 2
-
-unfoldable pub merged_numbers : Merged → List ℕ
-merged_numbers Never = []
-merged_numbers (From k) = k ∷ []
-
-unfoldable pub header_numbers : Size → ℕ → List ℕ
-header_numbers z planes = version_of z.merged ∷ z.w ∷ z.h ∷ z.n ∷ planes ∷ merged_numbers z.merged
+abbrev pub version : ℕ
+version = 1
 
 unfoldable pub header_bytes : Size → ℕ → List ℕ
-header_bytes z planes = flat number_bytes (header_numbers z planes)
+header_bytes z planes = flat number_bytes (version ∷ z.w ∷ z.h ∷ z.n ∷ planes ∷ [])
 
 pub record CodedPart : Type 0 where
   pub name : PartName

@@ -16,8 +16,7 @@
 --   lowest t m      the lowest number under m that passes the test t, m if none does
 --   if_any xs ys     ys if xs is not empty, else nothing
 --   zeros n         n zeros
---   same_bytes a b   the bytes a and b are equal, byte for byte
-use Rattle.std.specs.Prelude.{List, [], ◌∷◌, ◌++◌, Bool, true, false, cond, ◌&&◌, ◌||◌, ℕ, zero, suc, max, eqb, replicate}
+use Rattle.std.specs.Prelude.{List, [], ◌∷◌, ◌++◌, Bool, true, false, cond, ◌&&◌, ◌||◌, ℕ, zero, suc, max, replicate}
 
 unfoldable pub any : {X : Type 0} → (X → Bool) → List X → Bool
 any t [] = false
@@ -49,9 +48,3 @@ if_any (x ∷ xs) ys = ys
 
 abbrev pub zeros : ℕ → List ℕ
 zeros n = replicate n 0
-
-unfoldable pub same_bytes : List ℕ → List ℕ → Bool
-same_bytes [] [] = true
-same_bytes [] (y ∷ ys) = false
-same_bytes (x ∷ xs) [] = false
-same_bytes (x ∷ xs) (y ∷ ys) = eqb x y && same_bytes xs ys

@@ -1,6 +1,5 @@
 -- Document 01, "Numbers that a call may come back with": the table, and reading a record in its order of refusals.
-use Rattle.std.specs.Prelude.{List, [], ◌∷◌, Bool, cond, ◌&&◌, ◌||◌, ℕ, zero, suc, ◌+◌, ◌-◌, ◌*◌, leb, ltb, eqb, length}
-use Rattle.rules.specs.declared.Merged.TheVariants.{Never, From}
+use Rattle.std.specs.Prelude.{List, [], ◌∷◌, ◌++◌, Bool, true, false, cond, ◌&&◌, ◌||◌, ℕ, zero, suc, ◌+◌, ◌-◌, ◌*◌, leb, ltb, eqb, length}
 use Rattle.rules.specs.declared.Size.{Size}
 use Rattle.rules.specs.declared.Refusal.{Refusal}
 use Rattle.rules.specs.declared.Refusal.TheVariants as refusal
@@ -16,7 +15,7 @@ use Rattle.rules.specs.declared.PartRead.{PartRead}
 use Rattle.rules.specs.declared.PartRead.TheVariants as part
 use Rattle.rules.specs.Document.Pyramid.{most_area, legal_size, area, levels, most_planes}
 use Rattle.rules.specs.Document.Passes.{PartName}
-use Rattle.rules.specs.Document.Layout.{read_number, bytes_for, pad_clear, body_of, name_of}
+use Rattle.rules.specs.Document.Layout.{read_number, version, bytes_for, pad_clear, body_of, name_of}
 
 -- The table's first and last columns.
 abbrev pub refusal_number : Refusal → ℕ
@@ -35,8 +34,6 @@ refusal_number (refusal.LongForm i) = 12
 refusal_number refusal.Grey = 13
 refusal_number refusal.Mixed = 14
 refusal_number (refusal.Clash i) = 15
-refusal_number (refusal.Index i) = 16
-refusal_number refusal.Foreign = 17
 
 abbrev pub refusal_place : Refusal → ℕ
 refusal_place refusal.Size = 0
@@ -54,8 +51,6 @@ refusal_place (refusal.LongForm i) = i
 refusal_place refusal.Grey = 0
 refusal_place refusal.Mixed = 0
 refusal_place (refusal.Clash i) = i
-refusal_place (refusal.Index i) = i
-refusal_place refusal.Foreign = 0
 
 abbrev pub verdict_number : Verdict → ℕ
 verdict_number Accepted = 0
@@ -80,28 +75,16 @@ judged_header z planes end =
     (header.Header (record { size = z; planes = planes; end = end }))
     (header.Refused refusal.Size)
 
-unfoldable pub read_sizes : List ℕ → ℕ → (ℕ → ℕ → ℕ → ℕ → ℕ → HeaderRead) → HeaderRead
-read_sizes s a go =
+unfoldable pub read_sizes : List ℕ → ℕ → HeaderRead
+read_sizes s a =
     head_number a (read_number s a) (λ w b.
     head_number b (read_number s b) (λ h c.
     head_number c (read_number s c) (λ n d.
     head_number d (read_number s d) (λ planes end.
-    go w h n planes end))))
-
--- W9: "A version 2 header has one more number after planes". "7 for a version other than 1 and 2."
-unfoldable pub read_version1 : List ℕ → ℕ → HeaderRead
-read_version1 s a = read_sizes s a (λ w h n planes end. judged_header (record { w = w; h = h; n = n; merged = Never }) planes end)
-
-unfoldable pub read_version2 : List ℕ → ℕ → HeaderRead
-read_version2 s a =
-    read_sizes s a (λ w h n planes e.
-    head_number e (read_number s e) (λ k end.
-    judged_header (record { w = w; h = h; n = n; merged = From k }) planes end))
+    judged_header (record { w = w; h = h; n = n }) planes end))))
 
 unfoldable pub read_header : List ℕ → HeaderRead
-read_header s =
-    head_number 0 (read_number s 0) (λ v a.
-    cond (eqb v 1) (read_version1 s a) (cond (eqb v 2) (read_version2 s a) (header.Refused refusal.Version)))
+read_header s = head_number 0 (read_number s 0) (λ v a. cond (eqb v version) (read_sizes s a) (header.Refused refusal.Version))
 
 -- the greatest level that a part of this header may have
 abbrev pub top_level : Header → ℕ
@@ -123,7 +106,7 @@ part_number place LongForm go = part.Refused (refusal.LongForm place)
 part_number place CutOff go = part.Tail
 
 -- "the other causes of 8": "plane not under planes; level not 1 to N+1; not after the part before it in the order; bit count over
--- 4 x W x H". W9: "Part levels run 1 to K".
+-- 4 x W x H"
 unfoldable pub follows : PartName → PartName → Bool
 follows before p = ltb p.plane before.plane || eqb p.plane before.plane && ltb p.level before.level
 
@@ -150,17 +133,6 @@ read_part h s before place =
     part_number place (read_number s a) (λ k b.
     part_number place (read_number s b) (λ bits body.
     judged_part h s before (headed place n k bits body))))
-
--- W11: a head by itself: its three numbers and what 8 asks of them. What stands behind it isn't looked at.
-unfoldable pub judged_head : Header → PartName → Part → PartRead
-judged_head h before p = cond (legal_head h before (name_of p) p.bits) (part.Part p) (part.Refused (refusal.Part p.place))
-
-unfoldable pub read_head : Header → List ℕ → PartName → ℕ → PartRead
-read_head h s before place =
-    part_number place (read_number s place) (λ n a.
-    part_number place (read_number s a) (λ k b.
-    part_number place (read_number s b) (λ bits body.
-    judged_head h before (headed place n k bits body))))
 
 -- "If the bytes end inside a part, its head or its body, what is there of that part is the tail." The parts that are whole, and what comes
 -- after them: a tail of so many bytes, or the fault of the first part at fault.

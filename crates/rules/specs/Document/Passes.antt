@@ -155,7 +155,7 @@ unfoldable pub after : {S : Type 0} → ℕ → Course S → State → State
 after k c s j = cond (eqb j k) (own c) (cond (eqb (suc j) k) (handed c (s j)) (s j))
 
 -- "Start: LIP of level N+1 holds the LL band row by row; LIS of level N+1 holds, in the same order and as type A, those with offspring.
--- All else is empty." W9: "all lists of the coarser ones start in and stay in K's".
+-- All else is empty."
 unfoldable pub from : ℕ → ℕ → List ℕ
 from q zero = []
 from q (suc m) = q ∷ from (suc q) m
@@ -177,7 +177,7 @@ module _ (z : Size) where
       (record { lip = band_ll; lis = flat root_of band_ll; lsp = [] })
       (record { lip = []; lis = []; lsp = [] })
 
--- "For each plane n downward, for each level k from N+1 to 1, one part is made." W9: "Part levels run 1 to K".
+-- "For each plane n downward, for each level k from N+1 to 1, one part is made."
 pub record PartName : Type 0 where
   pub plane : ℕ
   pub level : ℕ

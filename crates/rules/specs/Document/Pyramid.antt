@@ -1,44 +1,23 @@
 -- Document 01, "Pyramid, levels and families".
-use Rattle.std.specs.Prelude.{List, [], ◌∷◌, ◌++◌, Bool, true, false, cond, ◌&&◌, ℕ, zero, suc, ◌+◌, ◌-◌, ◌*◌, ◌/◌, ◌%◌, ◌^◌, max, min, leb, ltb, eqb, get_or, ℤ, pos, negsuc, nat_abs}
-use Rattle.rules.specs.declared.Merged.{Merged}
-use Rattle.rules.specs.declared.Merged.TheVariants.{Never, From}
+use Rattle.std.specs.Prelude.{List, [], ◌∷◌, ◌++◌, Bool, true, false, cond, ◌&&◌, ℕ, zero, suc, ◌+◌, ◌*◌, ◌/◌, ◌%◌, ◌^◌, max, leb, ltb, eqb, get_or, ℤ, pos, negsuc, nat_abs}
 use Rattle.rules.specs.declared.Size.{Size}
 use Rattle.rules.specs.Document.Notation.{flat, greatest}
 
--- "Width W and height H are 4 to 512, both multiples of 2^(N+1); N, the decomposition count, is 1 to 5." W10: "Sizes go up to 4,096 and N up to 8."
+-- "Width W and height H are 4 to 512, both multiples of 2^(N+1); N, the decomposition count, is 1 to 5."
 abbrev pub least_side : ℕ
 least_side = 4
 
 abbrev pub greatest_side : ℕ
-greatest_side = 4096
+greatest_side = 512
 
 abbrev pub most_decompositions : ℕ
-most_decompositions = 8
+most_decompositions = 5
 
 unfoldable pub legal_side : ℕ → ℕ → Bool
 legal_side n x = leb least_side x && leb x greatest_side && eqb (x % 2 ^ (n + 1)) 0
 
--- the LL band is level N+1
-abbrev pub depths : Size → ℕ
-depths z = suc z.n
-
--- W9: "A version 2 header has one more number after planes: K, 1 to N+1. Levels K to N+1 are then one level K." How many levels a record has parts of:
--- in version 1 all of them.
-unfoldable pub levels_from : Merged → ℕ → ℕ
-levels_from Never all = all
-levels_from (From k) all = k
-
-abbrev pub levels : Size → ℕ
-levels z = levels_from z.merged (depths z)
-
-unfoldable pub legal_sides : Size → Bool
-legal_sides z = legal_side z.n z.w && legal_side z.n z.h
-
-unfoldable pub legal_levels : Size → Bool
-legal_levels z = leb 1 (levels z) && leb (levels z) (depths z)
-
 unfoldable pub legal_size : Size → Bool
-legal_size z = leb 1 z.n && leb z.n most_decompositions && legal_sides z && legal_levels z
+legal_size z = leb 1 z.n && leb z.n most_decompositions && legal_side z.n z.w && legal_side z.n z.h
 
 abbrev pub area : Size → ℕ
 area z = z.w * z.h
@@ -46,14 +25,6 @@ area z = z.w * z.h
 -- no picture has more coefficients
 abbrev pub most_area : ℕ
 most_area = greatest_side * greatest_side
-
--- The size of the picture halved s times: its levels are those over s, counted from there.
-unfoldable pub halved_merged : ℕ → Merged → Merged
-halved_merged s Never = Never
-halved_merged s (From k) = From (k - s)
-
-unfoldable pub halved_size : ℕ → Size → Size
-halved_size s z = record { w = z.w / 2 ^ s; h = z.h / 2 ^ s; n = z.n - s; merged = halved_merged s z.merged }
 
 -- "Coefficients are signed 32-bit numbers, row by row, exactly W x H of them, magnitude at most 65,535."
 abbrev pub most_magnitude : ℕ
@@ -99,12 +70,11 @@ module _ (z : Size) where
   level_up_to zero q = 0
   level_up_to (suc k) q = cond (within k q) (suc k) (level_up_to k q)
 
-  unfoldable pub level_of : ℕ → ℕ
-  level_of q = level_up_to (depths z) q
+  abbrev pub levels : ℕ
+  levels = suc z.n
 
-  -- W9: "membership of level K means any of them".
-  unfoldable pub part_level : ℕ → ℕ
-  part_level q = min (level_of q) (levels z)
+  unfoldable pub level_of : ℕ → ℕ
+  level_of q = level_up_to levels q
 
   -- "Order in a block: top left, top right, bottom left, bottom right."
   unfoldable pub block : ℕ → ℕ → List ℕ
@@ -136,7 +106,7 @@ module _ (z : Size) where
   descendants_of q = generations (level_of q) q
 
   abbrev pub family : Family
-  family = record { offspring = offspring_of; descendants = descendants_of; level = part_level }
+  family = record { offspring = offspring_of; descendants = descendants_of; level = level_of }
 
   -- "The largest magnitude in D is found from the offspring and the same node's L, the largest in L from the D of each offspring;
   -- the level falls at each turn."

@@ -5,5 +5,4 @@ pub mod BodyBack
 pub mod PartBack
 pub mod RecordBack
 pub mod Output
-pub mod Same
 pub mod Room

@@ -6,5 +6,3 @@ pub mod Exports
 pub mod Arrived
 pub mod Whole
 pub mod Memory
-pub mod Before
-pub mod Version1

@@ -1,5 +1,4 @@
 -- Serving: a selection of a record's parts is a record, what is served is one, and served again it is as if served once.
-pub mod Requests
 pub mod Selection
 pub mod Served
 pub mod Again

@@ -5,5 +5,3 @@ pub mod Parts
 pub mod Start
 pub mod Record
 pub mod Agreement
-pub mod Orders
-pub mod Merged

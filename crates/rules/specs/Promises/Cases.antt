@@ -1,37 +1,31 @@
 -- The cases that document 01 names, P1 to P12, and its record in full, with some more that only one reading of it gives, and bytes of which W2 says
 -- why they are refused: one table, and one claim about all its rows, by computation. What is stated is numbers and bytes; of a call the answer that its
 -- export writes and the output it leaves.
-use Rattle.std.specs.Prelude.{◌≡◌, refl, List, [], ◌∷◌, ◌++◌, map, ℕ, ◌+◌, ◌-◌, ◌*◌, length, take, drop, replicate, ℤ, pos, negsuc}
-use Rattle.rules.specs.declared.Merged.TheVariants.{Never, From}
+use Rattle.std.specs.Prelude.{◌≡◌, refl, List, [], ◌∷◌, ◌++◌, map, ℕ, ◌+◌, ◌*◌, length, take, replicate, ℤ, pos, negsuc}
 use Rattle.rules.specs.declared.Size.{Size}
-use Rattle.rules.specs.declared.Refusal.{Refusal}
-use Rattle.rules.specs.declared.Refusal.TheVariants as refusal
 use Rattle.rules.specs.declared.Number.{Number}
 use Rattle.rules.specs.declared.Number.TheVariants.{Value, TooManyBytes, LongForm}
 use Rattle.rules.specs.Document.Notation.{any, every, count, flat, greatest, lowest, if_any, zeros}
-use Rattle.rules.specs.Document.Pyramid.{legal_side, legal_sides, legal_levels, legal_size, magnitude, negative, levels_from, within, level_up_to, level_of}
-use Rattle.rules.specs.Document.Pyramid.{part_level, block, offspring_ll, offspring_at}
+use Rattle.rules.specs.Document.Pyramid.{legal_side, legal_size, magnitude, negative, within, level_up_to, level_of, block, offspring_ll, offspring_at}
 use Rattle.rules.specs.Document.Pyramid.{offspring_of, generations, descendants_of, log2_up, earlier_planes_of, log2_down, planes_of}
 use Rattle.rules.specs.Document.Passes.{members, in_level, tested, tests, opened, added, weighed, visited, visits, turns, sets, refines, pass}
 use Rattle.rules.specs.Document.Passes.{walk, listed, passed, after, from, rows, band_ll, root_of, start, parts_of_plane, part_names, truth, coded}
 use Rattle.rules.specs.Document.Passes.{signed, grown, written, decoded}
 use Rattle.rules.specs.Document.Layout.{groups, number_bytes, number_from, read_number, eight_bits, pack_from, packed, bit_at, clear_from, pad_clear}
-use Rattle.rules.specs.Document.Layout.{version_of, merged_numbers, header_numbers, header_bytes, part_bytes, coded_parts, record_with, planes_in}
-use Rattle.rules.specs.Document.Layout.{earlier_planes_in, parts_of, record_of, whole_of}
+use Rattle.rules.specs.Document.Layout.{header_bytes, part_bytes, coded_parts, record_with, planes_in, earlier_planes_in, parts_of, record_of, whole_of}
 use Rattle.rules.specs.Document.Layout.{body_of, bits_there, name_of, same_name, needs, usable, reached}
-use Rattle.rules.specs.Document.Numbers.{head_number, judged_header, read_sizes, read_version1, read_version2, read_header, part_number, follows, legal_head}
-use Rattle.rules.specs.Document.Numbers.{judged_part, headed}
-use Rattle.rules.specs.Document.Numbers.{read_part, go_on, read_from, read_parts, behind_from, refusal_number, refusal_place, verdict_number}
-use Rattle.rules.specs.Document.Calls.{Result, unless, work_for, first_over, fitted, coding, on_header, on_ending, legal_ask, kept_by, selected_bytes}
+use Rattle.rules.specs.Document.Numbers.{head_number, judged_header, read_sizes, read_header, part_number, follows, legal_head, judged_part, headed}
+use Rattle.rules.specs.Document.Numbers.{read_part, go_on, read_from, read_parts, behind_from}
+use Rattle.rules.specs.Document.Calls.{Result, unless, work_for, first_over, fitted, coding, on_header, on_ending, legal_ask, kept_of, served_bytes}
 use Rattle.rules.specs.Document.Calls.{Portion, portioned, serving}
 use Rattle.rules.specs.Document.Calls.{used, onward, decode_parts, Picture, reached_plane, reached_planes, skipped_parts, skipped_counts, pictured}
 use Rattle.rules.specs.Document.Calls.{used_cut, tail_onward, decoded_parts, decoding}
 use Rattle.rules.specs.Document.Calls.{filled, code_out, code_answer, serve_out, serve_answer, decode_out, decode_answer, code_numbers, serve_numbers}
-use Rattle.rules.specs.Document.Calls.{plane_in, count_in, decode_numbers, code_places, serve_places, level_places, decode_places, reported}
+use Rattle.rules.specs.Document.Calls.{plane_in, count_in, decode_numbers, code_places, serve_places, decode_places, reported}
 
 -- Opening one of these opens a section's definitions.
 unfoldable pub opens_pyramid : Unit {0}
-unfolding legal_side legal_sides legal_levels legal_size magnitude negative levels_from within level_up_to level_of part_level log2_up earlier_planes_of log2_down planes_of
+unfolding legal_side legal_size magnitude negative within level_up_to level_of log2_up earlier_planes_of log2_down planes_of
 opens_pyramid = tt
 
 unfoldable pub opens_notation : Unit {0}
@@ -55,7 +49,7 @@ unfolding parts_of_plane part_names truth coded signed grown written decoded
 opens_sides = tt
 
 unfoldable pub opens_bytes : Unit {0}
-unfolding version_of merged_numbers header_numbers groups number_bytes number_from read_number eight_bits pack_from packed bit_at clear_from pad_clear header_bytes
+unfolding groups number_bytes number_from read_number eight_bits pack_from packed bit_at clear_from pad_clear header_bytes
 opens_bytes = tt
 
 unfoldable pub opens_usable : Unit {0}
@@ -67,7 +61,7 @@ unfolding opens_usable part_bytes coded_parts planes_in earlier_planes_in parts_
 opens_record = tt
 
 unfoldable pub opens_header : Unit {0}
-unfolding head_number judged_header read_sizes read_version1 read_version2 read_header
+unfolding head_number judged_header read_sizes read_header
 opens_header = tt
 
 unfoldable pub opens_parts : Unit {0}
@@ -79,7 +73,7 @@ unfolding opens_header opens_parts
 opens_reading = tt
 
 unfoldable pub opens_calls : Unit {0}
-unfolding unless first_over fitted coding on_header on_ending legal_ask kept_by selected_bytes portioned serving
+unfolding unless first_over fitted coding on_header on_ending legal_ask kept_of served_bytes portioned serving
 opens_calls = tt
 
 unfoldable pub opens_drawing : Unit {0}
@@ -100,10 +94,10 @@ opens_answers = tt
 
 -- The document's record: N = 1, 4 x 4, rows 4 -1 0 0 / 2 0 0 -3 / 0 0 1 0 / 0 0 0 0.
 unfoldable pub four : Size
-four = record { w = 4; h = 4; n = 1; merged = Never }
+four = record { w = 4; h = 4; n = 1 }
 
 unfoldable pub eight : Size
-eight = record { w = 8; h = 8; n = 2; merged = Never }
+eight = record { w = 8; h = 8; n = 2 }
 
 -- rows 0 and 1 of the LL band, then (1, 3) and (2, 2)
 unfoldable pub rows_of : ℤ → ℤ → ℤ → ℤ → ℤ → ℤ → List ℤ
@@ -277,29 +271,6 @@ five_before =
     ∷ 0x00 ∷ 0x02 ∷ 0x04 ∷ 0x10
     ∷ 0x00 ∷ 0x01 ∷ 0x03 ∷ 0x00 ∷ []
 
--- The header of the largest size, 4,096 x 4,096 with N = 8, and 17 planes.
-unfoldable pub greatest_header : List ℕ
-greatest_header = 0x01 ∷ 0x80 ∷ 0x20 ∷ 0x80 ∷ 0x20 ∷ 0x08 ∷ 0x11 ∷ []
-
--- W9: the same records with fewer levels.
-abbrev pub merged_from : ℕ → Size → Size
-merged_from k z = record { w = z.w; h = z.h; n = z.n; merged = From k }
-
-unfoldable pub example_one : List ℕ
-example_one = 0x02 ∷ 0x04 ∷ 0x04 ∷ 0x01 ∷ 0x03 ∷ 0x01 ∷ 0x02 ∷ 0x01 ∷ 0x08 ∷ 0x80 ∷ 0x01 ∷ 0x01 ∷ 0x0D ∷ 0x48 ∷ 0xC0 ∷ 0x00 ∷ 0x01 ∷ 0x10 ∷ 0xC1 ∷ 0x81 ∷ []
-
-unfoldable pub late_one : List ℕ
-late_one = 0x02 ∷ 0x08 ∷ 0x08 ∷ 0x02 ∷ 0x03 ∷ 0x01 ∷ 0x02 ∷ 0x01 ∷ 0x15 ∷ 0x02 ∷ 0x11 ∷ 0x18 ∷ 0x01
-    ∷ 0x01 ∷ 0x17 ∷ 0x00 ∷ 0x0A ∷ 0x00 ∷ 0x00 ∷ 0x01 ∷ 0x24 ∷ 0x18 ∷ 0x00 ∷ 0xC0 ∷ 0xA2 ∷ 0x10 ∷ []
-
-unfoldable pub late_two : List ℕ
-late_two = 0x02 ∷ 0x08 ∷ 0x08 ∷ 0x02 ∷ 0x03 ∷ 0x02 ∷ 0x02 ∷ 0x02 ∷ 0x0B ∷ 0x02 ∷ 0x00 ∷ 0x02 ∷ 0x01 ∷ 0x0A ∷ 0x88 ∷ 0xC0 ∷ 0x01 ∷ 0x02
-    ∷ 0x0F ∷ 0x00 ∷ 0x50 ∷ 0x01 ∷ 0x01 ∷ 0x08 ∷ 0x00 ∷ 0x00 ∷ 0x02 ∷ 0x0E ∷ 0x18 ∷ 0x04 ∷ 0x00 ∷ 0x01 ∷ 0x16 ∷ 0x18 ∷ 0x14 ∷ 0x40 ∷ []
-
-unfoldable pub opens_merged : Unit {0}
-unfolding example_one late_one late_two
-opens_merged = tt
-
 unfoldable pub opens_example : Unit {0}
 unfolding four eight rows_of example thirty served_at_two served_to_plane_one without12 without11
 opens_example = tt
@@ -309,7 +280,7 @@ unfolding served_twice pad_set bits_run_out bits_left_over cut_in_head single si
 opens_others = tt
 
 unfoldable pub opens_five : Unit {0}
-unfolding five five_bytes five_before greatest_header
+unfolding five five_bytes five_before
 opens_five = tt
 
 -- What a row may speak of.
@@ -341,47 +312,22 @@ decoded_as room x = pyramid (reported decode_places (zeros decode_places) (decod
 abbrev pub codes : List ℤ → Size → ℕ → Shown
 codes v z room = coded_as room (coding v z room (work_for z))
 
-abbrev pub sized : ℕ → ℕ → ℕ → Size
-sized w h n = record { w = w; h = h; n = n; merged = Never }
-
--- the number that coding answers where no coefficient is lent
-abbrev pub size_number : Size → ℕ
-size_number z = verdict_number (code_answer (coding [] z 0 (work_for z))).verdict
-
 abbrev pub serves : List ℕ → ℕ → ℕ → Shown
 serves s r p = served_as (length s) (serving s r p (length s))
 
 abbrev pub decodes : List ℕ → Shown
 decodes s = decoded_as 16 (decoding s 16 64)
 
--- of coding the answer alone
-abbrev pub codes_to : List ℤ → Size → ℕ → Shown
-codes_to v z room = numbers (code_numbers (code_answer (coding v z room (work_for z))))
-
--- the record's header
-abbrev pub four_head : List ℕ
-four_head = 0x01 ∷ 0x04 ∷ 0x04 ∷ 0x01 ∷ 0x03 ∷ []
-
--- every refusal, the place of one that has one being 9
-abbrev pub every_refusal : List Refusal
-every_refusal =
-    refusal.Size ∷ refusal.Length ∷ refusal.Work ∷ refusal.Range 9 ∷ refusal.Room
-    ∷ refusal.Head 9 ∷ refusal.Version ∷ refusal.Part 9 ∷ refusal.Pad 9 ∷ refusal.Fit 9
-    ∷ refusal.Ask ∷ refusal.LongForm 9 ∷ refusal.Grey ∷ refusal.Mixed ∷ refusal.Clash 9 ∷ []
-
 -- the same of bytes behind the record's header, and of a refusal with its place
 abbrev pub behind_header : List ℕ → Shown
 behind_header s = decodes (0x01 ∷ 0x04 ∷ 0x04 ∷ 0x01 ∷ 0x03 ∷ s)
 
 abbrev pub refuses : ℕ → ℕ → Shown
-refuses number place = pyramid ((number ∷ place ∷ []) ++ zeros (decode_places - 2)) (replicate 16 (pos 0))
+refuses number place = pyramid ((number ∷ place ∷ []) ++ zeros 13) (replicate 16 (pos 0))
 
 -- an accepted decoding of two levels, level 1 first: its tail, the plane that each level reached, and how many of its parts were skipped
-abbrev pub levelled : ℕ × ℕ → List ℕ
-levelled m = (m.0 ∷ m.1 ∷ []) ++ zeros (level_places - 2)
-
 abbrev pub prints : ℕ → ℕ × ℕ → ℕ × ℕ → List ℤ → Shown
-prints tail m k = pyramid (0 ∷ 0 ∷ tail ∷ (levelled m ++ levelled k))
+prints tail m k = pyramid ((0 ∷ 0 ∷ tail ∷ m.0 ∷ m.1 ∷ 0 ∷ 0 ∷ 0 ∷ 0 ∷ k.0 ∷ k.1 ∷ []) ++ zeros 4)
 
 unfoldable pub table : List Row
 table =
@@ -397,7 +343,7 @@ table =
     ∷ (decodes thirty is prints 0 (0, 0) (0, 0) example)
     ∷ (serves thirty 1 0 is bytes (0 ∷ 0 ∷ 30 ∷ 0 ∷ []) thirty)
     ∷ (codes (replicate 16 (pos 0)) four 5 is bytes (0 ∷ 0 ∷ 5 ∷ []) (0x01 ∷ 0x04 ∷ 0x04 ∷ 0x01 ∷ 0x00 ∷ []))
-    ∷ (codes (replicate 32 (pos 0)) (record { w = 8; h = 4; n = 1; merged = Never }) 5 is bytes (0 ∷ 0 ∷ 5 ∷ []) (0x01 ∷ 0x08 ∷ 0x04 ∷ 0x01 ∷ 0x00 ∷ []))
+    ∷ (codes (replicate 32 (pos 0)) (record { w = 8; h = 4; n = 1 }) 5 is bytes (0 ∷ 0 ∷ 5 ∷ []) (0x01 ∷ 0x08 ∷ 0x04 ∷ 0x01 ∷ 0x00 ∷ []))
     -- P8 served for r = 2, p = 0: 17 bytes; decoded, the LL band is right and all else 0.
     ∷ (serves thirty 2 0 is bytes (0 ∷ 0 ∷ 17 ∷ 0 ∷ []) (served_at_two ++ zeros 13))
     ∷ (decodes served_at_two is prints 0 (3, 0) (0, 0) (rows_of (pos 4) (negsuc 0) (pos 2) (pos 0) (pos 0) (pos 0)))
@@ -472,51 +418,6 @@ table =
     ∷ (behind_header (0x7F ∷ 0x7F ∷ []) is prints 2 (3, 3) (0, 0) (replicate 16 (pos 0)))
     ∷ (behind_header (0x02 ∷ 0x02 ∷ 0x05 ∷ 0x80 ∷ 0x02 ∷ 0x80 ∷ [])
     is prints 2 (3, 2) (0, 0) (rows_of (pos 4) (pos 0) (pos 0) (pos 0) (pos 0) (pos 0)))
-    -- "magnitude at most 65,535": 65,535 and -65,535 are taken, as 16 planes; 65,536 and -65,536 are 4 at the first index
-    ∷ (codes_to (pos 65535 ∷ negsuc 65534 ∷ replicate 14 (pos 0)) four 133 is numbers (0 ∷ 0 ∷ 133 ∷ []))
-    ∷ (codes_to (pos 65535 ∷ pos 0 ∷ pos 0 ∷ pos 65536 ∷ replicate 12 (pos 65536)) four 133 is numbers (4 ∷ 3 ∷ 0 ∷ []))
-    ∷ (codes_to (pos 0 ∷ pos 0 ∷ negsuc 65535 ∷ replicate 13 (pos 0)) four 133 is numbers (4 ∷ 2 ∷ 0 ∷ []))
-    -- "bit count over 4 x W x H": a part of 64 bits may stand in 4 x 4, whole or cut, and is 10 where it is decoded; of 65 bits it is 8
-    ∷ (serves (four_head ++ (0x02 ∷ 0x02 ∷ 0x40 ∷ zeros 8)) 1 0 is bytes (0 ∷ 0 ∷ 16 ∷ 0 ∷ []) (four_head ++ (0x02 ∷ 0x02 ∷ 0x40 ∷ zeros 8)))
-    ∷ (behind_header (0x02 ∷ 0x02 ∷ 0x40 ∷ []) is prints 3 (3, 3) (0, 0) (replicate 16 (pos 0)))
-    ∷ (behind_header (0x02 ∷ 0x02 ∷ 0x40 ∷ zeros 8) is refuses 10 5)
-    ∷ (behind_header (0x02 ∷ 0x02 ∷ 0x41 ∷ zeros 9) is refuses 8 5)
-    -- 17 planes may stand in a header, as records had until W5, 18 not
-    ∷ (decodes (0x01 ∷ 0x04 ∷ 0x04 ∷ 0x01 ∷ 0x11 ∷ []) is prints 0 (17, 17) (0, 0) (replicate 16 (pos 0)))
-    ∷ (decodes (0x01 ∷ 0x04 ∷ 0x04 ∷ 0x01 ∷ 0x12 ∷ []) is refuses 1 0)
-    -- the table of numbers and places, each place as it is handed on: here 9
-    ∷ (numbers (map refusal_number every_refusal) is numbers (1 ∷ 2 ∷ 3 ∷ 4 ∷ 5 ∷ 6 ∷ 7 ∷ 8 ∷ 9 ∷ 10 ∷ 11 ∷ 12 ∷ 13 ∷ 14 ∷ 15 ∷ []))
-    ∷ (numbers (map refusal_place every_refusal) is numbers (0 ∷ 0 ∷ 0 ∷ 9 ∷ 0 ∷ 9 ∷ 0 ∷ 9 ∷ 9 ∷ 9 ∷ 0 ∷ 9 ∷ 0 ∷ 0 ∷ 9 ∷ []))
-    -- W10: "Sizes go up to 4,096 and N up to 8". A legal size without its pyramid is 2, any other 1
-    ∷ (numbers (number_bytes 4096) is numbers (0x80 ∷ 0x20 ∷ []))
-    ∷ (numbers (map size_number (sized 4096 4 1 ∷ sized 4 4096 1 ∷ sized 512 512 8 ∷ sized 4096 4096 8 ∷ [])) is numbers (2 ∷ 2 ∷ 2 ∷ 2 ∷ []))
-    ∷ (numbers (map size_number (sized 4098 4 1 ∷ sized 4 4100 1 ∷ sized 8192 4 1 ∷ sized 256 256 8 ∷ sized 768 512 8 ∷ sized 512 512 9 ∷ []))
-    is numbers (replicate 6 1))
-    -- a part of 2^26 bits may stand in 4,096 x 4,096; of one bit more, or of a tenth level, it is 8
-    ∷ (serves (greatest_header ++ (0x10 ∷ 0x09 ∷ 0x80 ∷ 0x80 ∷ 0x80 ∷ 0x20 ∷ [])) 9 0 is bytes (0 ∷ 0 ∷ 7 ∷ 6 ∷ []) (greatest_header ++ zeros 6))
-    ∷ (serves (greatest_header ++ (0x10 ∷ 0x09 ∷ 0x81 ∷ 0x80 ∷ 0x80 ∷ 0x20 ∷ [])) 9 0 is bytes (8 ∷ 7 ∷ 0 ∷ 0 ∷ []) (zeros 13))
-    ∷ (serves (greatest_header ++ (0x10 ∷ 0x0A ∷ 0x00 ∷ [])) 9 0 is bytes (8 ∷ 7 ∷ 0 ∷ 0 ∷ []) (zeros 10))
-    ∷ (serves greatest_header 10 0 is bytes (11 ∷ 0 ∷ 0 ∷ 0 ∷ []) (zeros 7))
-    -- W9: "A version 2 header has one more number after planes: K, 1 to N+1."
-    ∷ (codes example (merged_from 2 four) 31 is bytes (0 ∷ 0 ∷ 31 ∷ []) (0x02 ∷ 0x04 ∷ 0x04 ∷ 0x01 ∷ 0x03 ∷ 0x02 ∷ drop 5 thirty))
-    ∷ (codes example (merged_from 1 four) 20 is bytes (0 ∷ 0 ∷ 20 ∷ []) example_one)
-    ∷ (decodes example_one is prints 0 (0, 0) (0, 0) example)
-    ∷ (decodes (take 19 example_one) is prints 4 (1, 0) (0, 0) (rows_of (pos 4) (negsuc 0) (pos 2) (pos 0) (negsuc 1) (pos 0)))
-    ∷ (decodes (take 10 example_one ++ drop 15 example_one) is prints 0 (2, 0) (1, 0) (rows_of (pos 4) (pos 0) (pos 0) (pos 0) (pos 0) (pos 0)))
-    ∷ (serves example_one 1 1 is bytes (0 ∷ 0 ∷ 15 ∷ 0 ∷ []) (take 15 example_one ++ zeros 5))
-    ∷ (serves example_one 2 0 is bytes (11 ∷ 0 ∷ 0 ∷ 0 ∷ []) (zeros 20))
-    ∷ (codes late (merged_from 1 eight) 26 is bytes (0 ∷ 0 ∷ 26 ∷ []) late_one)
-    ∷ (codes late (merged_from 2 eight) 36 is bytes (0 ∷ 0 ∷ 36 ∷ []) late_two)
-    -- "1 also for K not legal; 7 for a version other than 1 and 2"
-    ∷ (codes example (merged_from 0 four) 31 is bytes (1 ∷ 0 ∷ 0 ∷ []) (zeros 31))
-    ∷ (codes example (merged_from 3 four) 31 is bytes (1 ∷ 0 ∷ 0 ∷ []) (zeros 31))
-    ∷ (decodes (0x02 ∷ 0x04 ∷ 0x04 ∷ 0x01 ∷ 0x03 ∷ 0x00 ∷ []) is refuses 1 0)
-    ∷ (decodes (0x02 ∷ 0x04 ∷ 0x04 ∷ 0x01 ∷ 0x03 ∷ 0x03 ∷ []) is refuses 1 0)
-    ∷ (decodes (0x02 ∷ 0x04 ∷ 0x04 ∷ 0x01 ∷ 0x03 ∷ 0x80 ∷ 0x00 ∷ []) is refuses 12 5)
-    ∷ (decodes (0x02 ∷ 0x04 ∷ 0x04 ∷ 0x01 ∷ 0x03 ∷ []) is refuses 6 5)
-    ∷ (decodes (0x02 ∷ 0x04 ∷ 0x04 ∷ 0x01 ∷ 0x03 ∷ 0x01 ∷ 0x02 ∷ 0x02 ∷ 0x08 ∷ 0x80 ∷ []) is refuses 8 6)
-    ∷ (decodes (0x03 ∷ 0x04 ∷ 0x04 ∷ 0x01 ∷ 0x03 ∷ []) is refuses 7 0)
-    ∷ (decodes (0x82 ∷ 0x00 ∷ []) is refuses 12 0)
     ∷ []
 
 unfoldable pub opens_document : Unit {0}
@@ -524,5 +425,5 @@ unfolding opens_pyramid opens_family opens_pass opens_run opens_sides opens_byte
 opens_document = tt
 
 pub cases_hold : map (λ r. r.given) table ≡ map (λ r. r.stated) table
-unfolding table opens_merged opens_example opens_others opens_five opens_document opens_answers coded_as served_as decoded_as
+unfolding table opens_example opens_others opens_five opens_document opens_answers coded_as served_as decoded_as
 cases_hold = refl

@@ -9,17 +9,16 @@ use Rattle.rules.specs.declared.Served.{Served}
 use Rattle.rules.specs.declared.Decoded.{Decoded}
 use Rattle.rules.specs.Document.Notation.{zeros}
 use Rattle.rules.specs.Document.Pyramid.{levels}
-use Rattle.rules.specs.Document.Passes.{PartName}
 use Rattle.rules.specs.Document.Layout.{planes_in, earlier_planes_in, record_with}
 use Rattle.rules.specs.Document.Numbers.{verdict_number, verdict_place}
-use Rattle.rules.specs.Document.Calls.{AfsCode, work_for, code_places, AfsDecode, decode_places, AfsServe, serve_places, asked, Coding, Decoding, Serving}
+use Rattle.rules.specs.Document.Calls.{AfsCode, work_for, code_places, AfsDecode, decode_places, AfsServe, serve_places, Coding, Decoding, Serving}
 use Rattle.rules.specs.Promises.Vocabulary.{Recorded, Codable, enough_room, Selected, Stated, Decodes, names, whole_parts, cut_bytes, planes_told}
-use Rattle.rules.specs.Promises.Vocabulary.{Serves, cut_parts, planes_answered, counts_told, counts_answered, PlaneCount, NoWorse}
+use Rattle.rules.specs.Promises.Vocabulary.{Serves, cut_parts, planes_answered, counts_told, counts_answered}
 use Rattle.rules.specs.Laws.Bytes.Room.{coding_accepts}
 use Rattle.rules.specs.Laws.Calls.Arrived.{earlier_count}
 use Rattle.rules.specs.Laws.Calls.Memory.{afs_code_recorded, afs_code_accepts, afs_decode_prints, recorded, afs_serve_selects, afs_serve_accepts}
 use Rattle.rules.specs.Laws.Calls.Memory.{selected_again, afs_decode_again, afs_decode_whole, coding_recorded, coding_wrote, decoding_decodes}
-use Rattle.rules.specs.Laws.Calls.Memory.{serving_serves, serving_wrote, serving_accepts, decoding_again, decoding_whole, decoding_more, afs_decode_more}
+use Rattle.rules.specs.Laws.Calls.Memory.{serving_serves, serving_wrote, serving_accepts, decoding_again, decoding_whole}
 
 -- THE THEOREM, `from_memory_to_memory`, for any pyramid and size and for buffers whatever they held. That coding and serving came back with
 -- number 0 is all that is supposed of them; of decoding not even that, but buffers of the stated sizes.
@@ -37,10 +36,7 @@ pub record FromMemoryToMemory : Type 0 where
       → Decodes z (planes_in pyramid) pyramid (names (whole_parts x)) (names (cut_parts x)) (cut_bytes x)
       number (get_or told' 1 0) (get_or told' 2 0) (planes_told told')
       (counts_told told') print' scratch scratch'
-  -- The same of what was stored: of any record, of whatever count of planes is enough. Its bytes are all that has to be known of it; those of the
-  -- earlier count are such a record.
-  pub recorded : {pyramid : List ℤ} {z : Size} {planes : ℕ} {bytes : List ℕ} → Codable z pyramid → PlaneCount pyramid planes
-      → bytes ≡ record_with z planes pyramid → Recorded z planes pyramid bytes
+  -- The same of what was stored: of any record, of either count.
   pub earlier : {pyramid : List ℤ} {z : Size} → Codable z pyramid
       → Recorded z (earlier_planes_in pyramid) pyramid (record_with z (earlier_planes_in pyramid) pyramid)
   pub stored : {pyramid : List ℤ} {z : Size} {planes : ℕ} {bytes s scratch told : List ℕ} {print print' : List ℤ} {number : ℕ}
@@ -49,29 +45,25 @@ pub record FromMemoryToMemory : Type 0 where
       → Decodes z planes pyramid (names (whole_parts x)) (names (cut_parts x)) (cut_bytes x)
       number (get_or told' 1 0) (get_or told' 2 0) (planes_told told') (counts_told told')
       print' scratch scratch'
-  -- Of two selections by the same test, the second with at least as many bytes, each decoded: what came of more bytes is no worse.
-  pub more : {pyramid : List ℤ} {z : Size} {planes : ℕ} {bytes s t : List ℕ} {print₁ print₂ : List ℤ} {scratch₁ scratch₂ told₁ told₂ : List ℕ}
-      {number₁ number₂ : ℕ} {print₁' print₂' : List ℤ} {scratch₁' scratch₂' told₁' told₂' : List ℕ}
-      → Recorded z planes pyramid bytes → (x : Selected bytes s) (y : Selected bytes t) → ((q : PartName) → x.keep q ≡ y.keep q) → x.more ≤ y.more
-      → AfsDecode s print₁ scratch₁ told₁ number₁ print₁' scratch₁' told₁' → Stated z (length print₁) (length scratch₁) → decode_places ≤ length told₁
-      → AfsDecode t print₂ scratch₂ told₂ number₂ print₂' scratch₂' told₂' → Stated z (length print₂) (length scratch₂) → decode_places ≤ length told₂
-      → NoWorse print₁' print₂'
   -- What is served of a selection is a selection, and with a legal request and room enough it is served; and a selection of a selection is one as
   -- well, of the same parts. So any number of both may lie between coding and decoding.
-  pub served : {pyramid : List ℤ} {z : Size} {planes : ℕ} {bytes s : List ℕ} {r p : ℕ} {sent note sent' note' : List ℕ}
-      → Recorded z planes pyramid bytes → (x : Selected bytes s)
-      → AfsServe s r p sent note 0 sent' note' → Serves x (asked r p) (take (get_or note' 2 0) sent') (get_or note' 3 0) × (get_or note' 2 0 ≤ length sent')
-  pub serves : {pyramid : List ℤ} {z : Size} {planes : ℕ} {bytes s : List ℕ} {r p : ℕ} {sent note : List ℕ} {number : ℕ} {sent' note' : List ℕ}
-      → Recorded z planes pyramid bytes → Selected bytes s → AfsServe s r p sent note number sent' note'
-      → 1 ≤ r → r ≤ levels z → p ≤ planes → length s ≤ length sent → serve_places ≤ length note → number ≡ 0
-  pub selected : {pyramid : List ℤ} {z : Size} {planes : ℕ} {bytes s t : List ℕ} → Recorded z planes pyramid bytes → Selected bytes s → (y : Selected s t)
-      → (again : Selected bytes t) × (whole_parts again ≡ whole_parts y) × (cut_bytes again ≡ cut_bytes y) × (cut_parts again ≡ cut_parts y)
-  -- Served from whatever arrived, and decoded from whatever arrived of that.
-  pub served_decoded : {pyramid : List ℤ} {z : Size} {planes : ℕ} {bytes s : List ℕ} {r p : ℕ} {sent note sent' note' t scratch told : List ℕ}
-      {print print' : List ℤ} {number : ℕ} {scratch' told' : List ℕ} → Recorded z planes pyramid bytes → Selected bytes s
+  pub served : {pyramid : List ℤ} {z : Size} {out work answer out' work' answer' s : List ℕ} {r p : ℕ} {sent note sent' note' : List ℕ}
+      → AfsCode pyramid z out work answer 0 out' work' answer' → (x : Selected (take (get_or answer' 2 0) out') s)
+      → AfsServe s r p sent note 0 sent' note' → Serves x r p (take (get_or note' 2 0) sent') (get_or note' 3 0) × (get_or note' 2 0 ≤ length sent')
+  pub serves : {pyramid : List ℤ} {z : Size} {out work answer out' work' answer' s : List ℕ} {r p : ℕ} {sent note : List ℕ} {number : ℕ}
+      {sent' note' : List ℕ} → AfsCode pyramid z out work answer 0 out' work' answer' → Selected (take (get_or answer' 2 0) out') s
+      → AfsServe s r p sent note number sent' note' → 1 ≤ r → r ≤ levels z → p ≤ planes_in pyramid → length s ≤ length sent
+      → serve_places ≤ length note → number ≡ 0
+  pub selected : {pyramid : List ℤ} {z : Size} {out work answer out' work' answer' s t : List ℕ}
+      → AfsCode pyramid z out work answer 0 out' work' answer' → Selected (take (get_or answer' 2 0) out') s → (y : Selected s t)
+      → (again : Selected (take (get_or answer' 2 0) out') t) × (whole_parts again ≡ whole_parts y) × (cut_bytes again ≡ cut_bytes y) × (cut_parts again ≡ cut_parts y)
+  -- Coded, served from whatever arrived, and decoded from whatever arrived of that.
+  pub served_decoded : {pyramid : List ℤ} {z : Size} {out work answer out' work' answer' s : List ℕ} {r p : ℕ} {sent note sent' note' t scratch told : List ℕ}
+      {print print' : List ℤ} {number : ℕ} {scratch' told' : List ℕ}
+      → AfsCode pyramid z out work answer 0 out' work' answer' → Selected (take (get_or answer' 2 0) out') s
       → AfsServe s r p sent note 0 sent' note' → (y : Selected (take (get_or note' 2 0) sent') t)
       → AfsDecode t print scratch told number print' scratch' told' → Stated z (length print) (length scratch) → decode_places ≤ length told
-      → Decodes z planes pyramid (names (whole_parts y)) (names (cut_parts y)) (cut_bytes y)
+      → Decodes z (planes_in pyramid) pyramid (names (whole_parts y)) (names (cut_parts y)) (cut_bytes y)
       number (get_or told' 1 0) (get_or told' 2 0) (planes_told told')
       (counts_told told') print' scratch scratch'
   -- Coded, or stored, and decoded, with nothing left out and nothing cut: the pyramid, and 0 in every place of the answer.
@@ -91,14 +83,13 @@ from_memory_to_memory =
       coded = λ c. afs_code_recorded c;
       codes = λ c k room enough places. afs_code_accepts c k room enough places;
       decoded = λ c x d sizes places. afs_decode_prints (afs_code_recorded c).0 x d sizes places;
-      recorded = λ c count e. recorded c count e;
       earlier = λ c. recorded c (earlier_count c) refl;
       stored = λ w x d sizes places. afs_decode_prints w x d sizes places;
-      more = λ w x y same l d₁ sizes₁ places₁ d₂ sizes₂ places₂. afs_decode_more w x y same l d₁ sizes₁ places₁ d₂ sizes₂ places₂;
-      served = λ w x v. afs_serve_selects v w x;
-      serves = λ w x v a b few room places. afs_serve_accepts v w x a b few room places;
-      selected = λ w x y. selected_again w x y;
-      served_decoded = λ w x v y d sizes places. afs_decode_again w (afs_serve_selects v w x).0.again y d sizes places;
+      served = λ c x v. afs_serve_selects v (afs_code_recorded c).0 x;
+      serves = λ c x v a b few room places. afs_serve_accepts v (afs_code_recorded c).0 x a b few room places;
+      selected = λ c x y. selected_again (afs_code_recorded c).0 x y;
+      served_decoded = λ c x v y d sizes places.
+          let w = (afs_code_recorded c).0 in afs_decode_again w (afs_serve_selects v w x).0.again y d sizes places;
       stored_whole = λ w d sizes places. afs_decode_whole w d sizes places;
       whole = λ c d sizes places. afs_decode_whole (afs_code_recorded c).0 d sizes places;
     }
@@ -115,40 +106,23 @@ pub record FromRoutineToRoutine : Type 0 where
       → Decodes z (planes_in pyramid) pyramid (names (whole_parts x)) (names (cut_parts x)) (cut_bytes x)
       (verdict_number told.verdict) (verdict_place told.verdict) told.tail
       (planes_answered told) (counts_answered told) print' scratch scratch'
-  pub recorded : {pyramid : List ℤ} {z : Size} {planes : ℕ} {bytes : List ℕ} → Codable z pyramid → PlaneCount pyramid planes
-      → bytes ≡ record_with z planes pyramid → Recorded z planes pyramid bytes
-  pub earlier : {pyramid : List ℤ} {z : Size} → Codable z pyramid
-      → Recorded z (earlier_planes_in pyramid) pyramid (record_with z (earlier_planes_in pyramid) pyramid)
-  pub stored : {pyramid : List ℤ} {z : Size} {planes : ℕ} {bytes s scratch : List ℕ} {print print' : List ℤ} {told : Decoded} {scratch' : List ℕ}
-      → Recorded z planes pyramid bytes → (x : Selected bytes s) → Decoding s print scratch told print' scratch'
-      → Stated z (length print) (length scratch)
-      → Decodes z planes pyramid (names (whole_parts x)) (names (cut_parts x)) (cut_bytes x)
-      (verdict_number told.verdict) (verdict_place told.verdict) told.tail
-      (planes_answered told) (counts_answered told) print' scratch scratch'
-  pub more : {pyramid : List ℤ} {z : Size} {planes : ℕ} {bytes s t : List ℕ} {print₁ print₂ : List ℤ} {scratch₁ scratch₂ : List ℕ} {told₁ told₂ : Decoded}
-      {print₁' print₂' : List ℤ} {scratch₁' scratch₂' : List ℕ}
-      → Recorded z planes pyramid bytes → (x : Selected bytes s) (y : Selected bytes t) → ((q : PartName) → x.keep q ≡ y.keep q) → x.more ≤ y.more
-      → Decoding s print₁ scratch₁ told₁ print₁' scratch₁' → Stated z (length print₁) (length scratch₁)
-      → Decoding t print₂ scratch₂ told₂ print₂' scratch₂' → Stated z (length print₂) (length scratch₂) → NoWorse print₁' print₂'
-  pub served : {pyramid : List ℤ} {z : Size} {planes : ℕ} {bytes s : List ℕ} {r p : ℕ} {sent : List ℕ} {note : Served} {sent' : List ℕ}
-      → Recorded z planes pyramid bytes → (x : Selected bytes s) → Serving s r p sent note sent' → note.verdict ≡ Accepted
-      → Serves x (asked r p) (take note.length sent') note.tail × (note.length ≤ length sent')
-  pub serves : {pyramid : List ℤ} {z : Size} {planes : ℕ} {bytes s : List ℕ} {r p : ℕ} {sent : List ℕ} {note : Served} {sent' : List ℕ}
-      → Recorded z planes pyramid bytes → Selected bytes s → Serving s r p sent note sent'
-      → 1 ≤ r → r ≤ levels z → p ≤ planes → length s ≤ length sent → note.verdict ≡ Accepted
-  pub selected : {pyramid : List ℤ} {z : Size} {planes : ℕ} {bytes s t : List ℕ} → Recorded z planes pyramid bytes → Selected bytes s → (y : Selected s t)
-      → (again : Selected bytes t) × (whole_parts again ≡ whole_parts y) × (cut_bytes again ≡ cut_bytes y) × (cut_parts again ≡ cut_parts y)
-  pub served_decoded : {pyramid : List ℤ} {z : Size} {planes : ℕ} {bytes s : List ℕ} {r p : ℕ} {sent : List ℕ} {note : Served} {sent' t scratch : List ℕ}
-      {print print' : List ℤ} {told : Decoded} {scratch' : List ℕ} → Recorded z planes pyramid bytes → Selected bytes s
+  pub served : {pyramid : List ℤ} {z : Size} {out work : List ℕ} {answer : Coded} {out' work' s : List ℕ} {r p : ℕ} {sent : List ℕ} {note : Served}
+      {sent' : List ℕ} → Coding pyramid z out work answer out' work' → answer.verdict ≡ Accepted → (x : Selected (take answer.length out') s)
+      → Serving s r p sent note sent' → note.verdict ≡ Accepted → Serves x r p (take note.length sent') note.tail × (note.length ≤ length sent')
+  pub serves : {pyramid : List ℤ} {z : Size} {out work : List ℕ} {answer : Coded} {out' work' s : List ℕ} {r p : ℕ} {sent : List ℕ} {note : Served}
+      {sent' : List ℕ} → Coding pyramid z out work answer out' work' → answer.verdict ≡ Accepted → Selected (take answer.length out') s
+      → Serving s r p sent note sent' → 1 ≤ r → r ≤ levels z → p ≤ planes_in pyramid → length s ≤ length sent → note.verdict ≡ Accepted
+  pub selected : {pyramid : List ℤ} {z : Size} {out work : List ℕ} {answer : Coded} {out' work' s t : List ℕ}
+      → Coding pyramid z out work answer out' work' → answer.verdict ≡ Accepted → Selected (take answer.length out') s → (y : Selected s t)
+      → (again : Selected (take answer.length out') t) × (whole_parts again ≡ whole_parts y) × (cut_bytes again ≡ cut_bytes y) × (cut_parts again ≡ cut_parts y)
+  pub served_decoded : {pyramid : List ℤ} {z : Size} {out work : List ℕ} {answer : Coded} {out' work' s : List ℕ} {r p : ℕ} {sent : List ℕ}
+      {note : Served} {sent' t scratch : List ℕ} {print print' : List ℤ} {told : Decoded} {scratch' : List ℕ}
+      → Coding pyramid z out work answer out' work' → answer.verdict ≡ Accepted → Selected (take answer.length out') s
       → Serving s r p sent note sent' → note.verdict ≡ Accepted → (y : Selected (take note.length sent') t)
       → Decoding t print scratch told print' scratch' → Stated z (length print) (length scratch)
-      → Decodes z planes pyramid (names (whole_parts y)) (names (cut_parts y)) (cut_bytes y)
+      → Decodes z (planes_in pyramid) pyramid (names (whole_parts y)) (names (cut_parts y)) (cut_bytes y)
       (verdict_number told.verdict) (verdict_place told.verdict) told.tail
       (planes_answered told) (counts_answered told) print' scratch scratch'
-  pub stored_whole : {pyramid : List ℤ} {z : Size} {planes : ℕ} {bytes scratch : List ℕ} {print print' : List ℤ} {told : Decoded} {scratch' : List ℕ}
-      → Recorded z planes pyramid bytes → Decoding bytes print scratch told print' scratch' → Stated z (length print) (length scratch)
-      → (told.verdict ≡ Accepted) × (print' ≡ pyramid) × (told.tail ≡ 0) × ((k : ℕ) → planes_answered told k ≡ 0)
-      × ((k : ℕ) → counts_answered told k ≡ 0) × (scratch' ≡ zeros (length scratch))
   pub whole : {pyramid : List ℤ} {z : Size} {out work : List ℕ} {answer : Coded} {out' work' scratch : List ℕ} {print print' : List ℤ}
       {told : Decoded} {scratch' : List ℕ} → Coding pyramid z out work answer out' work' → answer.verdict ≡ Accepted
       → Decoding (take answer.length out') print scratch told print' scratch' → Stated z (length print) (length scratch)
@@ -161,14 +135,9 @@ from_routine_to_routine =
       coded = λ c e. (coding_recorded c e, (coding_wrote c e).1);
       codes = λ c k room enough. coding_accepts c k room enough;
       decoded = λ c e x d sizes. decoding_decodes (coding_recorded c e) x d sizes;
-      recorded = λ c count e. recorded c count e;
-      earlier = λ c. recorded c (earlier_count c) refl;
-      stored = λ w x d sizes. decoding_decodes w x d sizes;
-      more = λ w x y same l d₁ sizes₁ d₂ sizes₂. decoding_more w x y same l d₁ sizes₁ d₂ sizes₂;
-      served = λ w x v a. (serving_serves v a w x, serving_wrote v a);
-      serves = λ w x v a b few room. serving_accepts v w x a b few room;
-      selected = λ w x y. selected_again w x y;
-      served_decoded = λ w x v a y d sizes. decoding_again w (serving_serves v a w x).again y d sizes;
-      stored_whole = λ w d sizes. decoding_whole w d sizes;
+      served = λ c e x v a. (serving_serves v a (coding_recorded c e) x, (serving_wrote v a).1);
+      serves = λ c e x v a b few room. serving_accepts v (coding_recorded c e) x a b few room;
+      selected = λ c e x y. selected_again (coding_recorded c e) x y;
+      served_decoded = λ c e x v a y d sizes. let w = coding_recorded c e in decoding_again w (serving_serves v a w x).again y d sizes;
       whole = λ c e d sizes. decoding_whole (coding_recorded c e) d sizes;
     }

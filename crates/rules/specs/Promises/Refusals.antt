@@ -1,6 +1,6 @@
 -- Document 01's table and order as statements: which outcome each call has in which case, and so each step of reading a record. A case is
 -- named as its row of the table. What it asks for is the row's cause, and that no cause before it in the order holds.
-use Rattle.std.specs.Prelude.{◌≡◌, List, [], ◌∷◌, ◌++◌, map, Bool, true, ◌≢◌, ℕ, zero, suc, ◌+◌, ◌-◌, ◌*◌, ◌^◌, ◌≤◌, ◌<◌, length, get_or, replicate, ℤ, pos}
+use Rattle.std.specs.Prelude.{◌≡◌, List, [], ◌∷◌, ◌++◌, map, true, ◌≢◌, ℕ, zero, suc, ◌+◌, ◌-◌, ◌*◌, ◌^◌, ◌≤◌, ◌<◌, length, get_or, replicate, ℤ, pos}
 use Rattle.rules.specs.declared.Size.{Size}
 use Rattle.rules.specs.declared.Refusal.{Refusal}
 use Rattle.rules.specs.declared.Refusal.TheVariants as refusal
@@ -14,9 +14,9 @@ use Rattle.rules.specs.declared.PartRead.{PartRead}
 use Rattle.rules.specs.declared.PartRead.TheVariants as part
 use Rattle.rules.specs.Document.Pyramid.{area, family, most_magnitude, magnitude, most_planes}
 use Rattle.rules.specs.Document.Passes.{Course, State, PartName, start, Reader, decoded}
-use Rattle.rules.specs.Document.Layout.{read_number, header_numbers, bytes_for, record_of, bit_at, body_of, bits_there, name_of}
+use Rattle.rules.specs.Document.Layout.{read_number, version, bytes_for, record_of, bit_at, body_of, bits_there, name_of}
 use Rattle.rules.specs.Document.Numbers.{Ending, tail, fault, behind, top_level}
-use Rattle.rules.specs.Document.Calls.{Result, refused, accepted, work_for, asked, selected_bytes, Portion, going, decode_parts, Picture, reached_planes}
+use Rattle.rules.specs.Document.Calls.{Result, refused, accepted, work_for, served_bytes, Portion, going, decode_parts, Picture, reached_planes}
 use Rattle.rules.specs.Document.Calls.{skipped_counts}
 use Rattle.rules.specs.Promises.Vocabulary.{Legal, LegalHead, Usable}
 
@@ -67,24 +67,19 @@ pub data Numbers (s : List ℕ) : ℕ → List ℕ → ℕ → Type 0 where
   none : {a : ℕ} → Numbers s a [] a
   next : {a b e v : ℕ} {vs : List ℕ} → read_number s a ≡ Value v b → Numbers s b vs e → Numbers s a (v ∷ vs) e
 
--- How many numbers a header has behind its version. W9: "A version 2 header has one more number after planes".
-pub data Version : ℕ → ℕ → Type 0 where
-  one : Version 1 4
-  two : Version 2 5
-
 -- "Any reading: version number (6, then 7), the four others (6), then 1." W2: "12 LONGFORM (several bytes, the last 0), in the places of 6 or 8
--- wherever that was the cause, same reported place; 6 and 8 keep the rest." W9: "7 for a version other than 1 and 2".
+-- wherever that was the cause, same reported place; 6 and 8 keep the rest."
 pub data HeaderCase (s : List ℕ) : HeaderRead → Type 0 where
   HEAD : Unread (read_number s 0) → HeaderCase s (header.Refused (refusal.Head 0))
   LONGFORM : read_number s 0 ≡ LongForm → HeaderCase s (header.Refused (refusal.LongForm 0))
-  VERSION : {v a : ℕ} → Numbers s 0 (v ∷ []) a → v ≢ 1 → v ≢ 2 → HeaderCase s (header.Refused refusal.Version)
-  HEAD-later : {v m : ℕ} {vs : List ℕ} {at : ℕ} → Version v m → Numbers s 0 (v ∷ vs) at → length vs < m → Unread (read_number s at)
+  VERSION : {v a : ℕ} → Numbers s 0 (v ∷ []) a → v ≢ version → HeaderCase s (header.Refused refusal.Version)
+  HEAD-later : {vs : List ℕ} {at : ℕ} → Numbers s 0 (version ∷ vs) at → length vs < 4 → Unread (read_number s at)
       → HeaderCase s (header.Refused (refusal.Head at))
-  LONGFORM-later : {v m : ℕ} {vs : List ℕ} {at : ℕ} → Version v m → Numbers s 0 (v ∷ vs) at → length vs < m → read_number s at ≡ LongForm
+  LONGFORM-later : {vs : List ℕ} {at : ℕ} → Numbers s 0 (version ∷ vs) at → length vs < 4 → read_number s at ≡ LongForm
       → HeaderCase s (header.Refused (refusal.LongForm at))
-  SIZE : {z : Size} {planes end : ℕ} → Numbers s 0 (header_numbers z planes) end → ¬ LegalHeader z planes
+  SIZE : {z : Size} {planes end : ℕ} → Numbers s 0 (version ∷ z.w ∷ z.h ∷ z.n ∷ planes ∷ []) end → ¬ LegalHeader z planes
       → HeaderCase s (header.Refused refusal.Size)
-  LEGAL : {h : Header} → Numbers s 0 (header_numbers h.size h.planes) h.end
+  LEGAL : {h : Header} → Numbers s 0 (version ∷ h.size.w ∷ h.size.h ∷ h.size.n ∷ h.planes ∷ []) h.end
       → LegalHeader h.size h.planes → HeaderCase s (header.Header h)
 
 -- The head of a part was read at a place: its three numbers, and where its body and the next part begin.
@@ -102,7 +97,7 @@ pub record PadSet (s : List ℕ) (p : Part) : Type 0 where
 
 -- "Within a part: its three numbers in turn, each being a value, malformed (8) or cut off (tail), the first that isn't a value deciding; the
 -- other causes of 8; body incomplete (tail); 9." `LegalHead` has the other causes of 8: "plane not under planes; level not 1 to N+1; not
--- after the part before it in the order; bit count over 4 x W x H"; with W9 the level is 1 to K.
+-- after the part before it in the order; bit count over 4 x W x H".
 pub data PartCase (h : Header) (s : List ℕ) (before : PartName) (place : ℕ) : PartRead → Type 0 where
   PART-malformed : {vs : List ℕ} {at : ℕ} → Numbers s place vs at → length vs < 3 → read_number s at ≡ TooManyBytes
       → PartCase h s before place (part.Refused (refusal.Part place))
@@ -142,20 +137,16 @@ pub data CodingCase (pyramid : List ℤ) (z : Size) (room work : ℕ) : Result (
       → CodingCase pyramid z room work (accepted (record_of z pyramid))
 
 -- "Serving: 11, the parts, at the very end 5." "Serving checks dropped parts too, never for 10." HEADER is 6, 12, 7 or 1, as HeaderCase
--- says, and PARTS is 8, 12 or 9, as PartCase says. So it is for whatever request: Asked says of which records it is legal, the test which parts
--- it takes.
-pub data RequestCase (Asked : Header → Type 0) (test : PartName → Bool) (s : List ℕ) (room : ℕ) : Result Portion → Type 0 where
-  HEADER : {why : Refusal} → HeaderCase s (header.Refused why) → RequestCase Asked test s room (refused why)
-  ASK : {h : Header} → HeaderCase s (header.Header h) → ¬ Asked h → RequestCase Asked test s room (refused refusal.Ask)
-  PARTS : {h : Header} {ps : List Part} {why : Refusal} → HeaderCase s (header.Header h) → Asked h → Parts h s ps (fault why)
-      → RequestCase Asked test s room (refused why)
-  ROOM : {h : Header} {ps : List Part} {t : ℕ} → HeaderCase s (header.Header h) → Asked h → Parts h s ps (tail t)
-      → room < length (selected_bytes h s test ps) → RequestCase Asked test s room (refused refusal.Room)
-  SERVED : {h : Header} {ps : List Part} {t : ℕ} → HeaderCase s (header.Header h) → Asked h → Parts h s ps (tail t)
-      → length (selected_bytes h s test ps) ≤ room → RequestCase Asked test s room (accepted (record { bytes = selected_bytes h s test ps; tail = t }))
-
-abbrev pub ServingCase : List ℕ → ℕ → ℕ → ℕ → Result Portion → Type 0
-ServingCase s r p room = RequestCase (λ h. LegalAsk h r p) (asked r p) s room
+-- says, and PARTS is 8, 12 or 9, as PartCase says.
+pub data ServingCase (s : List ℕ) (r p room : ℕ) : Result Portion → Type 0 where
+  HEADER : {why : Refusal} → HeaderCase s (header.Refused why) → ServingCase s r p room (refused why)
+  ASK : {h : Header} → HeaderCase s (header.Header h) → ¬ LegalAsk h r p → ServingCase s r p room (refused refusal.Ask)
+  PARTS : {h : Header} {ps : List Part} {why : Refusal} → HeaderCase s (header.Header h) → LegalAsk h r p → Parts h s ps (fault why)
+      → ServingCase s r p room (refused why)
+  ROOM : {h : Header} {ps : List Part} {t : ℕ} → HeaderCase s (header.Header h) → LegalAsk h r p → Parts h s ps (tail t)
+      → room < length (served_bytes h s r p ps) → ServingCase s r p room (refused refusal.Room)
+  SERVED : {h : Header} {ps : List Part} {t : ℕ} → HeaderCase s (header.Header h) → LegalAsk h r p → Parts h s ps (tail t)
+      → length (served_bytes h s r p ps) ≤ room → ServingCase s r p room (accepted (record { bytes = served_bytes h s r p ps; tail = t }))
 
 -- Decoding these parts, of those that are there, comes to the lists st and the pyramid v: each usable one takes just its bits.
 pub record Fitting (h : Header) (s : List ℕ) (there ps : List Part) (st : State) (v : List ℤ) : Type 0 where

@@ -1,7 +1,7 @@
 -- Demand 3. Of the record that the coder writes, whatever parts arrive, by serving or by loss, the last of them cut perhaps: decoding with
 -- buffers of the stated sizes accepts, gives each coefficient its sign and its magnitude rounded toward zero to a multiple of 2^m, zero where
 -- that gives zero; m is the plane that its level reached, or the one below where that is the plane of the part that was cut. The reached planes are
--- reported for each level, 0 beyond level K, and how many of the level's parts are there and not usable. `Rounded`, in Vocabulary, says this
+-- reported for each level, 0 beyond level N + 1, and how many of the level's parts are there and not usable. `Rounded`, in Vocabulary, says this
 -- field by field. With more bytes of the record what is printed is no worse: `more_bytes`.
 use Rattle.std.specs.Prelude.{◌≡◌, List, [], map, Bool, false, ℕ, ◌<◌, ◌+◌, ◌-◌, suc, ◌≤◌, ◌^◌, leb, eqb, get_or, ℤ, pos}
 use Rattle.rules.specs.declared.Size.{Size}
@@ -9,13 +9,13 @@ use Rattle.rules.specs.declared.Decoded.{Decoded}
 use Rattle.rules.specs.declared.Header.{Header}
 use Rattle.rules.specs.declared.HeaderRead.TheVariants as header
 use Rattle.rules.specs.Document.Notation.{count}
-use Rattle.rules.specs.Document.Pyramid.{area, part_level, magnitude}
+use Rattle.rules.specs.Document.Pyramid.{area, level_of, magnitude}
 use Rattle.rules.specs.Document.Passes.{PartName}
 use Rattle.rules.specs.Document.Layout.{record_of, planes_in, earlier_planes_in, parts_with, parts_of, name_of, usable, reached}
 use Rattle.rules.specs.Document.Numbers.{read_header, read_parts, top_level}
-use Rattle.rules.specs.Document.Calls.{coding, accepted, asked, decoding, Portion, serving, Result, Picture, plane_in, Decoding, AfsDecode}
+use Rattle.rules.specs.Document.Calls.{coding, accepted, decoding, Portion, serving, Result, Picture, plane_in, Decoding, AfsDecode}
 use Rattle.rules.specs.Document.Calls.{skipped_parts}
-use Rattle.rules.specs.Promises.Vocabulary.{Codable, PlaneCount, Stated, Rounded, names, whole_in, kept, tail_in, cut_in, arrived, record_bytes}
+use Rattle.rules.specs.Promises.Vocabulary.{Codable, PlaneCount, Stated, Rounded, names, whole_in, kept, tail_in, cut_in, arrived, record_bytes, asked}
 use Rattle.rules.specs.Promises.Vocabulary.{Near, NoWorse, at, Named, present, most_decoded}
 use Rattle.rules.specs.Laws.Calls.Arrived as laws
 use Rattle.rules.specs.Laws.Reading.Usable as usables
@@ -67,7 +67,7 @@ module _ {z : Size} {pyramid : List ℤ} (c : Codable z pyramid) where
   -- magnitude, and of the same sign unless it is 0.
   pub printed_near : {planes : ℕ} {there part : List PartName} {cut : ℕ} {result : Result Picture} (r : Rounded z planes pyramid there part cut result)
       → (q : ℕ) → q < area z
-      → Near (plane_in r.picture.reached (part_level z q - 1)) (get_or r.picture.pyramid q (pos 0)) (get_or pyramid q (pos 0))
+      → Near (plane_in r.picture.reached (level_of z q - 1)) (get_or r.picture.pyramid q (pos 0)) (get_or pyramid q (pos 0))
   printed_near = laws.printed_near c
 
 -- Coded, served for level r and plane p, and decoded: the parts with level ≥ r and plane ≥ p are there.

@@ -1,8 +1,6 @@
 -- Demand 2. The coder's record has every part, those of 0 bits too; serving writes the header and exactly the parts with level ≥ r and plane
 -- ≥ p, unaltered; a whole record decodes to the pyramid.
-use Rattle.std.specs.Prelude.{◌≡◌, List, map, ◌++◌, true, Bool, ℕ, ◌-◌, ◌≤◌, replicate, length, take, ℤ}
-use Rattle.rules.specs.declared.Merged.{Merged}
-use Rattle.rules.specs.declared.Merged.TheVariants.{Never}
+use Rattle.std.specs.Prelude.{◌≡◌, List, true, Bool, ℕ, ◌-◌, ◌≤◌, replicate, length, take, ℤ}
 use Rattle.rules.specs.declared.Size.{Size}
 use Rattle.rules.specs.declared.Refusal.TheVariants as refusal
 use Rattle.rules.specs.declared.Verdict.TheVariants.{Accepted}
@@ -10,22 +8,16 @@ use Rattle.rules.specs.declared.Served.{Served}
 use Rattle.rules.specs.declared.Header.{Header}
 use Rattle.rules.specs.declared.HeaderRead.TheVariants as header
 use Rattle.rules.specs.Document.Notation.{zeros}
-use Rattle.rules.specs.Document.Pyramid.{levels, legal_size}
-use Rattle.rules.specs.Document.Passes.{part_names, PartName, from}
+use Rattle.rules.specs.Document.Pyramid.{levels}
+use Rattle.rules.specs.Document.Passes.{part_names, PartName}
 use Rattle.rules.specs.Document.Layout.{parts_with, record_with, reached, earlier_planes_in, record_of}
-use Rattle.rules.specs.Document.Numbers.{tail, top_level, read_header, read_parts}
-use Rattle.rules.specs.Document.Calls.{serving, unless, legal_ask, asked, portioned, decoding, accepted, level_places, Portion, Serving, AfsServe}
-use Rattle.rules.specs.Document.Calls.{reached_plane, reached_planes, skipped_parts, skipped_counts}
-use Rattle.rules.specs.Promises.Vocabulary.{names, Named, present, Codable, PlaneCount, ReadsAs, header_of, record_bytes, kept, arrived, whole_in}
-use Rattle.rules.specs.Promises.Vocabulary.{tail_in, Stated, level_plane, IsServed, placed_from, selection, wanted, Again, AgainLent, AgainTold}
-use Rattle.rules.specs.Promises.Vocabulary.{LegalBefore, with_merged, Version1, plane_bits}
-use Rattle.rules.specs.Laws.Counting.Sums.{All}
+use Rattle.rules.specs.Document.Numbers.{tail, read_header, read_parts}
+use Rattle.rules.specs.Document.Calls.{serving, unless, legal_ask, portioned, decoding, accepted, level_places, Portion, Serving, AfsServe}
+use Rattle.rules.specs.Promises.Vocabulary.{names, Named, present, Codable, PlaneCount, ReadsAs, header_of, record_bytes, kept, asked, arrived, whole_in}
+use Rattle.rules.specs.Promises.Vocabulary.{tail_in, Stated, IsServed, placed_from, selection, wanted, Again, AgainLent, AgainTold}
 use Rattle.rules.specs.Laws.Calls.Whole as laws
 use Rattle.rules.specs.Laws.Serving.Served as served
 use Rattle.rules.specs.Laws.Serving.Again as again
-use Rattle.rules.specs.Laws.Calls.Before as before
-use Rattle.rules.specs.Laws.Calls.Version1 as version1
-use Rattle.rules.specs.Laws.State.Merged as merged
 
 -- The record has a part for every plane and every level, planes downward and levels downward in a plane.
 pub demand2_names : (z : Size) (planes : ℕ) (pyramid : List ℤ) → names (parts_with z planes pyramid) ≡ part_names (levels z) planes
@@ -70,45 +62,17 @@ module _ {z : Size} {pyramid : List ℤ} (c : Codable z pyramid) (room work : �
   pub earlier_same : decoding (record_with z (earlier_planes_in pyramid) pyramid) room work ≡ decoding (record_of z pyramid) room work
   earlier_same = laws.earlier_same c room work sizes
 
--- "Stored records mean what they meant, and a small pyramid codes to the same bytes" (W10). The limits stand in legal_size alone, and the number of
--- places in the lists of an answer: so this is all that there is to say. A size that was legal is.
-pub legal_before : (z : Size) → LegalBefore z → legal_size z ≡ true
-legal_before = before.legal_before
-
--- The nine planes that are told of its record are the six of before, and three times 0; so are the counts of skipped parts.
-pub reached_before : (h : Header) (there : List PartName) → top_level h ≤ 6
-    → reached_planes h there ≡ map (reached_plane h there) (from 1 6) ++ replicate 3 (record { 0 = 0 })
-reached_before = before.reached_before
-
-pub skipped_before : (h : Header) (there : List PartName) → All (Named (top_level h) h.planes) there → top_level h ≤ 6
-    → skipped_counts h there ≡ map (skipped_parts h there) (from 1 6) ++ zeros 3
-skipped_before = before.skipped_before
-
--- "Version 1 is read and written as before, and a version 2 record with K = N+1 has the same parts as version 1's" (W9): with as many levels the
--- parts are the same, whichever the version.
-pub version1_same : (z : Size) → z.merged ≡ Never → Version1 z
-version1_same = version1.version1_same
-
-pub same_parts : (z : Size) (m : Merged) → levels (with_merged m z) ≡ levels z → (planes : ℕ) (pyramid : List ℤ)
-    → parts_with (with_merged m z) planes pyramid ≡ parts_with z planes pyramid
-same_parts = merged.same_parts
-
--- Whatever levels are one, each plane has as many bits.
-pub planes_same : (z : Size) (m : Merged) → legal_size z ≡ true → legal_size (with_merged m z) ≡ true → (n planes : ℕ) (pyramid : List ℤ)
-    → plane_bits n (parts_with (with_merged m z) planes pyramid) ≡ plane_bits n (parts_with z planes pyramid)
-planes_same = merged.planes_same
-
 -- Any record that serving accepts, whoever wrote it: what was served has its header and just the parts that are wanted, as they were, no tail.
-pub serving_served : (s : List ℕ) (r p room : ℕ) (x : Portion) → serving s r p room ≡ accepted x → IsServed s (level_plane r p) x
+pub serving_served : (s : List ℕ) (r p room : ℕ) (x : Portion) → serving s r p room ≡ accepted x → IsServed s r p x
 serving_served = served.serving_served
 
-module _ (s : List ℕ) (r p : ℕ) (x : Portion) (v : IsServed s (level_plane r p) x) where
+module _ (s : List ℕ) (r p : ℕ) (x : Portion) (v : IsServed s r p x) where
   pub served_header : read_header x.bytes ≡ header.Header v.head
-  served_header = served.served_header s (level_plane r p) x v
+  served_header = served.served_header s r p x v
 
   pub served_parts : read_parts v.head x.bytes
-      ≡ record { parts = placed_from v.head.end (selection (wanted (asked r p)) (read_parts v.head s).parts); ending = tail 0 }
-  served_parts = served.served_parts s (level_plane r p) x v
+      ≡ record { parts = placed_from v.head.end (selection (wanted r p) (read_parts v.head s).parts); ending = tail 0 }
+  served_parts = served.served_parts s r p x v
 
 -- What was served is accepted by serving. A record served whole is itself less its tail, in whatever room there is; without a tail it is itself.
 pub served_is_record : (s : List ℕ) (r p room : ℕ) (x : Portion) → serving s r p room ≡ accepted x

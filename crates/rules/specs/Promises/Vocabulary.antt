@@ -1,12 +1,7 @@
 -- The words that the promises use beside those of Document, in reading order: definitions only. Cases is used for its place alone: the table is
 -- checked before all that stands on these words, so a wrong definition is refused for the bytes or numbers that it gets wrong.
 --
---   All P xs                    P of each element of xs
---
 --   Legal z                     a size that coding takes, as a statement; Side n x: a side of it
---   LegalBefore z               a size that it took before W10; SideBefore n x: a side of it
---   with_merged m z              the size z with other levels made one
---   Version1 z                  what a size of version 1 has: all levels, each coefficient in its own, document 01's header
 --   at n k                      the name of part (n, k): plane n, level k
 --   Named top planes p          a part of that name may stand in a record of so many levels and planes
 --   present there p             a part of that name is among those there
@@ -20,7 +15,7 @@
 --
 --   selection t xs              those of xs that pass the test t
 --   names ps, kept keep ps      the names of parts; of the parts those that a test of their names keeps
---   plane_bits n ps              how many bits the parts of plane n have
+--   asked r p                   the test that serving for level r and plane p makes
 --   record_bytes z planes ps     the bytes of a header and the parts ps behind it
 --   whole_in n ps, tail_in n ps   of parts cut behind n bytes: those that are whole, and the bytes of one more
 --   cut_in n ps                  that one, if its head is there
@@ -32,7 +27,7 @@
 --
 --   toward_zero m x              x rounded toward zero to a multiple of 2^m
 --   Near m printed recorded     less than 2^m apart, no greater, and of one sign unless 0 is printed
---   RoundedAt .. part k m n     of level k, which reached plane m, a coefficient may be rounded at plane n
+--   RoundedAt part k m n        of level k, which reached plane m, a coefficient may be rounded at plane n
 --   Rounded z planes .. result  decoding gave the recorded pyramid, rounded level by level
 --   NoWorse earlier later       of two pyramids: no magnitude of the second is smaller, and no sign another
 --   most_decoded                 the greatest magnitude that is ever decoded
@@ -40,9 +35,7 @@
 --   among own n                 n is one of these numbers; coding_numbers and so on: those that each routine may give
 --   Exactly Case own ..         a number and a place are given exactly where the case of that refusal holds
 --
---   Request, level_plane r p     what serving is asked for; that for level r and plane p
---   wanted test                 the parts whose names pass a test
---   IsServed s q x              serving s for the request q gave x: its header and just the parts that are wanted
+--   IsServed s r p x            serving s for level r and plane p gave x: its header and just the parts that are wanted
 --   Again, AgainLent, AgainTold what serving twice gives beside serving once: of results, of the routine, of the export
 --
 --   Selected s t                t is a selection of the parts of the record in the bytes s, cut somewhere
@@ -50,8 +43,6 @@
 --   Recorded, Serves, Decodes   what is promised of coding, of serving and of decoding, of lent memory
 use Rattle.std.specs.Prelude.{◌≡◌, List, [], ◌∷◌, map, ◌++◌, Bool, true, cond, ◌&&◌, false, ◌⊎◌, ◌↔◌, ℕ, ◌≤◌, ◌%◌, ◌^◌, ◌+◌, ◌/◌, ◌*◌, suc, ◌<◌, ◌-◌, max, zero, leb, eqb, length, take, drop, get_or, ℤ, nat_abs, ◌-ℤ◌, pos}
 use Rattle.rules.specs.declared.Size.{Size}
-use Rattle.rules.specs.declared.Merged.{Merged}
-use Rattle.rules.specs.declared.Merged.TheVariants.{Never}
 use Rattle.rules.specs.declared.Refusal.{Refusal}
 use Rattle.rules.specs.declared.Refusal.TheVariants as refusal
 use Rattle.rules.specs.declared.Verdict.{Verdict}
@@ -63,61 +54,31 @@ use Rattle.rules.specs.declared.HeaderRead.TheVariants as header
 use Rattle.rules.specs.declared.Part.{Part}
 use Rattle.rules.specs.Document.Notation.{any, count, flat, zeros}
 use Rattle.rules.specs.Document.Pyramid.{least_side, greatest_side, most_decompositions, legal_size, area, most_magnitude, magnitude, most_planes, below0}
-use Rattle.rules.specs.Document.Pyramid.{negative, depths, levels, level_of, part_level}
+use Rattle.rules.specs.Document.Pyramid.{negative, levels, level_of}
 use Rattle.rules.specs.Document.Passes.{PartName, signed, part_names}
-use Rattle.rules.specs.Document.Layout.{same_name, CodedPart, header_bytes, part_bytes, number_bytes, usable, reached, whole_of, bit_at, name_of, body_of}
-use Rattle.rules.specs.Document.Layout.{parts_with, record_with}
+use Rattle.rules.specs.Document.Layout.{same_name, CodedPart, header_bytes, part_bytes, number_bytes, reached, whole_of, bit_at, name_of, body_of, record_with}
+use Rattle.rules.specs.Document.Layout.{parts_with}
 use Rattle.rules.specs.Document.Numbers.{top_level, follows, most_bits, headed, read_parts, tail, verdict_number, refusal_number, verdict_place, refusal_place}
 use Rattle.rules.specs.Document.Numbers.{read_header}
-use Rattle.rules.specs.Document.Calls.{first_over, work_for, Result, Picture, accepted, level_places, plane_in, refused, Portion, legal_ask, asked, kept_by}
-use Rattle.rules.specs.Document.Calls.{serving, portioned, Serving, serve_places, AfsServe, skipped_parts, count_in}
+use Rattle.rules.specs.Document.Calls.{first_over, work_for, Result, Picture, accepted, level_places, plane_in, refused, Portion, legal_ask, serving}
+use Rattle.rules.specs.Document.Calls.{portioned, Serving, serve_places, AfsServe, skipped_parts, count_in}
 use Rattle.rules.specs.Promises.Cases.{cases_hold}
-
--- of each of these
-unfoldable pub All : {X : Type 0} → (X → Type 0) → List X → Type 0
-All P [] = Unit {0}
-All P (x ∷ xs) = P x × All P xs
 
 -- SIZES AND PARTS
 
--- "Width W and height H are 4 to 512, both multiples of 2^(N+1)", with W10 up to 4,096. So a side halves exactly, down to the LL band and once more.
+-- "Width W and height H are 4 to 512, both multiples of 2^(N+1)." So a side halves exactly, down to the LL band and once more.
 pub record Side (n x : ℕ) : Type 0 where
   pub least : least_side ≤ x
   pub most : x ≤ greatest_side
   pub multiple : x % 2 ^ (n + 1) ≡ 0
   pub half : (k : ℕ) → k ≤ n → x / 2 ^ k ≡ 2 * (x / 2 ^ suc k)
 
--- "N, the decomposition count, is 1 to 5", with W10 up to 8, and both sides are as said. There are 1 to N + 1 levels of parts (W9).
+-- "N, the decomposition count, is 1 to 5", and both sides are as said.
 pub record Legal (z : Size) : Type 0 where
   pub some : 1 ≤ z.n
   pub few : z.n ≤ most_decompositions
   pub width : Side z.n z.w
   pub height : Side z.n z.h
-  pub some_levels : 1 ≤ levels z
-  pub few_levels : levels z ≤ depths z
-
--- The same with 01's own numbers, as they were before W10.
-pub record SideBefore (n x : ℕ) : Type 0 where
-  pub least : 4 ≤ x
-  pub most : x ≤ 512
-  pub multiple : x % 2 ^ (n + 1) ≡ 0
-
-pub record LegalBefore (z : Size) : Type 0 where
-  pub some : 1 ≤ z.n
-  pub few : z.n ≤ 5
-  pub width : SideBefore z.n z.w
-  pub height : SideBefore z.n z.h
-  pub version1 : z.merged ≡ Never
-
--- the same size with other levels made one
-abbrev pub with_merged : Merged → Size → Size
-with_merged m z = record { w = z.w; h = z.h; n = z.n; merged = m }
-
--- "Version 1 is read and written as before" (W9): it has as many levels as depths, each coefficient in its own, and document 01's five numbers.
-pub record Version1 (z : Size) : Type 0 where
-  pub all : levels z ≡ depths z
-  pub own : (q : ℕ) → part_level z q ≡ level_of z q
-  pub header : (planes : ℕ) → header_bytes z planes ≡ flat number_bytes (1 ∷ z.w ∷ z.h ∷ z.n ∷ planes ∷ [])
 
 -- part (n, k)
 abbrev pub at : ℕ → ℕ → PartName
@@ -149,16 +110,16 @@ Usable top planes there p = (q : PartName) → Named top planes q → p.plane �
 pub record Codable (z : Size) (pyramid : List ℤ) : Type 0 where
   pub legal_size_lem : legal_size z ≡ true
   pub sized : length pyramid ≡ area z
-  pub in_range_lem : first_over most_magnitude pyramid ≡ length pyramid
+  pub in_range : first_over most_magnitude pyramid ≡ length pyramid
 
 -- "Buffers of the stated sizes", for decoding.
 pub record Stated (z : Size) (room work : ℕ) : Type 0 where
   pub whole : room ≡ area z
   pub enough : work_for z ≤ work
 
--- room that is always enough for a record: 6 x W x H + 1,100 bytes
+-- room that is always enough for a record: 6 x W x H + 640 bytes
 abbrev pub enough_room : Size → ℕ
-enough_room z = 6 * area z + 1100
+enough_room z = 6 * area z + 640
 
 -- All that demand 3 asks of a record's number of planes: every magnitude is below 2^planes, and a record may have as many. The coder's count is
 -- one, and so is the earlier one.
@@ -181,10 +142,9 @@ names ps = map (λ p. p.name) ps
 abbrev pub kept : (PartName → Bool) → List CodedPart → List CodedPart
 kept keep ps = selection (λ p. keep p.name) ps
 
--- how many bits the parts of plane n have
-unfoldable pub plane_bits : ℕ → List CodedPart → ℕ
-plane_bits n [] = 0
-plane_bits n (c ∷ cs) = cond (eqb c.name.plane n) (length c.bits) 0 + plane_bits n cs
+-- what serving for level r and plane p keeps
+abbrev pub asked : ℕ → ℕ → PartName → Bool
+asked r p x = leb r x.level && leb p x.plane
 
 -- The bytes of a header and parts behind it.
 abbrev pub record_bytes : Size → ℕ → List CodedPart → List ℕ
@@ -248,11 +208,10 @@ pub record Near (m : ℕ) (printed recorded : ℤ) : Type 0 where
   pub sign : (printed ≡ pos 0) ⊎ (below0 printed ≡ below0 recorded)
 
 -- The plane at which a coefficient of level k is rounded, m being the one that its level reached: that one, or the next below it where the level's
--- part of that plane is the one that was cut, and would be usable, it counted as there.
-pub data RoundedAt (top planes : ℕ) (there part : List PartName) (k m : ℕ) : ℕ → Type 0 where
-  at_reached : RoundedAt top planes there part k m m
-  at_cut : {n : ℕ} → m ≡ suc n → present part (at n k) ≡ true → usable top planes (there ++ (at n k ∷ [])) (at n k) ≡ true
-      → RoundedAt top planes there part k m n
+-- part of that plane is the one that was cut.
+pub data RoundedAt (part : List PartName) (k m : ℕ) : ℕ → Type 0 where
+  at_reached : RoundedAt part k m m
+  at_cut : {n : ℕ} → m ≡ suc n → present part (at n k) ≡ true → RoundedAt part k m n
 
 -- What decoding gives where of a record just the parts `there` arrived whole, and so many bytes of one more, which is `part` if its head is there.
 pub record Rounded (z : Size) (planes : ℕ) (pyramid : List ℤ) (there part : List PartName) (cut : ℕ) (result : Result Picture) : Type 0 where
@@ -263,19 +222,19 @@ pub record Rounded (z : Size) (planes : ℕ) (pyramid : List ℤ) (there part : 
   -- level, or the one below it where that is the plane of the part that was cut; 0 where that gives 0.
   pub sized : length picture.pyramid ≡ area z
   pub plane : ℕ → ℕ
-  pub rounds : (q : ℕ) → q < area z → RoundedAt (levels z) planes there part (part_level z q) (reached (levels z) planes there (part_level z q)) (plane q)
+  pub rounds : (q : ℕ) → q < area z → RoundedAt part (level_of z q) (reached (levels z) planes there (level_of z q)) (plane q)
   pub values : (q : ℕ) → q < area z
       → get_or picture.pyramid q (pos 0) ≡ signed (negative pyramid q) (toward_zero (plane q) (magnitude pyramid q))
   -- The same, as a pyramid is read: by magnitude, and by sign where there is one.
   pub magnitudes : (q : ℕ) → q < area z → magnitude picture.pyramid q ≡ toward_zero (plane q) (magnitude pyramid q)
   pub signs : (q : ℕ) → q < area z → 1 ≤ magnitude picture.pyramid q → negative picture.pyramid q ≡ negative pyramid q
-  -- The reached plane is reported for each level, level 1 first, and 0 beyond level K.
-  pub places : length picture.reached ≡ level_places
+  -- The reached plane is reported for each level, level 1 first, and 0 beyond level N + 1.
+  pub six : length picture.reached ≡ level_places
   pub reports : (k : ℕ) → 1 ≤ k → k ≤ levels z → plane_in picture.reached (k - 1) ≡ reached (levels z) planes there k
   pub beyond : (k : ℕ) → levels z < k → plane_in picture.reached (k - 1) ≡ 0
   -- So are the parts of each level that are there and not usable: so many that with the used ones, one for each plane from that one on, they are all of
-  -- the level that are there. Beyond level K there are none.
-  pub places_counts : length picture.skipped ≡ level_places
+  -- the level that are there. Beyond level N + 1 there are none.
+  pub six_counts : length picture.skipped ≡ level_places
   pub skips : (k : ℕ) → 1 ≤ k → k ≤ levels z → count_in picture.skipped (k - 1) ≡ skipped_parts (header_of z planes) there k
   pub used_and_skipped : (k : ℕ) → 1 ≤ k → k ≤ levels z
       → count_in picture.skipped (k - 1) + (planes - plane_in picture.reached (k - 1)) ≡ count (λ x. eqb x.level k) there
@@ -322,18 +281,9 @@ pub record Exactly {X : Type 0} (Case : Result X → Type 0) (own : List ℕ) (v
 
 -- WHAT IS SERVED, OF ANY RECORD
 
--- What serving is asked for: of which records it may be, by their header, and which parts it takes, by their names.
-pub record Request : Type 0 where
-  pub legal : Header → Bool
-  pub asks : PartName → Bool
-
 -- the parts with level ≥ r and plane ≥ p
-abbrev pub level_plane : ℕ → ℕ → Request
-level_plane r p = record { legal = λ h. legal_ask h r p; asks = asked r p }
-
--- the parts whose names pass a test
-abbrev pub wanted : (PartName → Bool) → Part → Bool
-wanted test x = test (name_of x)
+abbrev pub wanted : ℕ → ℕ → Part → Bool
+wanted r p x = leb r x.level.0 && leb p x.plane.0
 
 -- a part at another place
 unfoldable pub moved_to : ℕ → Part → Part
@@ -346,12 +296,12 @@ placed_from b [] = []
 placed_from b (p ∷ ps) = moved_to b p ∷ placed_from (b + (p.end - p.place)) ps
 
 -- What was served, and of what.
-pub record IsServed (s : List ℕ) (q : Request) (x : Portion) : Type 0 where
+pub record IsServed (s : List ℕ) (r p : ℕ) (x : Portion) : Type 0 where
   pub head : Header
   pub read : read_header s ≡ header.Header head
-  pub legal : q.legal head ≡ true
+  pub asked : legal_ask head r p ≡ true
   pub ending : (read_parts head s).ending ≡ tail x.tail
-  pub bytes : x.bytes ≡ take head.end s ++ flat (whole_of s) (selection (wanted q.asks) (read_parts head s).parts)
+  pub bytes : x.bytes ≡ take head.end s ++ flat (whole_of s) (selection (wanted r p) (read_parts head s).parts)
 
 -- What is promised, of a record s that serving for (r1, p1) made x of, and of a second request (r2, p2).
 pub record Again (s : List ℕ) (r1 p1 : ℕ) (x : Portion) (r2 p2 : ℕ) : Type 0 where
@@ -407,6 +357,10 @@ bits_from body i (suc m) = bit_at body i ∷ bits_from body (suc i) m
 unfoldable pub parts_in : Header → List ℕ → List CodedPart
 parts_in h bytes = map (λ p. record { name = name_of p; bits = bits_from (body_of bytes p) 0 p.bits }) (read_parts h bytes).parts
 
+-- the bytes of a part if a test keeps it
+unfoldable pub kept_in : (PartName → Bool) → List ℕ → Part → List ℕ
+kept_in keep bytes p = cond (keep (name_of p)) (whole_of bytes p) []
+
 -- s is a selection of the parts of the record that stands in `bytes`, cut somewhere: the header, and behind it, in order and unaltered, those
 -- parts that some test keeps; of all this the header and some number of bytes more.
 pub record Selected (bytes s : List ℕ) : Type 0 where
@@ -414,7 +368,7 @@ pub record Selected (bytes s : List ℕ) : Type 0 where
   pub read : read_header bytes ≡ header.Header head
   pub keep : PartName → Bool
   pub more : ℕ
-  pub made : s ≡ take (head.end + more) (take head.end bytes ++ flat (kept_by bytes keep) (read_parts head bytes).parts)
+  pub made : s ≡ take (head.end + more) (take head.end bytes ++ flat (kept_in keep bytes) (read_parts head bytes).parts)
 
 module _ {bytes s : List ℕ} (x : Selected bytes s) where
   -- the parts that arrived whole, and how many bytes there are of one that was cut
@@ -437,11 +391,11 @@ pub record Recorded (z : Size) (planes : ℕ) (pyramid : List ℤ) (bytes : List
   pub its_parts : parts_in (header_of z planes) bytes ≡ parts_with z planes pyramid
   pub every_part : names (parts_in (header_of z planes) bytes) ≡ part_names (levels z) planes
 
--- Of serving s for the parts that pass a test, where s was itself a selection x of what stands in `bytes`: what is served is one too, of just the
--- parts that arrived whole and were asked for, none of them cut; and the tail that is told is what s had of a part that was cut.
-pub record Serves {bytes s : List ℕ} (x : Selected bytes s) (test : PartName → Bool) (served : List ℕ) (tail : ℕ) : Type 0 where
+-- Of serving s for level r and plane p, where s was itself a selection x of what stands in `bytes`: what is served is one too, of just the parts
+-- that arrived whole and were asked for, none of them cut; and the tail that is told is what s had of a part that was cut.
+pub record Serves {bytes s : List ℕ} (x : Selected bytes s) (r p : ℕ) (served : List ℕ) (tail : ℕ) : Type 0 where
   pub again : Selected bytes served
-  pub parts : whole_parts again ≡ kept test (whole_parts x)
+  pub parts : whole_parts again ≡ kept (asked r p) (whole_parts x)
   pub uncut : cut_bytes again ≡ 0
   pub told : tail ≡ cut_bytes x
 
@@ -456,19 +410,19 @@ pub record Decodes (z : Size) (planes : ℕ) (pyramid : List ℤ) (there part : 
   -- told for its level, or the one below it where that is the plane of the part that was cut.
   pub sized : length out' ≡ area z
   pub rounded_at : ℕ → ℕ
-  pub rounds : (q : ℕ) → q < area z → RoundedAt (levels z) planes there part (part_level z q) (plane (part_level z q)) (rounded_at q)
+  pub rounds : (q : ℕ) → q < area z → RoundedAt part (level_of z q) (plane (level_of z q)) (rounded_at q)
   pub values : (q : ℕ) → q < area z → get_or out' q (pos 0) ≡ signed (negative pyramid q) (toward_zero (rounded_at q) (magnitude pyramid q))
   -- So with the plane m that is told for its level what is printed is less than 2^m away from what was recorded, of no greater magnitude, and of
   -- the same sign unless it is 0.
-  pub near : (q : ℕ) → q < area z → Near (plane (part_level z q)) (get_or out' q (pos 0)) (get_or pyramid q (pos 0))
-  -- That m is the lowest plane whose part of the level is usable, the number of planes if none is; beyond level K it is 0.
+  pub near : (q : ℕ) → q < area z → Near (plane (level_of z q)) (get_or out' q (pos 0)) (get_or pyramid q (pos 0))
+  -- That m is the lowest plane whose part of the level is usable, the number of planes if none is; beyond level N + 1 it is 0.
   pub reports : (k : ℕ) → 1 ≤ k → k ≤ levels z → plane k ≡ reached (levels z) planes there k
   pub beyond : (k : ℕ) → levels z < k → plane k ≡ 0
   -- So what was lost shows: a part (n, k) of the record that did not arrive whole makes the plane told for level k greater than n, and that of
   -- every finer level too.
   pub shows : (n k : ℕ) → Named (levels z) planes (at n k) → present there (at n k) ≡ false → (j : ℕ) → 1 ≤ j → j ≤ k → n < plane j
   -- The parts of the level that arrived whole and are not usable are counted: with the used ones, one for each plane from m on, they are all of
-  -- the level that arrived. Beyond level K there are none.
+  -- the level that arrived. Beyond level N + 1 there are none.
   pub skips : (k : ℕ) → 1 ≤ k → k ≤ levels z → skip k ≡ skipped_parts (header_of z planes) there k
   pub used_and_skipped : (k : ℕ) → 1 ≤ k → k ≤ levels z → skip k + (planes - plane k) ≡ count (λ x. eqb x.level k) there
   pub skips_beyond : (k : ℕ) → levels z < k → skip k ≡ 0

@@ -1,5 +1,4 @@
 -- `server::serve`: by what was read of the header.
-use Rattle.rules.specs.Laws.Serving.Requests.{for_routine}
 use Rattle.record.specs.Walk.{header_found}
 use Rattle.server.proofs.Laws.{unheaded}
 use borrow.Author.Rules.{rules}
@@ -25,13 +24,13 @@ same_length : tie.Need-same-length
 same_length c = search rules
 
 returns : tie.Need-returns
-returns c = search (rules, for_routine)
+returns c = search rules
 
 same-length-2 : tie.Need-same-length-2
 same-length-2 c = search rules
 
 returns_2 : tie.Need-returns-2
-returns_2 c = search (rules, unheaded, for_routine)
+returns_2 c = search (rules, unheaded)
 
 pub serve-spec : {M : Type 1} → statement M
 serve-spec =

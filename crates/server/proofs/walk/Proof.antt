@@ -1,7 +1,6 @@
 -- `server::walk`: what `next` gives goes on, ends or refuses the walk; the cursor's place rises.
 use Prim.Native.Nat.{◌-◌}
 use lib.ListN.{length}
-use Rattle.rules.specs.Document.Calls.{asked}
 use Rattle.record.specs.Walk.{next_falls}
 use Rattle.server.proofs.Laws.{Walking, walking_first, walking_legal, walking_copies, walking_past, walking_same, walking_whole, walking_fault}
 use borrow.Author.Rules.{rules}
@@ -9,7 +8,7 @@ use Rattle.server.proofs.walk.Statement.{statement}
 use Rattle.server.proofs.walk.Tie as tie
 
 abbrev invariant-loop : tie.invariant-loop
-invariant-loop s h level plane out₀ cursor₀ written₀ out cursor written = Walking s h (asked level.0 plane.0) (length out₀) out cursor written
+invariant-loop s h level plane out₀ cursor₀ written₀ out cursor written = Walking s h level plane (length out₀) out cursor written
 
 abbrev decreases-loop : tie.decreases-loop
 decreases-loop s h level plane out₀ cursor₀ written₀ out cursor written = length s - cursor.place
@@ -44,8 +43,8 @@ returns_2 c = search (rules, walking_fault)
 enum-known-p : tie.Need-enum-known-p invariant-loop decreases-loop
 enum-known-p c = search rules
 
-keep-wanted-requires : tie.Need-keep-wanted-requires invariant-loop decreases-loop
-keep-wanted-requires c κs = search (rules, walking_copies)
+keep-requires : tie.Need-keep-requires invariant-loop decreases-loop
+keep-requires c κs = search (rules, walking_copies)
 
 past-requires : tie.Need-past-requires invariant-loop decreases-loop
 past-requires c κs = search rules
@@ -59,4 +58,4 @@ loop-again c = search (rules, walking_past)
 pub walk-spec : {M : Type 1} → statement M
 walk-spec =
     tie.close (tie.spec invariant-loop decreases-loop first-requires loop-holds next-requires sub-t12 same_length returns enum-known-r same-length-2 returns_2
-    enum-known-p keep-wanted-requires past-requires loop-less loop-again)
+    enum-known-p keep-requires past-requires loop-less loop-again)

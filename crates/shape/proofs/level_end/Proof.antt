@@ -1,14 +1,18 @@
--- `shape::level_end` meets its contract.
-use native.Mathlib.Omega.{arith}
-use Rattle.shape.proofs.Sizes.{few_levels}
+-- `shape::level_end`: where the next finer level begins.
+use borrow.Author.Rules.{rules}
+use Rattle.rules.specs.Laws.Family.Sizes.{level_end}
 use Rattle.shape.proofs.level_end.Statement.{statement}
 use Rattle.shape.proofs.level_end.Tie as tie
 
-depth-end-requires : tie.Need-depth-end-requires
-depth-end-requires c κs = let a = c.requires in (a.0, a.1, omega (arith, a.2, few_levels _ a.0))
+sub-t3 : tie.Need-overflow-sub-t3
+sub-t3 c = search rules
+
+span-of-requires : tie.Need-span-of-requires
+span-of-requires c κs = search rules
 
 returns : tie.Need-returns
-returns c = c.depth-end.ensures
+unfolding level_end
+returns c = c.Span-of.ensures
 
 pub level-end-spec : {M : Type 1} → statement M
-level-end-spec = tie.close (tie.spec depth-end-requires returns)
+level-end-spec = tie.close (tie.spec sub-t3 span-of-requires returns)

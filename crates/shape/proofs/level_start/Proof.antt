@@ -1,18 +1,19 @@
--- `shape::level_start` meets its contract.
-use mathlib.Core.Path.{◌∙◌}
-use native.Mathlib.Omega.{arith}
-use Rattle.shape.proofs.Sizes.{few_depths, few_levels, start_at}
+-- `shape::level_start`: level N+1 begins at 0, another at its span.
+use mathlib.Core.Path.{sym, ◌∙◌}
+use borrow.Author.Rules.{rules}
+use Rattle.rules.specs.Laws.Family.Sizes.{level_start_fine}
+use Rattle.shape.proofs.Sizes.{start_zero}
 use Rattle.shape.proofs.level_start.Statement.{statement}
 use Rattle.shape.proofs.level_start.Tie as tie
 
-levels-requires : tie.Need-levels-requires
-levels-requires c κs = few_depths _ c.requires.0
-
-start-of-requires : tie.Need-start-of-requires
-start-of-requires c κs = let a = c.before.requires in (a.0, omega (arith, a.2, c.levels.ensures), omega (arith, c.levels.ensures, few_levels _ a.0))
-
 returns : tie.Need-returns
-returns c = c.start_of_lem.ensures ∙ start_at _ _ c.before.levels.ensures
+returns c = start_zero _ c.before.before.before.requires.0 _ c.before.before.before.requires.2 c.if1.true
+
+span-of-requires : tie.Need-span-of-requires
+span-of-requires c κs = search rules
+
+returns_2 : tie.Need-returns-2
+returns_2 c = c.Span-of.ensures ∙ sym (level_start_fine _ _ c.before.if1.false)
 
 pub level-start-spec : {M : Type 1} → statement M
-level-start-spec = tie.close (tie.spec levels-requires start-of-requires returns)
+level-start-spec = tie.close (tie.spec returns span-of-requires returns_2)

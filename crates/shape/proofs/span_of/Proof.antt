@@ -6,8 +6,8 @@ use Rattle.shape.proofs.Sizes.{span_small}
 use Rattle.shape.proofs.span_of.Statement.{statement}
 use Rattle.shape.proofs.span_of.Tie as tie
 
-shr_result : tie.Need-overflow-shr-result
-shr_result c = omega (arith, legal _ c.before.requires.0)
+shr-result : tie.Need-overflow-shr-result
+shr-result c = omega (arith, legal _ c.before.requires.0)
 
 shr-result-2 : tie.Need-overflow-shr-result-2
 shr-result-2 c = omega (arith, legal _ c.before.before.requires.0)
@@ -20,4 +20,4 @@ unfolding span
 returns c = refl
 
 pub span-of-spec : {M : Type 1} → statement M
-span-of-spec = tie.close (tie.spec shr_result shr-result-2 mul-result returns)
+span-of-spec = tie.close (tie.spec shr-result shr-result-2 mul-result returns)

@@ -2,7 +2,7 @@
 use Prim.Native.Nat.{◌-◌}
 use lib.ListN.{length}
 use Rattle.record.specs.Walk.{next_falls}
-use Rattle.survey.proofs.Laws.{Surveying, surveying_few, surveying_first, surveying_legal, surveying_past, surveying_whole, surveying_fault}
+use Rattle.survey.proofs.Laws.{Surveying, surveying_first, surveying_legal, surveying_past, surveying_whole, surveying_fault}
 use borrow.Author.Rules.{rules}
 use Rattle.survey.proofs.walk.Statement.{statement}
 use Rattle.survey.proofs.walk.Tie as tie
@@ -24,9 +24,6 @@ next-requires c κs = search (rules, surveying_legal)
 
 sub-t10 : tie.Need-overflow-sub-t10 invariant-loop decreases-loop
 sub-t10 c = search rules
-
-levels-requires : tie.Need-levels-requires invariant-loop decreases-loop
-levels-requires c κs = search (rules, surveying_few)
 
 returns : tie.Need-returns invariant-loop decreases-loop
 returns c = search (rules, surveying_whole)
@@ -57,21 +54,5 @@ loop-again c = search (rules, surveying_past)
 
 pub walk-spec : {M : Type 1} → statement M
 walk-spec =
-    tie.close
-    (tie.spec
-    invariant-loop
-    decreases-loop
-    first-requires
-    loop-holds
-    next-requires
-    sub-t10
-    levels-requires
-    returns
-    enum-known-r
-    refused-requires
-    returns_2
-    enum-known-p
-    past-requires
-    add_parts
-    loop-less
-    loop-again)
+    tie.close (tie.spec invariant-loop decreases-loop first-requires loop-holds next-requires sub-t10 returns enum-known-r refused-requires returns_2 enum-known-p
+    past-requires add_parts loop-less loop-again)

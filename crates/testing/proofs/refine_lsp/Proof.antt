@@ -6,7 +6,6 @@ use lib.ListN.{length}
 use Rattle.lists.specs.Lists.{known}
 use Rattle.testing.specs.Finding.{Refined}
 use Rattle.testing.proofs.Refining.{refined_none, refining_inside, refining_next, refining_place, refining_small, refined_done}
-use Rattle.testing.proofs.Sixteens.{sixteen_from, sixteen_on}
 use borrow.Author.Rules.{rules}
 use Rattle.testing.proofs.refine_lsp.Statement.{statement}
 use Rattle.testing.proofs.refine_lsp.Tie as tie
@@ -21,28 +20,22 @@ decreases-loop run body s₀ m out₀ next₀ i₀ s out next i = m - i
 loop-holds : tie.Need-loop-init invariant-loop decreases-loop
 loop-holds c = (search (rules, refined_none), omega arith, refl, refl)
 
-sub-if1 : tie.Need-overflow-sub-if1 invariant-loop decreases-loop
-sub-if1 c = search rules
-
 lsp-at-requires : tie.Need-lsp-at-requires invariant-loop decreases-loop
 lsp-at-requires c κs =
-    let turn = c.before.before.before in
-    let asked = turn.before.before.before.before.requires.0 in
-    (omega (arith, asked.room, turn.loop.invariant.2), asked.size, omega (arith, asked.few, c.before.before.loop-test.true))
+    let asked = c.before.before.before.before.before.before.requires.0 in
+    (omega (arith, asked.room, c.before.before.loop.invariant.2), asked.size, omega (arith, asked.few))
 
 add-i : tie.Need-overflow-add-i invariant-loop decreases-loop
 add-i c = search rules
 
 refine-requires : tie.Need-refine-requires invariant-loop decreases-loop
 refine-requires c κs =
-    let chosen = c.before.before in
-    let turn = chosen.before.before.before.before in
+    let turn = c.before.before.before.before.before in
     let start = turn.before.before.before.before.requires in
     let asked = start.0 in
     let done = turn.loop.invariant in
-    let more = chosen.before.before.before.loop-test.true in
-    let own = refining_inside asked done.0 (omega (arith, more)) chosen.lsp-at.ensures in (
-      refining_place asked done.0 (omega (arith, more)),
+    let own = refining_inside asked done.0 (omega arith) c.before.before.lsp-at.ensures in (
+      refining_place asked done.0 (omega arith),
       asked.plane,
       omega (arith, asked.room, done.2),
       refining_small asked done.0 done.1 _,
@@ -56,36 +49,10 @@ loop-less c = omega arith
 loop-again : tie.Need-loop-preserved invariant-loop decreases-loop
 loop-again c =
     let made = c.before.before.before.before in
-    let chosen = made.before.before.before in
-    let turn = chosen.before.before.before.before in
+    let turn = made.before.before.before.before.before.before in
     let asked = turn.before.before.before.before.requires.0 in
-    let more = chosen.before.before.before.loop-test.true in
-    let next = refining_next asked turn.loop.invariant.0 (omega (arith, more)) chosen.lsp-at.ensures made.refine.ensures in
-    (next, omega (arith, more), next.long, omega (arith, made.refine.auto, turn.loop.invariant.3))
-
-refine-sixteen-requires : tie.Need-refine-sixteen-requires invariant-loop decreases-loop
-refine-sixteen-requires c κs =
-    let tested = c.before.before in
-    let turn = tested.before.before in
-    let start = turn.before.before.before.before.requires in
-    (sixteen_from turn.loop.i _ start.0 turn.loop.invariant.0 (omega (arith, tested.if1.false, tested.before.loop-test.true)), start.1)
-
-add-i-2 : tie.Need-overflow-add-i-2 invariant-loop decreases-loop
-add-i-2 c = search rules
-
-loop-less-2 : tie.Need-loop-smaller-2 invariant-loop decreases-loop
-loop-less-2 c = omega arith
-
-loop-again-2 : tie.Need-loop-preserved-2 invariant-loop decreases-loop
-loop-again-2 c =
-    let made = c.before.before.before.before in
-    let tested = made.before.before.before in
-    let turn = tested.before.before in
-    let asked = turn.before.before.before.before.requires.0 in
-    let more = tested.if1.false in
-    let some = tested.before.loop-test.true in
-    let next = sixteen_on turn.loop.i _ asked turn.loop.invariant.0 (omega (arith, more, some)) made.refine-sixteen.ensures in
-    (next, omega (arith, more, some), next.long, omega (arith, made.refine-sixteen.auto, turn.loop.invariant.3))
+    let next = refining_next asked turn.loop.invariant.0 (omega arith) made.before.before.before.lsp-at.ensures made.refine.ensures in
+    (next, omega arith, next.long, omega (arith, made.refine.auto, turn.loop.invariant.3))
 
 same_length : tie.Need-same-length invariant-loop decreases-loop
 same_length c = search rules
@@ -103,16 +70,11 @@ refine-lsp-spec =
     invariant-loop
     decreases-loop
     loop-holds
-    sub-if1
     lsp-at-requires
     add-i
     refine-requires
     loop-less
     loop-again
-    refine-sixteen-requires
-    add-i-2
-    loop-less-2
-    loop-again-2
     same_length
     same-length-2
     returns)

@@ -1,6 +1,6 @@
 //! `bench [RUNS [SIDE]]`: times of coder, server, joiner and decoder, and of
-//! pictures in and out, N = 5, on squares of side 512, and how they grow from 64 to
-//! 4,096; or on squares of SIDE alone. With the feature `archive` also the archive's, with
+//! pictures in and out, N = 5, on squares of side 512, and how they grow from 64; or on
+//! squares of SIDE alone. With the feature `archive` also the archive's, with
 //! `openjpeg` also OpenJPEG's for the same picture, with `plain_c` also those of
 //! lifting in plain C; all on the same input, in turns.
 
@@ -23,11 +23,7 @@ const OPENJPEG: Option<&dyn Jpeg2000> = None;
 
 const SEED: u64 = 1;
 const DECOMPOSITIONS: u64 = 5;
-const SIDES: [u64; 7] = [64, 128, 256, 512, 1024, 2048, 4096];
-/// Larger squares than this have fewer runs, in all as many coefficients, but so
-/// many at least.
-const USUAL_SIDE: u64 = 512;
-const LEAST_RUNS: usize = 3;
+const SIDES: [u64; 4] = [64, 128, 256, 512];
 /// What is served and decoded: all of it, coarser levels, higher planes.
 const REQUESTS: [(u64, u64); 7] = [(1, 0), (2, 0), (3, 0), (4, 0), (1, 1), (1, 2), (1, 3)];
 
@@ -39,14 +35,14 @@ fn main() {
             bench_pictures(runs, shape);
         }
         Some((runs, None)) => {
-            let usual = square(USUAL_SIDE).expect("it is legal");
-            bench_one(runs, usual);
-            bench_pictures(runs, usual);
+            let largest = square(512).expect("512 is legal");
+            bench_one(runs, largest);
+            bench_pictures(runs, largest);
             bench_growth(runs);
             bench_pictures_growth(runs);
         }
         None => {
-            eprintln!("usage: bench [RUNS [SIDE]], SIDE a multiple of 64 up to 4096");
+            eprintln!("usage: bench [RUNS [SIDE]], SIDE a multiple of 64 up to 512");
             std::process::exit(2);
         }
     }
@@ -66,22 +62,14 @@ fn square(side: u64) -> Option<Shape> {
     Shape::judge(side, side, DECOMPOSITIONS).ok()
 }
 
-/// How many runs there are of a square, of so many at the usual side.
-fn runs_of(runs: usize, shape: Shape) -> usize {
-    let fewer = runs * (USUAL_SIDE * USUAL_SIDE) as usize / shape.area();
-    fewer.max(LEAST_RUNS).min(runs)
-}
-
 /// What is tried: as coding finds it, and as no coder likes it.
-const KINDS: [&str; 2] = ["waterfall", "random, magnitudes to 255"];
-
-fn sample(kind: &'static str, shape: Shape) -> Sample {
-    let mut chance = Chance::new(SEED);
-    let pyramid = match kind {
-        "waterfall" => waterfall::pyramid(&mut chance, shape),
-        _ => pyramids::even(&mut chance, shape, 8),
-    };
-    Sample::new(kind, shape, pyramid)
+fn samples(shape: Shape) -> [Sample; 2] {
+    let random = pyramids::even(&mut Chance::new(SEED), shape, 8);
+    let waterfall = waterfall::pyramid(&mut Chance::new(SEED), shape);
+    [
+        Sample::new("waterfall", shape, waterfall),
+        Sample::new("random, magnitudes to 255", shape, random),
+    ]
 }
 
 fn bench_one(runs: usize, shape: Shape) {
@@ -90,8 +78,7 @@ fn bench_one(runs: usize, shape: Shape) {
         shape.width(),
         shape.height()
     );
-    for kind in KINDS {
-        let mut sample = sample(kind, shape);
+    for mut sample in samples(shape) {
         sample.print_name();
         print_heading(OPENJPEG.map(|_| "OpenJPEG"));
         sample.code(runs).print("code", sample.record.len());
@@ -114,32 +101,24 @@ fn bench_one(runs: usize, shape: Shape) {
 /// Rows of one call each, a column a side.
 fn bench_growth(runs: usize) {
     println!("nanoseconds a coefficient, least, by side: {SIDES:?}");
-    for kind in KINDS {
-        println!("{kind}");
-        let rows = by_side(|shape| {
-            let (mut sample, runs) = (sample(kind, shape), runs_of(runs, shape));
-            let coded = sample.code(runs);
-            [coded, sample.serve(runs, 1, 0), sample.decode(runs, 1, 0)]
-        });
-        for (call, rows) in ["code", "serve", "decode"].iter().zip(rows) {
-            print_growth(call, "OpenJPEG", &rows);
-        }
+    let mut by_side: Vec<[Sample; 2]> = SIDES
+        .iter()
+        .map(|&side| samples(square(side).expect("each side is legal")))
+        .collect();
+    for kind in 0..2 {
+        println!("{}", by_side[0][kind].name);
+        let mut of_each = |timed: &dyn Fn(&mut Sample) -> Row| -> Vec<(usize, Row)> {
+            let samples = by_side.iter_mut().map(|sides| &mut sides[kind]);
+            samples
+                .map(|sample| (sample.shape.area(), timed(sample)))
+                .collect()
+        };
+        print_growth("code", "OpenJPEG", &of_each(&|sample| sample.code(runs)));
+        let served = of_each(&|sample| sample.serve(runs, 1, 0));
+        print_growth("serve", "OpenJPEG", &served);
+        let decoded = of_each(&|sample| sample.decode(runs, 1, 0));
+        print_growth("decode", "OpenJPEG", &decoded);
     }
-}
-
-/// The rows of each call, with the areas. One square is held at a time: the
-/// largest takes more than half a gigabyte.
-fn by_side<const CALLS: usize>(
-    timed: impl Fn(Shape) -> [Row; CALLS],
-) -> [Vec<(usize, Row)>; CALLS] {
-    let mut rows = [(); CALLS].map(|()| Vec::with_capacity(SIDES.len()));
-    for side in SIDES {
-        let shape = square(side).expect("each side is legal");
-        for (row, of_call) in timed(shape).into_iter().zip(&mut rows) {
-            of_call.push((shape.area(), row));
-        }
-    }
-    rows
 }
 
 /// A pyramid with its record, its picture and codestream, and all that is

@@ -2,7 +2,7 @@
 //! from a grey file to a record and back beside OpenJPEG from and to a grey file.
 
 use crate::times::{print_growth, print_heading, Row};
-use crate::{by_side, runs_of, DECOMPOSITIONS, OPENJPEG, SEED, SIDES};
+use crate::{square, DECOMPOSITIONS, OPENJPEG, SEED, SIDES};
 use reference::compare::{Returned, Sizes, Subject};
 use reference::generate::pictures::{picture, pyramid_of, PictureKind};
 use reference::generate::{records, Chance};
@@ -40,16 +40,23 @@ pub fn bench_pictures_growth(runs: usize) {
     println!("nanoseconds a pixel, least, by side: {SIDES:?}");
     for (name, kind) in KINDS {
         println!("picture of {name}");
-        let [pyramids, files, records, back] = by_side(|shape| {
-            let (mut sample, runs) = (GreySample::new(shape, kind), runs_of(runs, shape));
-            let (split, joined) = (sample.way_in(runs), sample.way_back(runs));
-            let recorded = sample.file_to_record(runs);
-            [split, joined, recorded, sample.record_to_file(runs)]
-        });
-        print_growth("to pyramid", "plain C", &pyramids);
-        print_growth("to file", "plain C", &files);
-        print_growth("file to record", "OpenJPEG", &records);
-        print_growth("record to file", "OpenJPEG", &back);
+        let mut samples: Vec<GreySample> = SIDES
+            .iter()
+            .map(|&side| GreySample::new(square(side).expect("each side is legal"), kind))
+            .collect();
+        let mut of_each = |timed: &dyn Fn(&mut GreySample) -> Row| -> Vec<(usize, Row)> {
+            let rows = samples.iter_mut();
+            rows.map(|sample| (sample.shape.area(), timed(sample)))
+                .collect()
+        };
+        let rows = of_each(&|sample| sample.way_in(runs));
+        print_growth("to pyramid", "plain C", &rows);
+        let rows = of_each(&|sample| sample.way_back(runs));
+        print_growth("to file", "plain C", &rows);
+        let rows = of_each(&|sample| sample.file_to_record(runs));
+        print_growth("file to record", "OpenJPEG", &rows);
+        let rows = of_each(&|sample| sample.record_to_file(runs));
+        print_growth("record to file", "OpenJPEG", &rows);
     }
 }
 

@@ -18,7 +18,7 @@ bit_of_requires c κs = search rules
 
 returns : tie.Need-returns
 unfolding bit_at
-returns c = (c.bit_of_lem.ensures, refl)
+returns c = (c.bit-of.ensures, refl)
 
 returns_2 : tie.Need-returns-2
 returns_2 c = (sym (bit_past _ _ (omega arith)), refl)

@@ -4,8 +4,8 @@ use borrow.Author.Rules.{rules}
 use Rattle.record.proofs.read.body.Statement.{statement}
 use Rattle.record.proofs.read.body.Tie as tie
 
-sub_result : tie.Need-overflow-sub-result
-sub_result c = search rules
+sub-result : tie.Need-overflow-sub-result
+sub-result c = search rules
 
 part-result-start : tie.Need-slice-bounds-result-start
 part-result-start c = search rules
@@ -17,4 +17,4 @@ returns : tie.Need-returns
 returns c = search (rules, body_between)
 
 pub body-spec : {M : Type 1} → statement M
-body-spec = tie.close (tie.spec sub_result part-result-start part-result-end returns)
+body-spec = tie.close (tie.spec sub-result part-result-start part-result-end returns)

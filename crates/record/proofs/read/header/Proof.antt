@@ -1,7 +1,6 @@
--- `proofs::header` meets its contract.
-use Rattle.rules.specs.Document.Numbers.{read_header, read_version1, read_version2}
-use Rattle.record.specs.Named.{judged_rest}
-use Rattle.record.proofs.Laws.{head_stop, head_step, version_1, version_2, version_other}
+-- `record::read::header`: the version, then the four other numbers.
+use Rattle.rules.specs.Document.Numbers.{read_header}
+use Rattle.record.proofs.Laws.{head_stop, head_step, version_right, version_wrong}
 use borrow.Author.Rules.{rules}
 use Rattle.record.proofs.read.header.Statement.{statement}
 use Rattle.record.proofs.read.header.Tie as tie
@@ -23,30 +22,12 @@ sizes-requires : tie.Need-sizes-requires
 sizes-requires c κs = search rules
 
 returns_2 : tie.Need-returns-2
-unfolding read_header read_version1 judged_rest
-returns_2 c = search (rules, head_step, version_1)
-
-sizes-requires-2 : tie.Need-sizes-requires-2
-sizes-requires-2 c κs = search rules
+unfolding read_header
+returns_2 c = search (rules, head_step, version_right)
 
 returns-3 : tie.Need-returns-3
-unfolding read_header read_version2 judged_rest
-returns-3 c = search (rules, head_step, version_2)
-
-returns-4 : tie.Need-returns-4
 unfolding read_header
-returns-4 c = search (rules, head_step, version_other)
+returns-3 c = search (rules, head_step, version_wrong)
 
 pub header-spec : {M : Type 1} → statement M
-header-spec =
-    tie.close
-    (tie.spec
-    read-number-requires
-    enum-known-first
-    no-header-value-requires
-    returns
-    sizes-requires
-    returns_2
-    sizes-requires-2
-    returns-3
-    returns-4)
+header-spec = tie.close (tie.spec read-number-requires enum-known-first no-header-value-requires returns sizes-requires returns_2 returns-3)

@@ -1,4 +1,4 @@
--- `proofs::sizes` meets its contract.
+-- `record::read::sizes`: four numbers, each of which may end it, then all judged.
 use Rattle.rules.specs.Document.Numbers.{read_sizes}
 use Rattle.record.proofs.Laws.{head_stop, head_step}
 use borrow.Author.Rules.{rules}
@@ -57,8 +57,8 @@ returns-4 : tie.Need-returns-4
 unfolding read_sizes
 returns-4 c = search (rules, head_stop, head_step)
 
-rest-requires : tie.Need-rest-requires
-rest-requires c κs = search rules
+judged-header-requires : tie.Need-judged-header-requires
+judged-header-requires c κs = search rules
 
 returns-5 : tie.Need-returns-5
 unfolding read_sizes
@@ -66,23 +66,6 @@ returns-5 c = search (rules, head_stop, head_step)
 
 pub sizes-spec : {M : Type 1} → statement M
 sizes-spec =
-    tie.close
-    (tie.spec
-    read-number-requires
-    enum-known-width
-    no-header-value-requires
-    returns
-    read-number-requires-2
-    enum-known-height
-    no-header-value-requires-2
-    returns_2
-    read-number-requires-3
-    enum-known-count
-    no-header-value-requires-3
-    returns-3
-    read-number-requires-4
-    enum-known-depth
-    no-header-value-requires-4
-    returns-4
-    rest-requires
-    returns-5)
+    tie.close (tie.spec read-number-requires enum-known-width no-header-value-requires returns read-number-requires-2 enum-known-height
+    no-header-value-requires-2 returns_2 read-number-requires-3 enum-known-count no-header-value-requires-3 returns-3 read-number-requires-4
+    enum-known-depth no-header-value-requires-4 returns-4 judged-header-requires returns-5)

@@ -10,8 +10,8 @@ body-requires c κs = search rules
 returns : tie.Need-returns
 returns c = search rules
 
-sub_result : tie.Need-overflow-sub-result
-sub_result c = search rules
+sub-result : tie.Need-overflow-sub-result
+sub-result c = search rules
 
 part-result-start : tie.Need-slice-bounds-result-start
 part-result-start c = search rules
@@ -24,4 +24,4 @@ returns_2 c = search (rules, body_cut)
 
 pub there-spec : {M : Type 1} → statement M
 there-spec =
-    tie.close (tie.spec body-requires returns sub_result part-result-start part-result-end returns_2)
+    tie.close (tie.spec body-requires returns sub-result part-result-start part-result-end returns_2)

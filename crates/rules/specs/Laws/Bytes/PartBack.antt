@@ -1,25 +1,21 @@
 -- A header and a part read back, whole or cut.
-use Rattle.std.specs.Prelude.{◌≡◌, cond, ℕ, ◌+◌, ◌-◌, ◌≤◌, ◌<◌, leb, take, drop}
+use Rattle.std.specs.Prelude.{◌≡◌, cond, ℕ, ◌+◌, ◌-◌, ◌*◌, ◌≤◌, ◌<◌, leb, take, drop}
 use Rattle.std.proofs.Math.Path.{refl, ap, sym}
-use Rattle.std.proofs.Common.{◌∙◌, subst, length-drop, length-take, take_all, le-leb}
+use Rattle.std.proofs.Common.{◌∙◌, subst, arith, length-drop, length-take, take_all, le-leb}
 use mathlib.Core.List.{List, [], ◌∷◌, ◌++◌, append_assoc}
 use Rattle.std.proofs.Math.Bool.{true}
-use native.Mathlib.Omega.{arith}
 use Rattle.std.proofs.Math.ListN.{length, length-append}
 use Rattle.std.proofs.Math.Seq.{length-take-le, take_at, take-append-add}
 use Rattle.std.proofs.lemmas.Bool.{lt-leb}
-use Rattle.rules.specs.declared.Merged.{Merged}
-use Rattle.rules.specs.declared.Merged.TheVariants.{Never, From}
 use Rattle.rules.specs.declared.Size.{Size}
 use Rattle.rules.specs.declared.Header.{Header}
 use Rattle.rules.specs.declared.HeaderRead.TheVariants as header
 use Rattle.rules.specs.declared.PartRead.{PartRead}
 use Rattle.rules.specs.declared.PartRead.TheVariants as part
 use Rattle.rules.specs.Document.Notation.{flat}
-use Rattle.rules.specs.Document.Pyramid.{levels_from, most_area, area, most_planes, legal_size, levels}
+use Rattle.rules.specs.Document.Pyramid.{most_area, area, most_planes, legal_size, levels}
 use Rattle.rules.specs.Document.Passes.{PartName}
-use Rattle.rules.specs.Document.Layout.{number_bytes, bytes_for, packed, pad_clear, version_of, merged_numbers, header_numbers, header_bytes, CodedPart}
-use Rattle.rules.specs.Document.Layout.{part_bytes, whole_of, body_of, name_of}
+use Rattle.rules.specs.Document.Layout.{number_bytes, bytes_for, packed, pad_clear, version, header_bytes, CodedPart, part_bytes, whole_of, body_of, name_of}
 use Rattle.rules.specs.Document.Numbers.{read_header, most_bits, legal_head, headed, read_part}
 use Rattle.rules.specs.Promises.Vocabulary.{header_of, head_bytes, part_at, Legal, LegalHead}
 use Rattle.rules.specs.Laws.Family.Sizes.{legal, area_bound}
@@ -35,7 +31,6 @@ use Rattle.rules.specs.Laws.Bytes.BodyBack.{packed_length, packed_clear}
 pub record Small (z : Size) (planes : ℕ) : Type 0 where
   pub width : z.w < too_large
   pub height : z.h < too_large
-  pub depth : z.n < too_large
   pub count : levels z < too_large
   pub planes_few : planes < too_large
   pub bits_few : most_bits z < too_large
@@ -47,34 +42,22 @@ legal_small z planes h l =
     record {
       width = omega (arith, Z.width.most);
       height = omega (arith, Z.height.most);
-      depth = omega (arith, Z.few);
-      count = omega (arith, Z.few, Z.few_levels);
+      count = omega (arith, Z.few);
       planes_few = omega arith;
       bits_few = omega arith;
     }
 
 -- A header.
-header_small : (z : Size) (planes : ℕ) → Small z planes → All (λ v. v < too_large) (header_numbers z planes)
-unfolding header_numbers All
-header_small z planes S = (version z.merged, (S.width, (S.height, (S.depth, (S.planes_few, merged z.merged refl)))))
-  where
-    version : (m : Merged) → version_of m < too_large
-    version Never = unfold version_of in omega arith
-    version (From k) = unfold version_of in omega arith
-
-    merged : (m : Merged) → z.merged ≡ m → All (λ v. v < too_large) (merged_numbers m)
-    merged Never e = unfold merged_numbers All in tt
-    merged (From k) e = unfold merged_numbers All in (unfold levels_from in omega (arith, rw e at S.count), tt)
-
 pub reads_header : (z : Size) (planes : ℕ) (rest : List ℕ) → legal_size z ≡ true → planes ≤ most_planes
     → read_header (header_bytes z planes ++ rest) ≡ header.Header (header_of z planes)
-unfolding header_bytes
+unfolding header_bytes All
 reads_header z planes rest ok l =
+    let S : Small z planes = legal_small z planes ok l in
     let s : List ℕ = header_bytes z planes ++ rest in
     let q : 0 + length (header_bytes z planes) ≡ length (header_bytes z planes) = omega arith in
-    let ns : Numbers s 0 (header_numbers z planes) (0 + length (header_bytes z planes))
-    = numbers_read s 0 _ rest (header_small z planes (legal_small z planes ok l)) refl in
-    header_is s _ (LEGAL (subst (Numbers s 0 (header_numbers z planes)) q ns) (record { size = legal z ok; few = l }))
+    let ns : Numbers s 0 (version ∷ z.w ∷ z.h ∷ z.n ∷ planes ∷ []) (0 + length (header_bytes z planes))
+    = numbers_read s 0 _ rest (omega arith, (S.width, (S.height, (omega (arith, S.count), (S.planes_few, tt))))) refl in
+    header_is s _ (LEGAL (subst (Numbers s 0 (version ∷ z.w ∷ z.h ∷ z.n ∷ planes ∷ [])) q ns) (record { size = legal z ok; few = l }))
 
 -- A part's bytes.
 pub part_length : (p : CodedPart) → length (part_bytes p) ≡ length (head_bytes p) + bytes_for (length p.bits)

@@ -1,29 +1,27 @@
 -- Room that is always enough for a record, as the header and the tool of the archive tell. A part takes at most 11 bits for every 4 coefficients of
 -- its level, so the parts of a plane take at most 11/4 x W x H bits, and those of 17 planes 187/32 x W x H bytes, less than 6 x W x H. There are at
--- most 17 x 9 = 153 parts; a part's head has at most 1 + 1 + 4 bytes and its padding 7 bits; the header has at most 1 + 2 + 2 + 1 + 1 bytes: that is
--- 153 x 55/8 + 7 bytes, 1,059 at most.
-use Rattle.std.specs.Prelude.{◌≡◌, ◌≢◌, ℤ}
-use Rattle.std.proofs.Math.Path.{refl, ap}
+-- most 17 x 6 = 102 parts; a part's head has at most 1 + 1 + 3 bytes and its padding 7 bits; the header has at most 1 + 2 + 2 + 1 + 1 bytes: that is
+-- 102 x 47/8 + 7 bytes, 607 at most.
+use Rattle.std.specs.Prelude.{◌≡◌, refl, ◌≢◌, ℤ}
+use Rattle.std.proofs.Math.Path.{ap}
 use Rattle.std.proofs.Common.{sym, ◌∙◌, subst}
 use mathlib.Core.List.{List, [], ◌∷◌}
-use Prim.Native.Nat.{ℕ, zero, suc, ◌+◌, ◌*◌, ◌≤◌}
+use Prim.Native.Nat.{ℕ, zero, suc, ◌+◌, ◌*◌, ◌≤◌, ◌<◌}
 use native.Mathlib.Omega.{arith}
 use Rattle.std.proofs.Math.Nat.{suc-mul, mul-le-mul, mul-le-mul_right}
 use Rattle.std.proofs.Math.ListN.{length, length-append, length-map}
-use Rattle.rules.specs.declared.Merged.{Merged}
-use Rattle.rules.specs.declared.Merged.TheVariants.{Never, From}
 use Rattle.rules.specs.declared.Size.{Size}
 use Rattle.rules.specs.declared.Verdict.TheVariants.{Accepted}
 use Rattle.rules.specs.declared.Coded.{Coded}
 use Rattle.rules.specs.Document.Notation.{flat}
-use Rattle.rules.specs.Document.Pyramid.{levels_from, area, levels, most_planes, most_magnitude, magnitude, negative}
+use Rattle.rules.specs.Document.Pyramid.{area, levels, most_planes, most_magnitude, magnitude, negative}
 use Rattle.rules.specs.Document.Passes.{PartName, parts_of_plane, part_names, start}
-use Rattle.rules.specs.Document.Layout.{number_bytes, version_of, merged_numbers, header_numbers, header_bytes, CodedPart, part_bytes, planes_in, parts_of}
-use Rattle.rules.specs.Document.Layout.{record_of}
+use Rattle.rules.specs.Document.Layout.{number_bytes, version, header_bytes, CodedPart, part_bytes, planes_in, parts_of, record_of}
 use Rattle.rules.specs.Document.Numbers.{verdict_number}
-use Rattle.rules.specs.Document.Calls.{Result, accepted, work_for, level_places, coding, code_answer, Coding, code_places, AfsCode}
+use Rattle.rules.specs.Document.Calls.{Result, accepted, work_for, coding, code_answer, Coding, code_places, AfsCode}
 use Rattle.rules.specs.Laws.Counting.Sums.{sum, All, all_then, all_both, map_all, sum_append, sum-map, sum_plus, sum_times, sum_le, sum_one, all_of}
-use Rattle.rules.specs.Laws.Family.Sizes.{legal, size_legal, level_start, level_size, span_whole, start_of_fine, level_end_start, size_of_end}
+use Rattle.rules.specs.Laws.Family.Sizes.{legal, size_legal, area_bound, level_start, level_size, span_whole, level_start_fine, level_end_start}
+use Rattle.rules.specs.Laws.Family.Sizes.{level_size_end}
 use Rattle.rules.specs.Promises.Vocabulary.{Legal, Named, Codable, enough_room}
 use Rattle.rules.specs.Laws.Rounding.Planes.{none_over}
 use Rattle.rules.specs.Promises.Refusals.{CodingCase, SIZE, LENGTH, WORK, RANGE, ROOM, CODED}
@@ -31,10 +29,10 @@ use Rattle.rules.specs.Laws.Calls.Cases.{coding_case}
 use Rattle.rules.specs.Laws.Calls.Exports.{afs_code_codes}
 use Rattle.rules.specs.Laws.Offspring.Lawful.{lawful}
 use Rattle.rules.specs.Laws.Offspring.Counts.{level_count_lem}
-use Rattle.rules.specs.Laws.Bytes.Numbers.{number_bytes_one, number_bytes_two, number_bytes_length}
+use Rattle.rules.specs.Laws.Bytes.Numbers.{number_bytes_one, number_bytes_two, number_bytes_three}
 use Rattle.rules.specs.Laws.Reading.Parts.{names_named}
 use Rattle.rules.specs.Laws.State.Parts.{part_names_levels, coded_parts_taken}
-use Rattle.rules.specs.Laws.State.Record.{start_sound}
+use Rattle.rules.specs.Laws.State.Record.{start_sound, parts_of_bits}
 use Rattle.rules.specs.Laws.Bytes.PartBack.{part_length}
 use Rattle.rules.specs.Laws.Calls.Arrived.{this_count, codable_coded}
 use Rattle.rules.specs.Laws.Calls.Whole.{demand2_names}
@@ -48,14 +46,9 @@ flat_length f (x ∷ xs) = omega (arith, length-append (f x) (flat f xs), flat_l
 module _ (z : Size) (Z : Legal z) where
   levels_hold : (n k : ℕ) → k ≤ levels z → sum (λ p. level_size z p.level) (parts_of_plane n k) + level_start z k ≡ area z
   unfolding sum parts_of_plane
-  levels_hold n zero l = omega (arith, start_of_fine z (levels z) 0 Z.some_levels, span_whole z)
+  levels_hold n zero l = omega (arith, level_start_fine z 0 (omega arith), span_whole z)
   levels_hold n (suc k) l =
-      omega (
-        arith,
-        levels_hold n k (omega arith),
-        size_of_end z Z (levels z) Z.some_levels Z.few_levels (suc k) (omega arith) l,
-        level_end_start z (levels z) k (omega arith),
-      )
+      omega (arith, levels_hold n k (omega arith), level_size_end z Z (suc k) (omega arith) l, level_end_start z k (omega arith))
 
   planes_hold : (planes : ℕ) → sum (λ p. level_size z p.level) (part_names (levels z) planes) ≤ planes * area z
   unfolding sum part_names
@@ -80,40 +73,32 @@ names_long top zero = omega arith
 names_long top (suc n) =
     omega (arith, length-append (parts_of_plane n top) (part_names top n), levels_long n top, names_long top n, suc-mul n top)
 
--- The header is 8 bytes at most. A part of b bits is 6 bytes and b / 8 at most, and 7 / 8 for the padding.
+-- The header is 7 bytes at most. A part of b bits is 5 bytes and b / 8 at most, and 7 / 8 for the padding.
 module _ (z : Size) (Z : Legal z) (planes : ℕ) (few : planes ≤ most_planes) where
-  header_room : length (header_bytes z planes) ≤ 8
-  unfolding header_bytes header_numbers sum
+  header_room : length (header_bytes z planes) ≤ 7
+  unfolding header_bytes sum
   header_room =
       omega (
         arith,
-        flat_length number_bytes (header_numbers z planes),
-        version z.merged,
+        flat_length number_bytes (version ∷ z.w ∷ z.h ∷ z.n ∷ planes ∷ []),
+        number_bytes_one version (omega arith),
         number_bytes_two z.w (omega (arith, Z.width.most)),
         number_bytes_two z.h (omega (arith, Z.height.most)),
         number_bytes_one z.n (omega (arith, Z.few)),
         number_bytes_one planes (omega arith),
-        merged z.merged refl,
       )
-    where
-      version : (m : Merged) → length (number_bytes (version_of m)) ≤ 1
-      version Never = unfold version_of in number_bytes_one 1 (omega arith)
-      version (From k) = unfold version_of in number_bytes_one 2 (omega arith)
 
-      merged : (m : Merged) → z.merged ≡ m → sum (λ v. length (number_bytes v)) (merged_numbers m) ≤ 1
-      merged Never e = unfold merged_numbers sum in omega arith
-      merged (From k) e = unfold merged_numbers sum levels_from in omega (arith, number_bytes_one k (omega (arith, rw e at Z.few_levels, Z.few)))
-
-  part_room : (p : CodedPart) → Named (levels z) planes p.name → 8 * length (part_bytes p) ≤ length p.bits + 55
+  part_room : (p : CodedPart) → Named (levels z) planes p.name → length p.bits < 128 * 128 * 128
+      → 8 * length (part_bytes p) ≤ length p.bits + 47
   unfolding sum
-  part_room p n =
+  part_room p n b =
       omega (
         arith,
         part_length p,
         flat_length number_bytes (p.name.plane ∷ p.name.level ∷ length p.bits ∷ []),
         number_bytes_one p.name.plane (omega (arith, n.under)),
         number_bytes_one p.name.level (omega (arith, n.up_to, Z.few)),
-        number_bytes_length (length p.bits),
+        number_bytes_three (length p.bits) b,
       )
 
 module _ {z : Size} {pyramid : List ℤ} (c : Codable z pyramid) where
@@ -133,21 +118,22 @@ module _ {z : Size} {pyramid : List ℤ} (c : Codable z pyramid) where
   unfolding parts_of
   parts_taken =
       all_then _ _ (parts_of z pyramid)
-      (λ p t. omega (arith, t.0, level_count_lem z Z p.name.level t.1.from1 t.1.up_to))
+      (λ p t. omega (arith, t.0, level_count_lem z p.name.level t.1.from1 t.1.up_to))
       (all_both _ _ (parts_of z pyramid)
       (coded_parts_taken (lawful z Z) (magnitude pyramid) (negative pyramid) (part_names (levels z) planes) (part_names_levels (levels z) planes)
       (start z) (start_sound z Z))
       parts_named)
 
   -- one part, in thirty-seconds of a byte: what its level has of coefficients, and what it takes besides
-  each_room : All (λ p. 32 * length (part_bytes p) ≤ 11 * level_size z p.name.level + 220) (parts_of z pyramid)
+  each_room : All (λ p. 32 * length (part_bytes p) ≤ 11 * level_size z p.name.level + 188) (parts_of z pyramid)
   each_room =
       all_then _ _ (parts_of z pyramid)
-      (λ p t. omega (arith, t.0, part_room z Z planes (this_count c).few p t.1))
-      (all_both _ _ (parts_of z pyramid) parts_taken parts_named)
+      (λ p t. let b : length p.bits < 128 * 128 * 128 = omega (arith, t.1.1, area_bound z c.legal_size_lem) in
+      omega (arith, t.0, part_room z Z planes (this_count c).few p t.1.0 b))
+      (all_both _ _ (parts_of z pyramid) parts_taken (all_both _ _ (parts_of z pyramid) parts_named (parts_of_bits z Z pyramid)))
 
-  -- all parts: 11/32 of a byte for each coefficient of each plane, and 220/32 of a byte for each part
-  parts_room : 32 * length (flat part_bytes (parts_of z pyramid)) ≤ 11 * (planes * area z) + 220 * (planes * levels z)
+  -- all parts: 11/32 of a byte for each coefficient of each plane, and 188/32 of a byte for each part
+  parts_room : 32 * length (flat part_bytes (parts_of z pyramid)) ≤ 11 * (planes * area z) + 188 * (planes * levels z)
   unfolding parts_of
   parts_room =
       let ps : List CodedPart = parts_of z pyramid in
@@ -156,10 +142,10 @@ module _ {z : Size} {pyramid : List ℤ} (c : Codable z pyramid) where
         arith,
         flat_length part_bytes ps,
         sum_times 32 (λ p. length (part_bytes p)) ps,
-        sum_le (λ p. 32 * length (part_bytes p)) (λ p. 11 * n p.name + 220) ps each_room,
-        sum_plus (λ p. 11 * n p.name) (λ p. 220) ps,
+        sum_le (λ p. 32 * length (part_bytes p)) (λ p. 11 * n p.name + 188) ps each_room,
+        sum_plus (λ p. 11 * n p.name) (λ p. 188) ps,
         sum_times 11 (λ p. n p.name) ps,
-        sum_times 220 (λ p. 1) ps,
+        sum_times 188 (λ p. 1) ps,
         sum_one (λ p. 1) ps (all_of _ ps (λ p. refl)),
         sum-map n (λ p. p.name) ps,
         ap (sum n) (demand2_names z planes pyramid),
@@ -179,7 +165,7 @@ module _ {z : Size} {pyramid : List ℤ} (c : Codable z pyramid) where
         header_room z Z planes (this_count c).few,
         parts_room,
         mul-le-mul_right {m = planes} {n = most_planes} (area z) (this_count c).few,
-        mul-le-mul {n₁ = planes} {m₁ = levels z} {n₂ = most_planes} {m₂ = level_places} (this_count c).few (omega (arith, Z.few, Z.few_levels)),
+        mul-le-mul {n₁ = planes} {m₁ = levels z} {n₂ = most_planes} {m₂ = 6} (this_count c).few (omega (arith, Z.few)),
       )
 
 -- So with that much room coding never answers 5, whatever the pyramid and the size; nor does its export, with places for its answer.
@@ -191,7 +177,7 @@ room_found l (LENGTH Z n) = λ e. omega arith
 room_found l (WORK Z L k) = λ e. omega arith
 room_found l (RANGE Z L K f) = λ e. omega arith
 room_found {pyramid} {z} l (ROOM Z L K R s) =
-    λ e. omega (arith, record_room (record { legal_size_lem = size_legal z Z; sized = L; in_range_lem = none_over most_magnitude pyramid R }))
+    λ e. omega (arith, record_room (record { legal_size_lem = size_legal z Z; sized = L; in_range = none_over most_magnitude pyramid R }))
 room_found l (CODED Z L K R s) = λ e. omega arith
 
 pub coding_room : {pyramid : List ℤ} {z : Size} {out work : List ℕ} {answer : Coded} {out' work' : List ℕ}

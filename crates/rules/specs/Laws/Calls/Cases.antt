@@ -20,14 +20,13 @@ use Rattle.rules.specs.Document.Pyramid.{legal_size, area, family, most_magnitud
 use Rattle.rules.specs.Document.Passes.{Course, Reader, State, PartName, start, after, decoded}
 use Rattle.rules.specs.Document.Layout.{record_of, bit_at, body_of, bits_there, name_of, usable}
 use Rattle.rules.specs.Document.Numbers.{read_header, Ending, tail, fault, Reading, read_parts, behind_from, behind, top_level}
-use Rattle.rules.specs.Document.Calls.{Result, unless, work_for, first_over, fitted, coding, on_header, on_ending, legal_ask, selected_bytes, Portion}
-use Rattle.rules.specs.Document.Calls.{portioned}
+use Rattle.rules.specs.Document.Calls.{Result, unless, work_for, first_over, fitted, coding, on_header, on_ending, legal_ask, served_bytes, Portion}
+use Rattle.rules.specs.Document.Calls.{portioned, serving}
 use Rattle.rules.specs.Document.Calls.{Progress, going, unfit, used, onward, decode_parts, used_cut, tail_onward, Picture, pictured, decoded_parts}
 use Rattle.rules.specs.Document.Calls.{accepted, reached_planes, skipped_counts, decoding}
 use Rattle.rules.specs.Laws.Counting.Booleans.{clash, both_left, both_right, not_test}
 use Rattle.rules.specs.Laws.Family.Sizes.{legal, size_legal}
-use Rattle.rules.specs.Promises.Vocabulary.{Legal, Usable, Request}
-use Rattle.rules.specs.Laws.Serving.Requests.{serving_for}
+use Rattle.rules.specs.Promises.Vocabulary.{Legal, Usable}
 use Rattle.rules.specs.Laws.Reading.Usable.{usable_every, every_usable}
 use Rattle.rules.specs.Laws.Rounding.Planes.{under_first, first_over_lem, none_over, over_first}
 use Rattle.rules.specs.Laws.Reading.Stands.{read_header_stands, header_within}
@@ -35,7 +34,7 @@ use Rattle.rules.specs.Laws.Calls.Results.{unless_case, on_header_case, on_endin
 use Rattle.rules.specs.Laws.Reading.PartCases.{failed, header_case, header_is, part_is}
 use Rattle.rules.specs.Laws.Reading.Walk.{parts_case, parts_is}
 use Rattle.rules.specs.Promises.Refusals.{InRange, LegalAsk, HeaderCase, Parts, FirstUnfit, CodingCase, SIZE, LENGTH, WORK, RANGE, ROOM, CODED}
-use Rattle.rules.specs.Promises.Refusals.{RequestCase, HEADER, ASK, PARTS, SERVED, DecodingCase, FIT, CUT-FIT, DECODED}
+use Rattle.rules.specs.Promises.Refusals.{ServingCase, HEADER, ASK, PARTS, SERVED, DecodingCase, FIT, CUT-FIT, DECODED}
 use Rattle.rules.specs.Promises.Refusals.{Walk, MORE, FAULT, Fitting, CutUsable, cut_course, TailCase, UNUSED, USED}
 
 -- Coding.
@@ -79,7 +78,7 @@ module _ (pyramid : List ℤ) (z : Size) (room work : ℕ) where
 
 -- Serving.
 module _ (h : Header) (r p : ℕ) where
-  pub ask_legal : legal_ask h r p ≡ true → LegalAsk h r p
+  ask_legal : legal_ask h r p ≡ true → LegalAsk h r p
   unfolding legal_ask
   ask_legal e =
       let a : leb 1 r && leb r (top_level h) ≡ true = both_left _ _ e in
@@ -89,7 +88,7 @@ module _ (h : Header) (r p : ℕ) where
         plane = leb-true _ _ (both_right (leb 1 r && leb r (top_level h)) _ e);
       }
 
-  pub legal_ask_lem : LegalAsk h r p → legal_ask h r p ≡ true
+  legal_ask_lem : LegalAsk h r p → legal_ask h r p ≡ true
   unfolding legal_ask
   legal_ask_lem l = rw (le-leb 1 r l.from1, le-leb r (top_level h) l.up_to, le-leb p h.planes l.plane)
 
@@ -105,33 +104,31 @@ module _ (s : List ℕ) where
       → read_parts h s ≡ record { parts = ps; ending = e }
   parts_of_lem h ps e c w = parts_is h s ps e (header_within (read_header_stands s h (header_is s _ c))) w
 
--- Of a request whose legality is known as a statement.
-module _ (Asked : Header → Type 0) (q : Request) (asks : (h : Header) → q.legal h ≡ true → Asked h) (Asks-back : (h : Header) → Asked h → q.legal h ≡ true)
-    (s : List ℕ) (room : ℕ) where
+module _ (s : List ℕ) (r p room : ℕ) where
   abbrev Serves : Result Portion → Type 0
-  Serves = RequestCase Asked q.asks s room
+  Serves = ServingCase s r p room
 
-  pub request_case : RequestCase Asked q.asks s room (serving_for q s room)
-  unfolding serving_for portioned
-  request_case =
+  pub serving_case : ServingCase s r p room (serving s r p room)
+  unfolding serving portioned
+  serving_case =
       on_header_case Serves (read_header s) _ (λ why e. HEADER (header_of_lem s _ e)) (λ h e.
       let H : HeaderCase s (header.Header h) = header_of_lem s _ e in
-      unless_case Serves (q.legal h) refusal.Ask _ (λ e. ASK H (failed _ (Asks-back h) e)) (λ e.
-      let A : Asked h = asks h e in
+      unless_case Serves (legal_ask h r p) refusal.Ask _ (λ e. ASK H (failed _ (legal_ask_lem h r p) e)) (λ e.
+      let A : LegalAsk h r p = ask_legal h r p e in
       on_ending_case Serves (read_parts h s).ending _ (λ why e. PARTS H A (parts_to s h _ e)) (λ t e.
       let W : Parts h s (read_parts h s).parts (tail t) = parts_to s h _ e in
-      unless_case Serves (leb (length (selected_bytes h s q.asks (read_parts h s).parts)) room) refusal.Room _ (λ e. ROOM H A W (leb-false _ _ e))
+      unless_case Serves (leb (length (served_bytes h s r p (read_parts h s).parts)) room) refusal.Room _ (λ e. ROOM H A W (leb-false _ _ e))
       (λ e. SERVED H A W (leb-true _ _ e)))))
 
-  pub request_is : (x : Result Portion) → RequestCase Asked q.asks s room x → serving_for q s room ≡ x
-  unfolding serving_for portioned unless on_header on_ending
-  request_is x (HEADER c) = rw (header_is s _ c)
-  request_is x (ASK {h = h} c n) = rw (header_is s _ c, not_test (q.legal h) (λ e. n (asks h e)))
-  request_is x (PARTS {h = h} {ps = ps} {why = why} c a w) = rw (header_is s _ c, Asks-back h a, parts_of_lem s h ps (fault why) c w)
-  request_is x (ROOM {h = h} {ps = ps} {t = t} c a w l) =
-      rw (header_is s _ c, Asks-back h a, parts_of_lem s h ps (tail t) c w, lt-leb (length (selected_bytes h s q.asks ps)) room l)
-  request_is x (SERVED {h = h} {ps = ps} {t = t} c a w l) =
-      rw (header_is s _ c, Asks-back h a, parts_of_lem s h ps (tail t) c w, le-leb (length (selected_bytes h s q.asks ps)) room l)
+  pub serving_is : (x : Result Portion) → ServingCase s r p room x → serving s r p room ≡ x
+  unfolding serving portioned unless on_header on_ending
+  serving_is x (HEADER c) = rw (header_is s _ c)
+  serving_is x (ASK {h = h} c n) = rw (header_is s _ c, not_test (legal_ask h r p) (λ e. n (ask_legal h r p e)))
+  serving_is x (PARTS {h = h} {ps = ps} {why = why} c a w) = rw (header_is s _ c, legal_ask_lem h r p a, parts_of_lem s h ps (fault why) c w)
+  serving_is x (ROOM {h = h} {ps = ps} {t = t} c a w l) =
+      rw (header_is s _ c, legal_ask_lem h r p a, parts_of_lem s h ps (tail t) c w, lt-leb (length (served_bytes h s r p ps)) room l)
+  serving_is x (SERVED {h = h} {ps = ps} {t = t} c a w l) =
+      rw (header_is s _ c, legal_ask_lem h r p a, parts_of_lem s h ps (tail t) c w, le-leb (length (served_bytes h s r p ps)) room l)
 
 -- Decoding: the parts one after the other, up to the first that does not fit.
 module _ (h : Header) (s : List ℕ) (there : List PartName) where

@@ -11,11 +11,9 @@ use Rattle.rules.specs.declared.Decoded.{Decoded}
 use Rattle.rules.specs.Document.Notation.{zeros}
 use Rattle.rules.specs.Document.Passes.{from}
 use Rattle.rules.specs.Document.Numbers.{verdict_number}
-use Rattle.rules.specs.Document.Calls.{Result, code_out, coding, decoding, filled, code_answer, serve_answer, decode_answer, Coding, Serving}
-use Rattle.rules.specs.Document.Calls.{Decoding, code_numbers, serve_numbers, decode_numbers, code_places, serve_places, decode_places, returned, reported}
+use Rattle.rules.specs.Document.Calls.{coding, serving, decoding, filled, code_answer, serve_answer, decode_answer, Coding, Serving, Decoding}
+use Rattle.rules.specs.Document.Calls.{code_numbers, serve_numbers, decode_numbers, code_places, serve_places, decode_places, returned, reported}
 use Rattle.rules.specs.Document.Calls.{lent_out, AfsCode, AfsServe, AfsDecode}
-use Rattle.rules.specs.Promises.Vocabulary.{Request}
-use Rattle.rules.specs.Laws.Serving.Requests.{serving_for, ServingFor, AfsServingFor, for_routine, export_for}
 
 -- "A slice shorter than the answer gives 5 before any other check, with that slice and the output all 0." In one that is long
 -- enough stands the routine's answer, the rest 0, and its number is returned.
@@ -37,30 +35,21 @@ module _ {pyramid : List ℤ} {z : Size} {out work answer : List ℕ} {number : 
       let a : Coded = code_answer (coding pyramid z (length out) (length work)) in
       (a, record { answers = refl; writes = x.writes ∙ rw e; clears = x.clears }, x.returns ∙ rw e, x.reports ∙ rw e)
 
-module _ {q : Request} {s out answer : List ℕ} {number : ℕ} {out' answer' : List ℕ} (x : AfsServingFor q s out answer number out' answer') where
-  pub export_short : length answer < serve_places → (number ≡ 5) × (out' ≡ zeros (length out)) × (answer' ≡ zeros (length answer))
-  unfolding returned reported lent_out
-  export_short l =
-      let e : leb serve_places (length answer) ≡ false = lt-leb serve_places (length answer) l in
-      (x.returns ∙ rw e, x.writes ∙ rw e, x.reports ∙ rw e)
-
-  pub export_serves : serve_places ≤ length answer
-      → (a : Served) × ServingFor q s out a out' × (number ≡ verdict_number a.verdict)
-      × (answer' ≡ serve_numbers a ++ zeros (length answer - serve_places))
-  unfolding returned reported lent_out filled serve_numbers
-  export_serves l =
-      let e : leb serve_places (length answer) ≡ true = le-leb serve_places (length answer) l in
-      (serve_answer (serving_for q s (length out)), record { answers = refl; writes = x.writes ∙ rw e }, x.returns ∙ rw e, x.reports ∙ rw e)
-
 module _ {s : List ℕ} {r p : ℕ} {out answer : List ℕ} {number : ℕ} {out' answer' : List ℕ}
     (x : AfsServe s r p out answer number out' answer') where
   pub afs_serve_short : length answer < serve_places → (number ≡ 5) × (out' ≡ zeros (length out)) × (answer' ≡ zeros (length answer))
-  afs_serve_short = export_short (export_for x)
+  unfolding returned reported lent_out
+  afs_serve_short l =
+      let e : leb serve_places (length answer) ≡ false = lt-leb serve_places (length answer) l in
+      (x.returns ∙ rw e, x.writes ∙ rw e, x.reports ∙ rw e)
 
   pub afs_serve_serves : serve_places ≤ length answer
       → (a : Served) × Serving s r p out a out' × (number ≡ verdict_number a.verdict)
       × (answer' ≡ serve_numbers a ++ zeros (length answer - serve_places))
-  afs_serve_serves l = let c = export_serves (export_for x) l in (c.0, for_routine c.1, c.2, c.3)
+  unfolding returned reported lent_out filled serve_numbers
+  afs_serve_serves l =
+      let e : leb serve_places (length answer) ≡ true = le-leb serve_places (length answer) l in
+      (serve_answer (serving s r p (length out)), record { answers = refl; writes = x.writes ∙ rw e }, x.returns ∙ rw e, x.reports ∙ rw e)
 
 module _ {s : List ℕ} {out : List ℤ} {work answer : List ℕ} {number : ℕ} {out' : List ℤ} {work' answer' : List ℕ}
     (x : AfsDecode s out work answer number out' work' answer') where
@@ -79,21 +68,3 @@ module _ {s : List ℕ} {out : List ℤ} {work answer : List ℕ} {number : ℕ}
       let e : leb decode_places (length answer) ≡ true = le-leb decode_places (length answer) l in
       let a : Decoded = decode_answer (decoding s (length out) (length work)) in
       (a, record { answers = refl; writes = x.writes ∙ rw e; clears = x.clears }, x.returns ∙ rw e, x.reports ∙ rw e)
-
--- A call that answers as coding does, and has no workspace, whatever it comes to.
-module _ (y : Result (List ℕ)) (out answer : List ℕ) (number : ℕ) (out' answer' : List ℕ)
-    (returns : number ≡ returned code_places answer (code_numbers (code_answer y)))
-    (reports : answer' ≡ reported code_places answer (code_numbers (code_answer y)))
-    (writes : out' ≡ lent_out code_places answer (code_out (length out) y) (zeros (length out))) where
-  pub coded_short : length answer < code_places → (number ≡ 5) × (out' ≡ zeros (length out)) × (answer' ≡ zeros (length answer))
-  unfolding returned reported lent_out
-  coded_short l =
-      let e : leb code_places (length answer) ≡ false = lt-leb code_places (length answer) l in
-      (returns ∙ rw e, writes ∙ rw e, reports ∙ rw e)
-
-  pub coded_long : code_places ≤ length answer → (out' ≡ code_out (length out) y) × (number ≡ verdict_number (code_answer y).verdict)
-      × (answer' ≡ code_numbers (code_answer y) ++ zeros (length answer - code_places))
-  unfolding returned reported lent_out filled code_numbers
-  coded_long l =
-      let e : leb code_places (length answer) ≡ true = le-leb code_places (length answer) l in
-      (writes ∙ rw e, returns ∙ rw e, reports ∙ rw e)

@@ -1,7 +1,7 @@
 -- For Promises/Memory, a law for each field. Each call is led back to `coding`, `serving` or `decoding`, an export by way of its routine; what arrived reads as
 -- the parts that are whole in it; and then demands 2 and 3 say the rest.
 use Rattle.std.specs.Prelude.{◌≡◌, Bool, true, false, cond, ◌&&◌, get_or, drop, replicate, ℤ}
-use Rattle.std.proofs.Math.Path.{refl, ap, ap₂, sym, subst, subst₂, fun_ext}
+use Rattle.std.proofs.Math.Path.{refl, ap, ap₂, sym, subst, subst₂}
 use Rattle.std.proofs.Common.{◌∙◌, ⊎_elim, ext_get_or}
 use mathlib.Core.List.{List, [], ◌∷◌, ◌++◌, map}
 use Prim.Native.Nat.{ℕ, ◌+◌, ◌-◌, ◌≤◌, ◌<◌}
@@ -19,34 +19,31 @@ use Rattle.rules.specs.declared.Decoded.{Decoded}
 use Rattle.rules.specs.declared.Header.{Header}
 use Rattle.rules.specs.declared.HeaderRead.TheVariants as header
 use Rattle.rules.specs.Document.Notation.{flat, zeros}
-use Rattle.rules.specs.Document.Pyramid.{area, levels, part_level, most_planes, legal_size}
+use Rattle.rules.specs.Document.Pyramid.{area, levels, level_of, most_planes, legal_size}
 use Rattle.rules.specs.Document.Passes.{PartName, from}
 use Rattle.rules.specs.Document.Layout.{CodedPart, parts_with, record_with, planes_in, record_of, header_bytes, part_bytes, packed, body_of, name_of, reached}
 use Rattle.rules.specs.Document.Numbers.{verdict_number, verdict_place, read_header, read_parts, headed}
-use Rattle.rules.specs.Document.Calls.{work_for, unless, legal_ask, asked, kept_by, portioned, Result, refused, accepted, Portion, Picture, coding, decoding}
+use Rattle.rules.specs.Document.Calls.{work_for, unless, legal_ask, portioned, Result, refused, accepted, Portion, Picture, coding, serving, decoding}
 use Rattle.rules.specs.Document.Calls.{filled, code_out, code_answer, serve_out, serve_answer, decode_out, decode_answer, code_numbers, serve_numbers}
 use Rattle.rules.specs.Document.Calls.{decode_numbers, code_places, serve_places, decode_places, level_places, plane_in, count_in, Coding, Serving, Decoding}
 use Rattle.rules.specs.Document.Calls.{AfsCode, AfsServe, AfsDecode}
 use Rattle.rules.specs.Laws.Counting.Sums.{flat_append}
 use Rattle.rules.specs.Laws.Family.Sizes.{legal}
-use Rattle.rules.specs.Laws.Offspring.Level.{part_most_lem, part_least}
+use Rattle.rules.specs.Laws.Offspring.Level.{level_most, level_least}
 use Rattle.rules.specs.Laws.Reading.Usable.{loss_shows}
-use Rattle.rules.specs.Laws.Calls.Exports.{afs_code_short, afs_code_codes, export_short, export_serves, afs_serve_serves, afs_decode_decodes}
+use Rattle.rules.specs.Laws.Calls.Exports.{afs_code_short, afs_code_codes, afs_serve_short, afs_serve_serves, afs_decode_decodes}
 use Rattle.rules.specs.Laws.Bytes.Room.{coding_accepts}
 use Rattle.rules.specs.Laws.Calls.Results.{number_accepts}
 use Rattle.rules.specs.Laws.Counting.Booleans.{selection_both}
 use Rattle.rules.specs.Laws.Bytes.BodyBack.{packed_length, packed_clear, packed_bit, first_length, body_bit}
 use Rattle.rules.specs.Promises.Vocabulary.{bits_from, header_of, part_at, selection, record_bytes, Codable, PlaneCount, Stated, enough_room, names, kept}
-use Rattle.rules.specs.Promises.Vocabulary.{Request, whole_in, tail_in, cut_in, arrived, RoundedAt, Rounded, ReadsAs, parts_in, Selected, whole_parts}
+use Rattle.rules.specs.Promises.Vocabulary.{asked, whole_in, tail_in, cut_in, arrived, RoundedAt, Rounded, ReadsAs, parts_in, kept_in, Selected, whole_parts}
 use Rattle.rules.specs.Promises.Vocabulary.{cut_bytes, cut_parts, Recorded, Serves, Decodes, planes_told, planes_answered, counts_told, counts_answered}
-use Rattle.rules.specs.Promises.Vocabulary.{NoWorse}
 use Rattle.rules.specs.Laws.Bytes.PartBack.{part_body}
 use Rattle.rules.specs.Laws.Bytes.RecordBack.{before_all, parts_map}
 use Rattle.rules.specs.Laws.Rounding.Arrival.{header_read, parts_stand, AllThere, CutIn, all_or_cut, arrived_reads, arrived_selection, legal_order}
-use Rattle.rules.specs.Laws.Rounding.MoreBytes.{arrived_no_worse}
 use Rattle.rules.specs.Laws.Rounding.Run.{map_from, map_length, blank_same, kept_legal}
-use Rattle.rules.specs.Laws.Serving.Requests.{serving_for, ServingFor, AfsServingFor, routine_for, export_for}
-use Rattle.rules.specs.Laws.Serving.Parts.{kept_wholes, reads_for, read_for}
+use Rattle.rules.specs.Laws.Serving.Parts.{kept_wholes, serves_read, served_read}
 use Rattle.rules.specs.Laws.Calls.Arrived.{coding_codable, this_count, demand3, printed_near}
 use Rattle.rules.specs.Laws.Calls.Whole.{demand2_names, demand2_record, demand2_whole}
 
@@ -79,14 +76,14 @@ module _ {z : Size} {planes : ℕ} {ps : List CodedPart} {cut : ℕ} {bytes : Li
 
   -- What is made of them is what arrives of these parts.
   made_arrived : (keep : PartName → Bool) (n : ℕ)
-      → take (front + n) (take front bytes ++ flat (kept_by bytes keep) (read_parts (header_of z planes) bytes).parts) ≡ arrived z planes (kept keep ps) n
+      → take (front + n) (take front bytes ++ flat (kept_in keep bytes) (read_parts (header_of z planes) bytes).parts) ≡ arrived z planes (kept keep ps) n
   unfolding arrived
   made_arrived keep n =
       let head : take front bytes ≡ header_bytes z planes
       = ap (take front) r.stand ∙ take-append_seam (header_bytes z planes) (flat part_bytes ps ++ r.rest) in
-      let some : flat (kept_by bytes keep) (read_parts (header_of z planes) bytes).parts ≡ flat part_bytes (kept keep ps)
-      = ap (λ y. flat (kept_by bytes keep) y.parts) r.parts_read
-      ∙ kept_wholes keep bytes front ps r.rest (parts_stand r) in
+      let some : flat (kept_in keep bytes) (read_parts (header_of z planes) bytes).parts ≡ flat part_bytes (kept keep ps)
+      = ap (λ y. flat (kept_in keep bytes) y.parts) r.parts_read
+      ∙ kept_wholes keep bytes (kept_in keep bytes) (λ q. unfold kept_in in refl) front ps r.rest (parts_stand r) in
       ap₂ (λ x y. take (front + n) (x ++ y)) head some
 
   module _ (ok : legal_size z ≡ true) (few : planes ≤ most_planes) where
@@ -97,7 +94,7 @@ module _ {z : Size} {planes : ℕ} {ps : List CodedPart} {cut : ℕ} {bytes : Li
       selected_arrived : s ≡ arrived z planes (kept x.keep ps) x.more
       selected_arrived =
           x.made
-          ∙ ap (λ h. take (h.end + x.more) (take h.end bytes ++ flat (kept_by bytes x.keep) (read_parts h bytes).parts)) (head_is x.head x.read)
+          ∙ ap (λ h. take (h.end + x.more) (take h.end bytes ++ flat (kept_in x.keep bytes) (read_parts h bytes).parts)) (head_is x.head x.read)
           ∙ made_arrived x.keep x.more
 
       selected_parts : parts_in x.head bytes ≡ ps
@@ -110,7 +107,7 @@ record_stands bytes room =
     let rest : List ℕ = zeros (room - length bytes) in
     (take-append_seam bytes rest, omega (arith, length-append bytes rest))
 
-pub coded_stands : (room : ℕ) (y : Result (List ℕ)) → (code_answer y).verdict ≡ Accepted
+coded_stands : (room : ℕ) (y : Result (List ℕ)) → (code_answer y).verdict ≡ Accepted
     → (y ≡ accepted (take (code_answer y).length (code_out room y))) × ((code_answer y).length ≤ length (code_out room y))
 unfolding code_answer code_out
 coded_stands room (refused r) e = absurd (let z : ◌≡◌ {A = ℕ} 0 1 = cc in omega arith)
@@ -159,20 +156,17 @@ module _ {z : Size} {planes : ℕ} {pyramid : List ℤ} {bytes : List ℕ} (w : 
   abbrev c : Codable z pyramid
   c = w.codable
 
-  pub recorded_reads : ReadsAs z planes (parts_with z planes pyramid) 0 bytes
+  recorded_reads : ReadsAs z planes (parts_with z planes pyramid) 0 bytes
   recorded_reads = subst (ReadsAs z planes (parts_with z planes pyramid) 0) (sym w.its_bytes) (demand2_record c w.count)
 
   module _ {s : List ℕ} (x : Selected bytes s) where
     abbrev some : List CodedPart
     some = kept x.keep (parts_with z planes pyramid)
 
-    pub s_is : s ≡ arrived z planes (kept x.keep (parts_with z planes pyramid)) x.more
+    s_is : s ≡ arrived z planes some x.more
     s_is = selected_arrived recorded_reads c.legal_size_lem w.count.few x
 
-    pub head_of : x.head ≡ header_of z planes
-    head_of = head_is recorded_reads c.legal_size_lem w.count.few x.head x.read
-
-    pub whole_is : whole_parts x ≡ whole_in x.more (kept x.keep (parts_with z planes pyramid))
+    whole_is : whole_parts x ≡ whole_in x.more some
     whole_is = ap (λ ps. whole_in x.more (kept x.keep ps)) (selected_parts recorded_reads c.legal_size_lem w.count.few x)
 
     cut_parts_are : cut_parts x ≡ cut_in x.more some
@@ -230,49 +224,23 @@ all_there ps = ⊎_elim (λ a. a) none (all_or_cut (length (flat part_bytes ps))
           length-append (part_bytes c.q) (flat part_bytes c.later),
         ))
 
--- The record of those of its parts that a test keeps is a selection of it, and nothing of it is cut.
-module _ {z : Size} {planes : ℕ} {pyramid : List ℤ} {bytes : List ℕ} (w : Recorded z planes pyramid bytes) (keep : PartName → Bool) where
-  abbrev some_of : List CodedPart
-  some_of = kept keep (parts_in (header_of z planes) bytes)
-
-  pub kept_selected : Selected bytes (record_bytes z planes (kept keep (parts_in (header_of z planes) bytes)))
-  unfolding arrived
-  kept_selected =
-      let n : ℕ = length (flat part_bytes some_of) in
-      let front : ℕ = length (header_bytes z planes) in
-      let reads : ReadsAs z planes (parts_in (header_of z planes) bytes) 0 bytes
-      = subst (λ ps. ReadsAs z planes ps 0 bytes) (sym w.its_parts) (recorded_reads w) in
-      let all : take (front + n) (record_bytes z planes some_of) ≡ record_bytes z planes some_of
-      = take_all (front + n) (record_bytes z planes some_of) (omega (arith, length-append (header_bytes z planes) (flat part_bytes some_of))) in
-      record {
-        head = header_of z planes;
-        read = w.its_header;
-        keep = keep;
-        more = n;
-        made = sym all ∙ sym (made_arrived reads keep n);
-      }
-
-  pub kept_whole : (whole_parts kept_selected ≡ kept keep (parts_in (header_of z planes) bytes)) × (cut_parts kept_selected ≡ []) × (cut_bytes kept_selected ≡ 0)
-  unfolding kept_selected
-  kept_whole = let a = all_there some_of in (a.parts, a.uncut, a.none)
-
-module _ {q : Request} {s out : List ℕ} {answer : Served} {out' : List ℕ} (v : ServingFor q s out answer out')
+module _ {s : List ℕ} {r p : ℕ} {out : List ℕ} {answer : Served} {out' : List ℕ} (v : Serving s r p out answer out')
     (e : answer.verdict ≡ Accepted) where
   abbrev portion : Portion
   portion = record { bytes = take answer.length out'; tail = answer.tail }
 
-  pub served_wrote : (serving_for q s (length out) ≡ accepted portion) × (answer.length ≤ length out')
-  served_wrote =
-      let y : Result Portion = serving_for q s (length out) in
+  pub serving_wrote : (serving s r p (length out) ≡ accepted portion) × (answer.length ≤ length out')
+  serving_wrote =
+      let y : Result Portion = serving s r p (length out) in
       subst₂ (λ (a : Served) o. (y ≡ accepted (record { bytes = take a.length o; tail = a.tail })) × (a.length ≤ length o))
       (sym v.answers) (sym v.writes) (served_stands (length out) y (ap (λ a. a.verdict) (sym v.answers) ∙ e))
 
   module _ {z : Size} {planes : ℕ} {pyramid : List ℤ} {bytes : List ℕ} (w : Recorded z planes pyramid bytes) (x : Selected bytes s) where
     abbrev ask : List CodedPart
-    ask = kept q.asks (whole_parts x)
+    ask = kept (asked r p) (whole_parts x)
 
     serving_is : record { bytes = record_bytes z planes ask; tail = cut_bytes x } ≡ portion
-    serving_is = read_for (selected_reads w x) w.codable.legal_size_lem w.count.few q (length out) portion served_wrote.0
+    serving_is = served_read (selected_reads w x) w.codable.legal_size_lem w.count.few r p (length out) portion serving_wrote.0
 
     served_selected : Selected s (take answer.length out')
     unfolding arrived
@@ -284,33 +252,24 @@ module _ {q : Request} {s out : List ℕ} {answer : Served} {out' : List ℕ} (v
         record {
           head = header_of z planes;
           read = header_read (selected_reads w x) w.codable.legal_size_lem w.count.few;
-          keep = q.asks;
+          keep = asked r p;
           more = length (flat part_bytes ask);
           made =
-              ap (λ y. y.bytes) (sym serving_is) ∙ sym all ∙ sym (made_arrived (selected_reads w x) q.asks (length (flat part_bytes ask)));
+              ap (λ y. y.bytes) (sym serving_is) ∙ sym all ∙ sym (made_arrived (selected_reads w x) (asked r p) (length (flat part_bytes ask)));
         }
 
-    pub served_serves : Serves x q.asks (take answer.length out') answer.tail
+    pub serving_serves : Serves x r p (take answer.length out') answer.tail
     unfolding served_selected
-    served_serves =
+    serving_serves =
         let again = selected_again w x served_selected in
         let parts : parts_in (header_of z planes) s ≡ whole_parts x = parts_in_lem (selected_reads w x) in
         let n : ℕ = length (flat part_bytes ask) in
         record {
           again = again.0;
-          parts = again.1 ∙ ap (λ ps. whole_in n (kept q.asks ps)) parts ∙ (all_there ask).parts;
-          uncut = again.2 ∙ ap (λ ps. tail_in n (kept q.asks ps)) parts ∙ (all_there ask).none;
+          parts = again.1 ∙ ap (λ ps. whole_in n (kept (asked r p) ps)) parts ∙ (all_there ask).parts;
+          uncut = again.2 ∙ ap (λ ps. tail_in n (kept (asked r p) ps)) parts ∙ (all_there ask).none;
           told = sym (ap (λ y. y.tail) serving_is);
         }
-
-module _ {s : List ℕ} {r p : ℕ} {out : List ℕ} {answer : Served} {out' : List ℕ} (v : Serving s r p out answer out')
-    (e : answer.verdict ≡ Accepted) where
-  pub serving_wrote : answer.length ≤ length out'
-  serving_wrote = (served_wrote (routine_for v) e).1
-
-  pub serving_serves : {z : Size} {planes : ℕ} {pyramid : List ℤ} {bytes : List ℕ} → Recorded z planes pyramid bytes → (x : Selected bytes s)
-      → Serves x (asked r p) (take answer.length out') answer.tail
-  serving_serves w x = served_serves (routine_for v) e w x
 
 -- With a legal request, and room for as much as there is, it is served.
 kept_fewer : (keep : PartName → Bool) (ps : List CodedPart) → length (flat part_bytes (kept keep ps)) ≤ length (flat part_bytes ps)
@@ -323,32 +282,26 @@ kept_fewer keep (p ∷ ps) = by (keep p.name) (kept_fewer keep ps)
     by true l = omega (arith, length-append (part_bytes p) (flat part_bytes (kept keep ps)), length-append (part_bytes p) (flat part_bytes ps))
     by false l = omega (arith, length-append (part_bytes p) (flat part_bytes ps))
 
-module _ {q : Request} {s out : List ℕ} {answer : Served} {out' : List ℕ} (v : ServingFor q s out answer out') {z : Size} {planes : ℕ} {pyramid : List ℤ}
+module _ {s : List ℕ} {r p : ℕ} {out : List ℕ} {answer : Served} {out' : List ℕ} (v : Serving s r p out answer out') {z : Size} {planes : ℕ} {pyramid : List ℤ}
     {bytes : List ℕ} (w : Recorded z planes pyramid bytes) (x : Selected bytes s) where
-  pub served_accepts : q.legal (header_of z planes) ≡ true → length s ≤ length out → answer.verdict ≡ Accepted
-  unfolding serve_answer unless portioned
-  served_accepts legal-request room =
-      let ask : List CodedPart = kept q.asks (whole_parts x) in
+  pub serving_accepts : 1 ≤ r → r ≤ levels z → p ≤ planes → length s ≤ length out → answer.verdict ≡ Accepted
+  unfolding serve_answer legal_ask unless portioned
+  serving_accepts a b few room =
+      let ask : List CodedPart = kept (asked r p) (whole_parts x) in
       let reads : ReadsAs z planes (whole_parts x) (cut_bytes x) s = selected_reads w x in
       let fits : length (record_bytes z planes ask) ≤ length out
       = omega (
         arith,
-        kept_fewer q.asks (whole_parts x),
+        kept_fewer (asked r p) (whole_parts x),
         ap length reads.stand,
         length-append (header_bytes z planes) (flat part_bytes (whole_parts x) ++ reads.rest),
         length-append (flat part_bytes (whole_parts x)) reads.rest,
         length-append (header_bytes z planes) (flat part_bytes ask),
       ) in
-      let served : serving_for q s (length out) ≡ accepted (record { bytes = record_bytes z planes ask; tail = cut_bytes x })
-      = reads_for reads w.codable.legal_size_lem w.count.few q (length out)
-      ∙ rw (legal-request, le-leb (length (record_bytes z planes ask)) (length out) fits) in
+      let served : serving s r p (length out) ≡ accepted (record { bytes = record_bytes z planes ask; tail = cut_bytes x })
+      = serves_read reads w.codable.legal_size_lem w.count.few r p (length out)
+      ∙ rw (le-leb 1 r a, le-leb r (levels z) b, le-leb p planes few, le-leb (length (record_bytes z planes ask)) (length out) fits) in
       ap (λ a. a.verdict) v.answers ∙ ap (λ y. (serve_answer y).verdict) served
-
-module _ {s : List ℕ} {r p : ℕ} {out : List ℕ} {answer : Served} {out' : List ℕ} (v : Serving s r p out answer out') {z : Size} {planes : ℕ} {pyramid : List ℤ}
-    {bytes : List ℕ} (w : Recorded z planes pyramid bytes) (x : Selected bytes s) where
-  pub serving_accepts : 1 ≤ r → r ≤ levels z → p ≤ planes → length s ≤ length out → answer.verdict ≡ Accepted
-  unfolding legal_ask
-  serving_accepts a b few room = served_accepts (routine_for v) w x (rw (le-leb 1 r a, le-leb r (levels z) b, le-leb p planes few)) room
 
 -- Decoding.
 module _ {z : Size} {planes : ℕ} {pyramid : List ℤ} {bytes : List ℕ} (w : Recorded z planes pyramid bytes) {s : List ℕ} (x : Selected bytes s) where
@@ -388,8 +341,7 @@ module _ {z : Size} {planes : ℕ} {pyramid : List ℤ} {bytes : List ℕ} (w : 
           sized = rounded.sized;
           rounded_at = rounded.plane;
           rounds = λ q l.
-              subst (λ (m : ℕ). RoundedAt (levels z) planes (names (whole_parts x)) (names (cut_parts x)) (part_level z q) m (rounded.plane q))
-              (sym (level_told q l)) (rounded.rounds q l);
+              subst (λ (m : ℕ). RoundedAt (names (cut_parts x)) (level_of z q) m (rounded.plane q)) (sym (level_told q l)) (rounded.rounds q l);
           values = rounded.values;
           near = printed_near w.codable rounded;
           reports = rounded.reports;
@@ -405,35 +357,8 @@ module _ {z : Size} {planes : ℕ} {pyramid : List ℤ} {bytes : List ℕ} (w : 
         })
       where
         level_told : (q : ℕ) → q < area z
-            → plane_in its_picture.reached (part_level z q - 1) ≡ reached (levels z) planes (names (whole_parts x)) (part_level z q)
-        level_told q l = rounded.reports (part_level z q) (part_least z (legal z w.codable.legal_size_lem) q l) (part_most_lem z q)
-
--- Of two selections by one test, the second with at least as many bytes, each decoded by a call of its own: no magnitude falls and no sign turns.
-module _ {z : Size} {planes : ℕ} {pyramid : List ℤ} {bytes : List ℕ} (w : Recorded z planes pyramid bytes) {s t : List ℕ} (x : Selected bytes s)
-    (y : Selected bytes t) (same : (q : PartName) → x.keep q ≡ y.keep q) (l : x.more ≤ y.more) where
-  pub decoding_more : {out₁ out₂ : List ℤ} {work₁ work₂ : List ℕ} {answer₁ answer₂ : Decoded} {out₁' out₂' : List ℤ} {work₁' work₂' : List ℕ}
-      → Decoding s out₁ work₁ answer₁ out₁' work₁' → Stated z (length out₁) (length work₁)
-      → Decoding t out₂ work₂ answer₂ out₂' work₂' → Stated z (length out₂) (length work₂) → NoWorse out₁' out₂'
-  decoding_more {out₁} {out₂} {work₁} {work₂} d₁ sizes₁ d₂ sizes₂ =
-      let all : List CodedPart = parts_with z planes pyramid in
-      let r₁ = selected_rounded w x (length out₁) (length work₁) sizes₁ in
-      let r₂ = selected_rounded w y (length out₂) (length work₂) sizes₂ in
-      let one : x.keep ≡ y.keep = fun_ext same in
-      let t-is : t ≡ arrived z planes (kept x.keep all) y.more
-      = s_is w y ∙ ap (λ k. arrived z planes (kept k all) y.more) (sym one) in
-      subst₂ NoWorse (sym (decoding_printed w x d₁ sizes₁)) (sym (decoding_printed w y d₂ sizes₂))
-      (arrived_no_worse z w.codable.legal_size_lem planes w.count.few pyramid w.count.enough x.keep sizes₁ sizes₂ x.more y.more l
-      r₁.picture r₂.picture
-      (ap (λ b. decoding b (length out₁) (length work₁)) (sym (s_is w x)) ∙ r₁.accepts)
-      (ap (λ b. decoding b (length out₂) (length work₂)) (sym t-is) ∙ r₂.accepts))
-
-  pub afs_decode_more : {out₁ out₂ : List ℤ} {work₁ work₂ answer₁ answer₂ : List ℕ} {n₁ n₂ : ℕ} {out₁' out₂' : List ℤ}
-      {work₁' work₂' answer₁' answer₂' : List ℕ}
-      → AfsDecode s out₁ work₁ answer₁ n₁ out₁' work₁' answer₁' → Stated z (length out₁) (length work₁) → decode_places ≤ length answer₁
-      → AfsDecode t out₂ work₂ answer₂ n₂ out₂' work₂' answer₂' → Stated z (length out₂) (length work₂) → decode_places ≤ length answer₂
-      → NoWorse out₁' out₂'
-  afs_decode_more d₁ sizes₁ places₁ d₂ sizes₂ places₂ =
-      decoding_more (afs_decode_decodes d₁ places₁).1 sizes₁ (afs_decode_decodes d₂ places₂).1 sizes₂
+            → plane_in its_picture.reached (level_of z q - 1) ≡ reached (levels z) planes (names (whole_parts x)) (level_of z q)
+        level_told q l = rounded.reports (level_of z q) (level_least z (legal z w.codable.legal_size_lem) q l) (level_most z q)
 
 -- The exports: each does what its routine does, and its answer stands in the slice lent for it.
 module _ {pyramid : List ℤ} {z : Size} {out work answer out' work' answer' : List ℕ} (x : AfsCode pyramid z out work answer 0 out' work' answer') where
@@ -449,24 +374,19 @@ module _ {pyramid : List ℤ} {z : Size} {out work answer out' work' answer' : L
           subst (λ a. Recorded z (planes_in pyramid) pyramid (take (get_or a 2 0) out') × (get_or a 2 0 ≤ length out')) (sym c.3)
           (coding_recorded c.1 e, (coding_wrote c.1 e).1)
 
-module _ {q : Request} {s out answer out' answer' : List ℕ} (v : AfsServingFor q s out answer 0 out' answer') {z : Size} {planes : ℕ} {pyramid : List ℤ}
+module _ {s : List ℕ} {r p : ℕ} {out answer out' answer' : List ℕ} (v : AfsServe s r p out answer 0 out' answer') {z : Size} {planes : ℕ} {pyramid : List ℤ}
     {bytes : List ℕ} (w : Recorded z planes pyramid bytes) (x : Selected bytes s) where
-  pub export_selects : Serves x q.asks (take (get_or answer' 2 0) out') (get_or answer' 3 0) × (get_or answer' 2 0 ≤ length out')
+  pub afs_serve_selects : Serves x r p (take (get_or answer' 2 0) out') (get_or answer' 3 0) × (get_or answer' 2 0 ≤ length out')
   unfolding serve_numbers
-  export_selects = by (dec_le serve_places (length answer))
+  afs_serve_selects = by (dec_le serve_places (length answer))
     where
-      by : Dec (serve_places ≤ length answer) → Serves x q.asks (take (get_or answer' 2 0) out') (get_or answer' 3 0) × (get_or answer' 2 0 ≤ length out')
-      by (no l) = absurd (omega (arith, (export_short v (omega arith)).0))
+      by : Dec (serve_places ≤ length answer) → Serves x r p (take (get_or answer' 2 0) out') (get_or answer' 3 0) × (get_or answer' 2 0 ≤ length out')
+      by (no l) = absurd (omega (arith, (afs_serve_short v (omega arith)).0))
       by (yes l) =
-          let c = export_serves v l in
+          let c = afs_serve_serves v l in
           let e = number_accepts c.0.verdict (sym c.2) in
-          subst (λ a. Serves x q.asks (take (get_or a 2 0) out') (get_or a 3 0) × (get_or a 2 0 ≤ length out')) (sym c.3)
-          (served_serves c.1 e w x, (served_wrote c.1 e).1)
-
-pub afs_serve_selects : {s : List ℕ} {r p : ℕ} {out answer out' answer' : List ℕ} → AfsServe s r p out answer 0 out' answer'
-    → {z : Size} {planes : ℕ} {pyramid : List ℤ} {bytes : List ℕ} → Recorded z planes pyramid bytes → (x : Selected bytes s)
-    → Serves x (asked r p) (take (get_or answer' 2 0) out') (get_or answer' 3 0) × (get_or answer' 2 0 ≤ length out')
-afs_serve_selects v w x = export_selects (export_for v) w x
+          subst (λ a. Serves x r p (take (get_or a 2 0) out') (get_or a 3 0) × (get_or a 2 0 ≤ length out')) (sym c.3)
+          (serving_serves c.1 e w x, (serving_wrote c.1 e).1)
 
 -- What is told of the levels, place by place, and behind the last place 0.
 told_place : (f : ℕ → ℕ) (i : ℕ) → (level_places ≤ i → f i ≡ 0) → get_or (map f (from 0 level_places)) i 0 ≡ f i
@@ -496,7 +416,7 @@ module _ {z : Size} {planes : ℕ} {pyramid : List ℤ} {bytes : List ℕ} (w : 
   afs_decode_prints =
       let a = afs_decode_decodes d places in
       let y = decoding_decodes w x a.1 sizes in
-      let few : levels z ≤ level_places = omega (arith, (legal z w.codable.legal_size_lem).few, (legal z w.codable.legal_size_lem).few_levels) in
+      let few : levels z ≤ level_places = omega (arith, (legal z w.codable.legal_size_lem).few) in
       let rest : List ℕ = zeros (length answer - decode_places) in
       let planes-told : (k : ℕ) → planes_told (decode_numbers a.0 ++ rest) k ≡ planes_answered a.0 k
       = λ k. told_plane a.0 rest k (λ l. y.beyond k (omega arith)) in

@@ -1,6 +1,6 @@
 -- Demand 1, for Promises/One: number and place tell refusals apart, each routine gives its own numbers only, and so a call whose result has its
 -- case, and no other's, comes back with a number and a place exactly where that case holds.
-use Rattle.std.specs.Prelude.{◌≡◌, refl, List, [], ◌∷◌, ◌++◌, Bool, true, cond, ℕ, ◌-◌, eqb, length, replicate, ℤ, pos}
+use Rattle.std.specs.Prelude.{◌≡◌, refl, List, [], ◌∷◌, ◌++◌, cond, ℕ, ◌-◌, eqb, length, replicate, ℤ, pos}
 use Rattle.std.proofs.Math.Path.{ap, ap₂, subst}
 use Rattle.std.proofs.Common.{sym, ◌∙◌, arith}
 use Rattle.rules.specs.declared.Size.{Size}
@@ -18,16 +18,14 @@ use Rattle.rules.specs.declared.PartRead.TheVariants as part
 use Rattle.rules.specs.Document.Notation.{any, zeros}
 use Rattle.rules.specs.Document.Passes.{PartName}
 use Rattle.rules.specs.Document.Numbers.{refusal_number, refusal_place, verdict_number, verdict_place, fault}
-use Rattle.rules.specs.Document.Calls.{Result, refused, accepted, coding, Portion, level_places, Picture, decoding, filled}
+use Rattle.rules.specs.Document.Calls.{Result, refused, accepted, coding, Portion, serving, level_places, Picture, decoding, filled}
 use Rattle.rules.specs.Document.Calls.{code_out, code_answer, serve_out, serve_answer, decode_out, decode_answer, Coding, Serving, Decoding}
-use Rattle.rules.specs.Promises.Vocabulary.{among, coding_numbers, serving_numbers, decoding_numbers, Exactly, Request, level_plane}
-use Rattle.rules.specs.Laws.Serving.Requests.{serving_for, ServingFor, routine_for}
+use Rattle.rules.specs.Promises.Vocabulary.{among, coding_numbers, serving_numbers, decoding_numbers, Exactly}
 use Rattle.rules.specs.Promises.Refusals.{HeaderCase, HEAD, LONGFORM, VERSION, HEAD-later, LONGFORM-later, SIZE, PartCase, PART-malformed, PART, PAD}
-use Rattle.rules.specs.Promises.Refusals.{Walk, MORE, FAULT, CodingCase, LENGTH, WORK, RANGE, ROOM}
-use Rattle.rules.specs.Promises.Refusals.{CODED, RequestCase, ServingCase, HEADER, ASK, PARTS, SERVED}
-use Rattle.rules.specs.Promises.Refusals.{DecodingCase, FIT, CUT-FIT, DECODED, LegalAsk}
+use Rattle.rules.specs.Promises.Refusals.{Walk, MORE, FAULT, CodingCase, LENGTH, WORK, RANGE, ROOM, CODED, ServingCase, HEADER, ASK, PARTS, SERVED}
+use Rattle.rules.specs.Promises.Refusals.{DecodingCase, FIT, CUT-FIT, DECODED}
 use Rattle.rules.specs.Laws.Calls.Results.{refusal_some}
-use Rattle.rules.specs.Laws.Calls.Cases.{coding_case, coding_is, ask_legal, legal_ask_lem, request_case, request_is, decoding_case, decoding_is}
+use Rattle.rules.specs.Laws.Calls.Cases.{coding_case, coding_is, serving_case, serving_is, decoding_case, decoding_is}
 
 -- Number and place tell refusals apart: of those with this place it is the one with this number.
 with_number : ℕ → List Refusal → Refusal
@@ -38,7 +36,7 @@ refusal_of : ℕ → ℕ → Refusal
 refusal_of n at =
     with_number n (
     refusal.Size ∷ refusal.Length ∷ refusal.Work ∷ refusal.Range at ∷ refusal.Room ∷ refusal.Head at ∷ refusal.Version ∷ refusal.Part at ∷ refusal.Pad at
-    ∷ refusal.Fit at ∷ refusal.Ask ∷ refusal.LongForm at ∷ refusal.Grey ∷ refusal.Mixed ∷ refusal.Clash at ∷ refusal.Index at ∷ refusal.Foreign ∷ []
+    ∷ refusal.Fit at ∷ refusal.Ask ∷ refusal.LongForm at ∷ refusal.Grey ∷ refusal.Mixed ∷ refusal.Clash at ∷ []
     )
 
 refusal_told : (r : Refusal) → refusal_of (refusal_number r) (refusal_place r) ≡ r
@@ -58,8 +56,6 @@ refusal_told (refusal.LongForm i) = refl
 refusal_told refusal.Grey = refl
 refusal_told refusal.Mixed = refl
 refusal_told (refusal.Clash i) = refl
-refusal_told (refusal.Index i) = refl
-refusal_told refusal.Foreign = refl
 
 unfoldable pub verdict_of : {X : Type 0} → Result X → Verdict
 verdict_of (refused r) = Refused r
@@ -100,9 +96,9 @@ module _ {X : Type 0} where
 pub header_gives : {s : List ℕ} {why : Refusal} (P : ℕ → Type 0) → P 1 → P 6 → P 7 → P 12 → HeaderCase s (header.Refused why) → P (refusal_number why)
 header_gives P one six seven twelve (HEAD u) = six
 header_gives P one six seven twelve (LONGFORM e) = twelve
-header_gives P one six seven twelve (VERSION ns n m) = seven
-header_gives P one six seven twelve (HEAD-later v ns l u) = six
-header_gives P one six seven twelve (LONGFORM-later v ns l e) = twelve
+header_gives P one six seven twelve (VERSION ns n) = seven
+header_gives P one six seven twelve (HEAD-later ns l u) = six
+header_gives P one six seven twelve (LONGFORM-later ns l e) = twelve
 header_gives P one six seven twelve (SIZE ns n) = one
 
 part_gives : {h : Header} {s : List ℕ} {before : PartName} {place : ℕ} {why : Refusal} (P : ℕ → Type 0) → P 8 → P 9 → P 12
@@ -127,8 +123,7 @@ coding_gives (RANGE Z L K f) = refl
 coding_gives (ROOM Z L K R l) = refl
 coding_gives (CODED Z L K R l) = refl
 
-serving_gives : {Asked : Header → Type 0} {test : PartName → Bool} {s : List ℕ} {room : ℕ} {y : Result Portion} → RequestCase Asked test s room y
-    → among serving_numbers (verdict_number (verdict_of y))
+serving_gives : {s : List ℕ} {r p room : ℕ} {y : Result Portion} → ServingCase s r p room y → among serving_numbers (verdict_number (verdict_of y))
 unfolding verdict_of any
 serving_gives (HEADER c) = header_gives (among serving_numbers) refl refl refl refl c
 serving_gives (ASK c n) = refl
@@ -152,18 +147,6 @@ unfolding code_answer verdict_of
 code_verdict (refused r) = refl
 code_verdict (accepted bytes) = refl
 
--- A call that answers as coding does, and has no workspace.
-pub coded_exactly : (Case : Result (List ℕ) → Type 0) (y : Result (List ℕ)) → Case y → ((x : Result (List ℕ)) → Case x → y ≡ x) → (own : List ℕ)
-    → among own (verdict_number (verdict_of y)) → (out out' : List ℕ) (answer : Coded) → answer ≡ code_answer y → out' ≡ code_out (length out) y
-    → Exactly Case own answer.verdict
-    ((answer.length ≡ 0) × (out' ≡ zeros (length out)))
-    (λ bytes. (answer.length ≡ length bytes) × (out' ≡ bytes ++ zeros (length out - length bytes)))
-unfolding code_answer code_out filled
-coded_exactly Case y c unique own g out out' answer answers writes =
-    exactly Case y c unique own g answer.verdict (ap (λ a. a.verdict) answers ∙ code_verdict y)
-    _ (λ r e. (ap (λ a. a.length) (answers ∙ ap code_answer e), writes ∙ ap (code_out (length out)) e))
-    _ (λ bytes e. (ap (λ a. a.length) (answers ∙ ap code_answer e), writes ∙ ap (code_out (length out)) e))
-
 -- "Refused: output slice all 0. Accepted: number and place 0, every coefficient written; for bytes, all after the result 0." "A refusal has 0
 -- in all but number and place. Workspace: all 0 after every call."
 pub coding_refused : {pyramid : List ℤ} {z : Size} {out work : List ℕ} {answer : Coded} {out' work' : List ℕ}
@@ -180,16 +163,15 @@ coding_refused {pyramid = pyramid} {z = z} {out = out} {work = work} {answer = a
     _ (λ r e. (ap (λ a. a.length) (x.answers ∙ ap code_answer e), x.writes ∙ ap (code_out (length out)) e, x.clears))
     _ (λ bytes e. (ap (λ a. a.length) (x.answers ∙ ap code_answer e), x.writes ∙ ap (code_out (length out)) e, x.clears))
 
-pub request_refused : (Asked : Header → Type 0) (q : Request) → ((h : Header) → q.legal h ≡ true → Asked h) → ((h : Header) → Asked h → q.legal h ≡ true)
-    → {s out : List ℕ} {answer : Served} {out' : List ℕ} → ServingFor q s out answer out'
-    → Exactly (RequestCase Asked q.asks s (length out)) serving_numbers answer.verdict
+pub serving_refused : {s : List ℕ} {r p : ℕ} {out : List ℕ} {answer : Served} {out' : List ℕ} → Serving s r p out answer out'
+    → Exactly (ServingCase s r p (length out)) serving_numbers answer.verdict
     ((answer.length ≡ 0) × (answer.tail ≡ 0) × (out' ≡ zeros (length out)))
     (λ x. (answer.length ≡ length x.bytes) × (answer.tail ≡ x.tail) × (out' ≡ x.bytes ++ zeros (length out - length x.bytes)))
 unfolding serve_answer serve_out filled verdict_of
-request_refused Asked q asks Asks-back {s = s} {out = out} {answer = answer} x =
-    let y : Result Portion = serving_for q s (length out) in
-    let c : RequestCase Asked q.asks s (length out) y = request_case Asked q asks Asks-back s (length out) in
-    exactly (RequestCase Asked q.asks s (length out)) y c (request_is Asked q asks Asks-back s (length out)) serving_numbers (serving_gives c)
+serving_refused {s = s} {r = r} {p = p} {out = out} {answer = answer} x =
+    let y : Result Portion = serving s r p (length out) in
+    let c : ServingCase s r p (length out) y = serving_case s r p (length out) in
+    exactly (ServingCase s r p (length out)) y c (serving_is s r p (length out)) serving_numbers (serving_gives c)
     answer.verdict (ap (λ a. a.verdict) x.answers ∙ verdict y)
     _ (λ r e. let a = x.answers ∙ ap serve_answer e in (ap (λ a. a.length) a, ap (λ a. a.tail) a, x.writes ∙ ap (serve_out (length out)) e))
     _ (λ q e. let a = x.answers ∙ ap serve_answer e in (ap (λ a. a.length) a, ap (λ a. a.tail) a, x.writes ∙ ap (serve_out (length out)) e))
@@ -197,13 +179,6 @@ request_refused Asked q asks Asks-back {s = s} {out = out} {answer = answer} x =
     verdict : (y : Result Portion) → (serve_answer y).verdict ≡ verdict_of y
     verdict (refused r) = refl
     verdict (accepted x) = refl
-
-pub serving_refused : {s : List ℕ} {r p : ℕ} {out : List ℕ} {answer : Served} {out' : List ℕ} → Serving s r p out answer out'
-    → Exactly (ServingCase s r p (length out)) serving_numbers answer.verdict
-    ((answer.length ≡ 0) × (answer.tail ≡ 0) × (out' ≡ zeros (length out)))
-    (λ x. (answer.length ≡ length x.bytes) × (answer.tail ≡ x.tail) × (out' ≡ x.bytes ++ zeros (length out - length x.bytes)))
-serving_refused {r = r} {p = p} x =
-    request_refused (λ h. LegalAsk h r p) (level_plane r p) (λ h e. ask_legal h r p e) (λ h a. legal_ask_lem h r p a) (routine_for x)
 
 pub decoding_refused : {s : List ℕ} {out : List ℤ} {work : List ℕ} {answer : Decoded} {out' : List ℤ} {work' : List ℕ}
     → Decoding s out work answer out' work'

@@ -68,8 +68,6 @@ refusal_some (refusal.LongForm i) = omega arith
 refusal_some refusal.Grey = omega arith
 refusal_some refusal.Mixed = omega arith
 refusal_some (refusal.Clash i) = omega arith
-refusal_some (refusal.Index i) = omega arith
-refusal_some refusal.Foreign = omega arith
 
 pub number_accepts : (v : Verdict) → verdict_number v ≡ 0 → v ≡ Accepted
 number_accepts Accepted e = refl

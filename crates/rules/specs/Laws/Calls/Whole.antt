@@ -8,14 +8,14 @@ use Rattle.std.proofs.lemmas.List.{length-replicate, get_or-replicate}
 use Rattle.rules.specs.declared.Size.{Size}
 use Rattle.rules.specs.declared.Plane.{Plane}
 use Rattle.rules.specs.declared.Refusal.TheVariants as refusal
-use Rattle.rules.specs.Document.Notation.{zeros}
-use Rattle.rules.specs.Document.Pyramid.{area, levels, part_level, family, magnitude, negative}
+use Rattle.rules.specs.Document.Notation.{any, every, zeros}
+use Rattle.rules.specs.Document.Pyramid.{area, levels, level_of, family, magnitude, negative}
 use Rattle.rules.specs.Document.Passes.{PartName, part_names, start}
 use Rattle.rules.specs.Document.Layout.{parts_with, record_with, earlier_planes_in, record_of, usable, reached}
-use Rattle.rules.specs.Document.Calls.{accepted, unless, legal_ask, asked, portioned, serving, level_places, plane_in, count_in, decoding}
+use Rattle.rules.specs.Document.Calls.{accepted, unless, legal_ask, portioned, serving, level_places, plane_in, count_in, decoding}
 use Rattle.rules.specs.Laws.Counting.Sums.{all_of}
 use Rattle.rules.specs.Laws.Reading.Parts.{names_named, all_present}
-use Rattle.rules.specs.Promises.Vocabulary.{at, Named, present, header_of, record_bytes, Codable, Stated, PlaneCount, names, kept, whole_in, tail_in}
+use Rattle.rules.specs.Promises.Vocabulary.{at, Named, present, header_of, record_bytes, Codable, Stated, PlaneCount, names, kept, asked, whole_in, tail_in}
 use Rattle.rules.specs.Promises.Vocabulary.{arrived, Rounded, ReadsAs}
 use Rattle.rules.specs.Laws.Reading.Usable.{every_usable, usable_reached, reached_within}
 use Rattle.rules.specs.Laws.Reading.Skipped.{skipped_none}
@@ -38,7 +38,7 @@ demand2_every z planes pyramid p n = rw (demand2_names z planes pyramid) (all_pr
 all_usable : (top planes : ℕ) (p : PartName) → usable top planes (part_names top planes) p ≡ true
 all_usable top planes p = every_usable top planes (part_names top planes) p (λ q n a b. all_present top planes q n)
 
-pub all_reached : (top planes k : ℕ) → reached top planes (part_names top planes) k ≡ 0
+all_reached : (top planes k : ℕ) → reached top planes (part_names top planes) k ≡ 0
 all_reached top planes k = by (dec_lt 0 planes)
   where
     by : Dec (0 < planes) → reached top planes (part_names top planes) k ≡ 0
@@ -109,20 +109,20 @@ module _ {z : Size} {pyramid : List ℤ} (c : Codable z pyramid) {planes : ℕ} 
     same_value : (q : ℕ) → q < length whole.picture.pyramid → get_or whole.picture.pyramid q (pos 0) ≡ get_or pyramid q (pos 0)
     unfolding magnitude negative
     same_value q l =
-        let in_picture : q < area z = omega (arith, whole.sized) in
-        let none : whole.plane q ≡ 0 = omega (arith, rounded_under (whole.rounds q in_picture), all_reached (levels z) planes (part_level z q)) in
-        whole.values q in_picture ∙ rw (none, toward_all (magnitude pyramid q)) (signed_itself (get_or pyramid q (pos 0)))
+        let in-picture : q < area z = omega (arith, whole.sized) in
+        let none : whole.plane q ≡ 0 = omega (arith, rounded_under (whole.rounds q in-picture), all_reached (levels z) planes (level_of z q)) in
+        whole.values q in-picture ∙ rw (none, toward_all (magnitude pyramid q)) (signed_itself (get_or pyramid q (pos 0)))
 
     same_plane : (i : ℕ) → i < length whole.picture.reached
         → get_or whole.picture.reached i (record { 0 = 0 }) ≡ get_or (replicate level_places (record { 0 = 0 })) i (record { 0 = 0 })
     unfolding plane_in
     same_plane i l =
         (λ j. record { 0 = reached0 i j })
-        ∙ sym (get_or-replicate level_places i (record { 0 = 0 }) (record { 0 = 0 }) (omega (arith, whole.places)))
+        ∙ sym (get_or-replicate level_places i (record { 0 = 0 }) (record { 0 = 0 }) (omega (arith, whole.six)))
 
     same_count : (i : ℕ) → i < length whole.picture.skipped → get_or whole.picture.skipped i 0 ≡ get_or (zeros level_places) i 0
     unfolding count_in
-    same_count i l = skipped0 i ∙ sym (get_or-replicate level_places i 0 0 (omega (arith, whole.places_counts)))
+    same_count i l = skipped0 i ∙ sym (get_or-replicate level_places i 0 0 (omega (arith, whole.six_counts)))
 
     pub demand2_whole : decoding (record_with z planes pyramid) room work
         ≡ accepted (record { pyramid = pyramid; tail = 0; reached = replicate level_places (record { 0 = 0 }); skipped = zeros level_places })
@@ -131,9 +131,9 @@ module _ {z : Size} {pyramid : List ℤ} (c : Codable z pyramid) {planes : ℕ} 
         = ext_get_or (pos 0) whole.picture.pyramid pyramid (whole.sized ∙ sym c.sized) same_value in
         let none : Plane = record { 0 = 0 } in
         let b : whole.picture.reached ≡ replicate level_places (record { 0 = 0 })
-        = ext_get_or (record { 0 = 0 }) whole.picture.reached _ (whole.places ∙ sym (length-replicate level_places none)) same_plane in
+        = ext_get_or (record { 0 = 0 }) whole.picture.reached _ (whole.six ∙ sym (length-replicate level_places none)) same_plane in
         let d : whole.picture.skipped ≡ zeros level_places
-        = ext_get_or 0 whole.picture.skipped _ (whole.places_counts ∙ sym (length-replicate {A = ℕ} level_places 0)) same_count in
+        = ext_get_or 0 whole.picture.skipped _ (whole.six_counts ∙ sym (length-replicate {A = ℕ} level_places 0)) same_count in
         whole.accepts ∙ ap accepted (λ i. record { pyramid = a i; tail = whole.tail i; reached = b i; skipped = d i })
 
 -- "Records written earlier are still accepted .. and decode to the same pyramid" (W5).

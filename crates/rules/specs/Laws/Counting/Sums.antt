@@ -1,11 +1,12 @@
 -- Counting: what lists hold is said once, for every weight. With the weight `is q` a sum says how often q stands in a list, with the weight 1
 -- how long it is, with "is of level k" how much of a level it holds.
 --
+--   All P xs      P of each element of xs
 --   sum w xs      the weights w x of all x in xs, added
 --   one b         1 if b is true, else 0
 --   is q p        1 if p is q, else 0
 --   q ∈ xs        q stands in xs, once or more
---   Every P xs    P of each q that stands in xs: Vocabulary's All, said by count
+--   Every P xs    P of each q that stands in xs: All, said by count
 use Rattle.std.specs.Prelude.{◌≡◌, Bool, cond, ◌&&◌, ◌||◌, ◌≢◌, ℕ, zero, suc, ◌+◌, ◌*◌, ◌≤◌, ◌<◌, eqb, ltb, length}
 use Rattle.std.proofs.Math.Path.{refl, sym}
 use Rattle.std.proofs.Common.{ap, ap₂, ◌∙◌, subst, true≢false, mul-le-mul, mul-le-mul_left, eq-eqb, ne_eqb, lt-ltb, le-ltb}
@@ -16,7 +17,10 @@ use native.Mathlib.Omega.{arith}
 use Rattle.std.proofs.Math.Decide.{ℕ_discrete}
 use Rattle.rules.specs.Document.Notation.{any, count, flat, if_any}
 use Rattle.rules.specs.Document.Passes.{from}
-unfoldable pub use Rattle.rules.specs.Promises.Vocabulary.{All}
+
+unfoldable pub All : {X : Type 0} → (X → Type 0) → List X → Type 0
+All P [] = Unit {0}
+All P (x ∷ xs) = P x × All P xs
 
 unfoldable pub sum : {X : Type 0} → (X → ℕ) → List X → ℕ
 sum w [] = 0

@@ -4,7 +4,7 @@ use Rattle.std.proofs.Math.Path.{refl, ap, sym}
 use Rattle.std.proofs.Common.{◌∙◌}
 use mathlib.Core.List.{[], ◌++◌}
 use Rattle.std.proofs.Math.Bool.{true, false}
-use Prim.Native.Nat.{ℕ, zero, suc, ◌*◌, ◌/◌, ◌≤◌, ◌<◌}
+use Prim.Native.Nat.{ℕ, zero, suc, ◌+◌, ◌*◌, ◌/◌, ◌≤◌, ◌<◌}
 use native.Mathlib.Omega.{arith}
 use Rattle.rules.specs.declared.Size.{Size}
 use Rattle.rules.specs.Document.Notation.{flat}
@@ -13,7 +13,7 @@ use Rattle.rules.specs.Document.Pyramid.{generations, descendants_of}
 use Rattle.rules.specs.Laws.Counting.Sums.{◌∈◌, All, in_some, some_in, none_in, all_then, all_append, all_flat, every_all, all_every, flat_same}
 use Rattle.rules.specs.Laws.Family.Lawful.{Lawful}
 use Rattle.rules.specs.Promises.Vocabulary.{Legal}
-use Rattle.rules.specs.Laws.Offspring.Level.{level_most, level_least, part_under, part_next, part_least}
+use Rattle.rules.specs.Laws.Offspring.Level.{level_most, level_least}
 use Rattle.rules.specs.Laws.Offspring.Block.{offspring_inner}
 use Rattle.rules.specs.Laws.Offspring.Kin.{offspring_area, offspring_level}
 
@@ -80,14 +80,14 @@ module _ (z : Size) (Z : Legal z) where
   lawful =
       record {
         unfolds = descendants_unfold;
-        from1 = λ p q i. part_least z Z q (descendants_area p q i);
-        highest = λ p r q i j. part_under z q r (omega (arith, offspring_level z Z p r i, descendants_level p q j));
-        near = λ p r i. part_next z p r (offspring_level z Z p r i);
+        from1 = λ p q i. level_least z Z q (descendants_area p q i);
+        highest = λ p r q i j. omega (arith, offspring_level z Z p r i, descendants_level p q j);
+        near = λ p r i. omega (arith, offspring_level z Z p r i);
         alike = λ p r s q i j k.
             let l : 1 ≤ level_of z q = level_least z Z q (offspring_area z Z r q k) in
             let a : suc (level_of z r) ≡ suc (level_of z s) = offspring_level z Z p r i ∙ sym (offspring_level z Z p s j) in
             let e : level_of z s ≡ suc (level_of z q) = omega (arith, offspring_level z Z r q k) in
             let t : (t : ℕ) × (t ∈ offspring_of z s) = some_in (offspring_of z s) (offspring_further p s j (omega arith)) in
-            (t.0, t.1, part_under z q t.0 (omega (arith, offspring_level z Z s t.0 t.1)));
+            (t.0, t.1, omega (arith, offspring_level z Z s t.0 t.1));
         four = λ p r i. omega (arith, offspring_four z p (in_some r (offspring_of z p) i));
       }

@@ -9,7 +9,7 @@ use Rattle.std.proofs.Math.Decide.{dec_lt}
 use Rattle.std.proofs.Math.Dec.{ltb}
 use borrow.Author.Tests.{ltb-true, lt-ltb, le-ltb}
 use Rattle.rules.specs.declared.Size.{Size}
-use Rattle.rules.specs.Document.Pyramid.{area, row, column, within, level_up_to, depths, levels, level_of, part_level}
+use Rattle.rules.specs.Document.Pyramid.{area, row, column, within, level_up_to, levels, level_of}
 use Rattle.rules.specs.Laws.Family.Sizes.{side_falls}
 use Rattle.rules.specs.Promises.Vocabulary.{Legal}
 
@@ -53,14 +53,14 @@ module _ (z : Size) where
           let s : k ≡ f = omega arith in
           rw (s, e) (sym (le-ltb f (level_up_to z f q) (level_up_to_most f q)))
 
-  pub level_most : (q : ℕ) → level_of z q ≤ depths z
+  pub level_most : (q : ℕ) → level_of z q ≤ levels z
   unfolding level_of
-  level_most q = level_up_to_most (depths z) q
+  level_most q = level_up_to_most (levels z) q
 
   -- A coefficient's level is over k exactly if it lies within k halvings.
   pub within_level : (k q : ℕ) → k ≤ z.n → within z k q ≡ ltb k (level_of z q)
   unfolding level_of
-  within_level k q l = level_up_to_within (depths z) k q (omega arith)
+  within_level k q l = level_up_to_within (levels z) k q (omega arith)
 
   pub over_within : (k q : ℕ) → k < level_of z q → Within z k q
   over_within k q h = within_true k q (within_level k q (omega (arith, level_most q)) ∙ lt-ltb k (level_of z q) h)
@@ -74,32 +74,6 @@ module _ (z : Size) where
       go : Dec (k < level_of z q) → level_of z q ≤ k
       go (yes h) = absurd (f (over_within k q h))
       go (no h) = omega arith
-
--- The level that a coefficient's bits are coded with: its own, or the highest.
-module _ (z : Size) where
-  pub part_fine : (q : ℕ) → level_of z q ≤ levels z → part_level z q ≡ level_of z q
-  unfolding part_level
-  part_fine q h = omega arith
-
-  pub part_top : (q : ℕ) → levels z ≤ level_of z q → part_level z q ≡ levels z
-  unfolding part_level
-  part_top q h = omega arith
-
-  pub part_own : (q : ℕ) → part_level z q ≤ level_of z q
-  unfolding part_level
-  part_own q = omega arith
-
-  pub part_most_lem : (q : ℕ) → part_level z q ≤ levels z
-  unfolding part_level
-  part_most_lem q = omega arith
-
-  pub part_under : (p q : ℕ) → level_of z p ≤ level_of z q → part_level z p ≤ part_level z q
-  unfolding part_level
-  part_under p q h = omega arith
-
-  pub part_next : (p r : ℕ) → suc (level_of z r) ≡ level_of z p → part_level z p ≤ suc (part_level z r)
-  unfolding part_level
-  part_next p r h = omega arith
 
 -- An index is in the pyramid exactly if its row is, and exactly if it has a level.
 module _ (z : Size) (Z : Legal z) where
@@ -117,14 +91,6 @@ module _ (z : Size) (Z : Legal z) where
 
   pub level_least : (q : ℕ) → q < area z → 1 ≤ level_of z q
   level_least q h = within_over z 0 q (omega arith) (omega (arith, row_lt q h), omega (arith, column_lt q))
-
-  pub part_least : (q : ℕ) → q < area z → 1 ≤ part_level z q
-  unfolding part_level
-  part_least q h = omega (arith, level_least q h, Z.some_levels)
-
-  pub part_level_lem : (q : ℕ) → 1 ≤ part_level z q → 1 ≤ level_of z q
-  unfolding part_level
-  part_level_lem q h = omega arith
 
   pub level_area : (q : ℕ) → 1 ≤ level_of z q → q < area z
   level_area q h = row_area q (omega (arith, (over_within z 0 q (omega arith)).0))

@@ -8,7 +8,7 @@ use Rattle.std.proofs.Math.Decide.{dec_le}
 use Rattle.std.proofs.Common.{lt-ltb, le-ltb}
 use Rattle.rules.specs.declared.Size.{Size}
 use Rattle.rules.specs.Document.Notation.{flat}
-use Rattle.rules.specs.Document.Pyramid.{area, depths, level_of, offspring_of, generations, descendants_of}
+use Rattle.rules.specs.Document.Pyramid.{area, levels, level_of, offspring_of, generations, descendants_of}
 use Rattle.rules.specs.Document.Passes.{band_ll}
 use Rattle.rules.specs.Laws.Counting.Sums.{sum, one, is, Every, sum_append, sum_flat, sum_plus, sum_same, sum_pointwise, sum_zero, all_of, every_all}
 use Rattle.rules.specs.Promises.Vocabulary.{Legal}
@@ -57,7 +57,7 @@ module _ (z : Size) (Z : Legal z) where
       )
 
   -- d steps up to the LL band, within g generations
-  once_up : (d g q : ℕ) → q < area z → level_of z q + d ≡ depths z → d ≤ g
+  once_up : (d g q : ℕ) → q < area z → level_of z q + d ≡ levels z → d ≤ g
       → sum (is q) (band_ll z) + sum (λ p. sum (is q) (generations z g p)) (band_ll z) ≡ 1
   unfolding one
   once_up zero g q v e l =
@@ -76,12 +76,12 @@ module _ (z : Size) (Z : Legal z) where
         sum_plus (is (parent z q)) (λ p. sum (is (parent z q)) (generations z g p)) (band_ll z),
       )
 
-  -- The LL band is of depth N + 1.
-  pub band_level : Every (λ p. level_of z p ≡ depths z) (band_ll z)
+  -- The LL band is of level N + 1.
+  pub band_level : Every (λ p. level_of z p ≡ levels z) (band_ll z)
   unfolding one
   band_level p i = go (dec_le (level_of z p) z.n)
     where
-      go : Dec (level_of z p ≤ z.n) → level_of z p ≡ depths z
+      go : Dec (level_of z p ≤ z.n) → level_of z p ≡ levels z
       go (yes l) = absurd (omega (arith, rw (le-ltb z.n (level_of z p) l) at (band_once z Z p)))
       go (no d) = omega (arith, level_most z p)
 
@@ -91,7 +91,7 @@ module _ (z : Size) (Z : Legal z) where
   coefficients_once q v =
       omega (
         arith,
-        once_up (depths z - level_of z q) (depths z) q v (omega (arith, level_most z q)) (omega arith),
-        sum_same (λ p. sum (is q) (descendants_of z p)) (λ p. sum (is q) (generations z (depths z) p)) (band_ll z)
+        once_up (levels z - level_of z q) (levels z) q v (omega (arith, level_most z q)) (omega arith),
+        sum_same (λ p. sum (is q) (descendants_of z p)) (λ p. sum (is q) (generations z (levels z) p)) (band_ll z)
             (every_all _ (band_ll z) (λ p i. ap (λ (g : ℕ). sum (is q) (generations z g p)) (band_level p i))),
       )

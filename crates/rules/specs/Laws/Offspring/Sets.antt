@@ -5,12 +5,11 @@ use Rattle.std.proofs.Math.Bool.{true}
 use Prim.Native.Nat.{ℕ, zero, suc, ◌+◌, ◌-◌, ◌≤◌, ◌<◌}
 use Rattle.std.proofs.Math.Decide.{dec_lt}
 use Rattle.rules.specs.declared.Size.{Size}
-use Rattle.rules.specs.Document.Pyramid.{family, levels, level_of, offspring_of, descendants_of}
-use Rattle.rules.specs.Document.Passes.{typeA, typeB, members, in_level}
+use Rattle.rules.specs.Document.Pyramid.{family, level_of, offspring_of, descendants_of}
+use Rattle.rules.specs.Document.Passes.{typeB, members, in_level}
 use Rattle.rules.specs.Laws.Counting.Sums.{◌∈◌, in_flat, in_some, some_in, none_in}
 use Rattle.rules.specs.Laws.Family.Lawful.{level_test, level_some, offspring_descend, further_descend, grandchild}
 use Rattle.rules.specs.Promises.Vocabulary.{Legal}
-use Rattle.rules.specs.Laws.Offspring.Level.{part_fine, part_own, part_level_lem}
 use Rattle.rules.specs.Laws.Offspring.Kin.{offspring_level}
 use Rattle.rules.specs.Laws.Offspring.Lawful.{descendants_level, offspring_further, lawful}
 
@@ -41,46 +40,31 @@ module _ (z : Size) (Z : Legal z) where
         let g : _ = grandchild (family z) (lawful z Z) p q i in
         omega (arith, descendants_level z Z g.0 q g.2, offspring_level z Z p g.0 g.1)
 
-    -- D has members of the levels under it, L of those from two under it, down to 1: also where levels from some level on are one.
-    pub in_level_a : (k : ℕ) → 1 ≤ k → k ≤ levels z → in_level (family z) k (typeA p) ≡ ltb k (level_of z p)
+    -- L has members of the levels from two under it, down to 1.
+    pub in_level_b : (k : ℕ) → 1 ≤ k → in_level (family z) k (typeB p) ≡ ltb (suc k) (level_of z p)
     unfolding members
-    in_level_a k h m = test_is (in_level (family z) k (typeA p)) k (level_of z p) up down
-      where
-        up : in_level (family z) k (typeA p) ≡ true → k < level_of z p
-        up e =
-            let q : _ = level_some (family z) k (typeA p) e in
-            omega (arith, descendants_level z Z p q.0 q.1, part_own z q.0, q.2)
-
-        down : k < level_of z p → in_level (family z) k (typeA p) ≡ true
-        down l =
-            let t : _ = descendant_at (level_of z p - suc k) k p h (omega arith) some in
-            level_test (family z) k t.0 (typeA p) t.1 (part_fine z t.0 (omega (arith, t.2)) ∙ t.2)
-
-    pub in_level_b : (k : ℕ) → 1 ≤ k → k ≤ levels z → in_level (family z) k (typeB p) ≡ ltb (suc k) (level_of z p)
-    unfolding members
-    in_level_b k h m = test_is (in_level (family z) k (typeB p)) (suc k) (level_of z p) up down
+    in_level_b k h = test_is (in_level (family z) k (typeB p)) (suc k) (level_of z p) up down
       where
         up : in_level (family z) k (typeB p) ≡ true → suc k < level_of z p
         up e =
             let q : _ = level_some (family z) k (typeB p) e in
-            omega (arith, members_b_level q.0 q.1, part_own z q.0, q.2)
+            omega (arith, members_b_level q.0 q.1, q.2)
 
         down : suc k < level_of z p → in_level (family z) k (typeB p) ≡ true
         down l =
             let r : (r : ℕ) × (r ∈ offspring_of z p) = some_in (offspring_of z p) some in
             let j : suc (level_of z r.0) ≡ level_of z p = offspring_level z Z p r.0 r.1 in
             let t : _ = descendant_at (level_of z r.0 - suc k) k r.0 h (omega arith) (offspring_further z Z p r.0 r.1 (omega arith)) in
-            level_test (family z) k t.0 (typeB p) (in_flat (descendants_of z) (offspring_of z p) r.0 t.0 r.1 t.1)
-            (part_fine z t.0 (omega (arith, t.2)) ∙ t.2)
+            level_test (family z) k t.0 (typeB p) (in_flat (descendants_of z) (offspring_of z p) r.0 t.0 r.1 t.1) t.2
 
     -- L is empty exactly if the coefficient is of level 2.
     pub members_b_some : 2 < level_of z p → 1 ≤ length (members (family z) (typeB p))
     members_b_some h =
-        let q : _ = level_some (family z) 1 (typeB p) (in_level_b 1 (omega arith) Z.some_levels ∙ lt-ltb 2 (level_of z p) h) in
+        let q : _ = level_some (family z) 1 (typeB p) (in_level_b 1 (omega arith) ∙ lt-ltb 2 (level_of z p) h) in
         in_some q.0 (members (family z) (typeB p)) q.1
 
     pub members_b_none : level_of z p ≤ 2 → members (family z) (typeB p) ≡ []
     members_b_none h =
         none_in (members (family z) (typeB p)) (λ q i.
         let g : _ = grandchild (family z) (lawful z Z) p q i in
-        omega (arith, members_b_level q i, part_level_lem z Z q ((lawful z Z).from1 g.0 q g.2)))
+        omega (arith, members_b_level q i, (lawful z Z).from1 g.0 q g.2))

@@ -1,15 +1,13 @@
 -- Reading a header and a part has the outcome that its case says, and no other.
-use Rattle.std.proofs.Math.Path.{◌≡◌, refl, sym}
+use Rattle.std.specs.Prelude.{◌≡◌, Bool, cond, not, ◌&&◌, eqb}
+use Rattle.std.proofs.Math.Path.{refl, sym}
 use Rattle.std.proofs.Common.{ap, ◌∙◌, subst, arith}
 use mathlib.Core.List.{List, [], ◌∷◌}
-use Rattle.std.specs.Prelude.{Bool, cond, not, ◌&&◌, eqb}
 use Rattle.std.proofs.Math.Bool.{true, false, true≢false}
 use Prim.Native.Nat.{ℕ, zero, suc, ◌+◌, ◌≤◌, ◌<◌}
 use Rattle.std.proofs.Math.Dec.{leb}
 use Rattle.std.proofs.Math.ListN.{length}
 use borrow.Author.Tests.{leb-true, leb-false, le-leb, lt-leb, eqb-true, eqb-false, ne_eqb}
-use Rattle.rules.specs.declared.Merged.{Merged}
-use Rattle.rules.specs.declared.Merged.TheVariants.{Never, From}
 use Rattle.rules.specs.declared.Size.{Size}
 use Rattle.rules.specs.declared.Refusal.TheVariants as refusal
 use Rattle.rules.specs.declared.Number.{Number}
@@ -22,16 +20,13 @@ use Rattle.rules.specs.declared.PartRead.{PartRead}
 use Rattle.rules.specs.declared.PartRead.TheVariants as part
 use Rattle.rules.specs.Document.Pyramid.{legal_size, most_planes}
 use Rattle.rules.specs.Document.Passes.{PartName}
-use Rattle.rules.specs.Document.Layout.{read_number, version_of, merged_numbers, header_numbers, bit_at, clear_from, pad_clear, body_of, name_of}
-use Rattle.rules.specs.Document.Numbers.{head_number, judged_header, read_sizes, read_version1, read_version2, read_header, part_number, legal_head}
-use Rattle.rules.specs.Document.Numbers.{judged_part, headed, read_part}
-use Rattle.rules.specs.Document.Numbers.{judged_head, read_head}
+use Rattle.rules.specs.Document.Layout.{read_number, version, bit_at, clear_from, pad_clear, body_of, name_of}
+use Rattle.rules.specs.Document.Numbers.{head_number, judged_header, read_sizes, read_header, part_number, legal_head, judged_part, headed, read_part}
 use Rattle.rules.specs.Laws.Counting.Booleans.{both, both_left, both_right, not_test}
 use Rattle.rules.specs.Laws.Family.Sizes.{legal, size_legal}
 use Rattle.rules.specs.Laws.Reading.Parts.{legal_head_lem, head_legal}
 use Rattle.rules.specs.Laws.Bytes.BodyBack.{pad_clear_lem}
-use Rattle.rules.specs.Promises.Vocabulary.{LegalHead}
-use Rattle.rules.specs.Promises.Refusals.{Version, one, two, LegalHeader, Unread, ends_early, fourth_goes_on, Numbers, none, next}
+use Rattle.rules.specs.Promises.Refusals.{LegalHeader, Unread, ends_early, fourth_goes_on, Numbers, none, next}
 use Rattle.rules.specs.Promises.Refusals.{HeaderCase, HEAD, LONGFORM, VERSION, HEAD-later, LONGFORM-later, SIZE, LEGAL, HeadRead, PadSet, PartCase}
 use Rattle.rules.specs.Promises.Refusals.{PART-malformed, TAIL-head, PART, CUT, PAD, WHOLE}
 
@@ -76,7 +71,8 @@ long_stops : (at : ℕ) {x : Number} → x ≡ LongForm → Stops at x (header.R
 unfolding head_number
 long_stops at e go = rw e
 
-judged_case : (s : List ℕ) (z : Size) (planes end : ℕ) → Numbers s 0 (header_numbers z planes) end → HeaderCase s (judged_header z planes end)
+judged_case : (s : List ℕ) (z : Size) (planes end : ℕ) → Numbers s 0 (version ∷ z.w ∷ z.h ∷ z.n ∷ planes ∷ []) end
+    → HeaderCase s (judged_header z planes end)
 unfolding judged_header
 judged_case s z planes end ns = cases (legal_size z && leb planes most_planes) refl
   where
@@ -85,89 +81,48 @@ judged_case s z planes end ns = cases (legal_size z && leb planes most_planes) r
     cases true e = LEGAL ns (judged_legal z planes e)
     cases false e = SIZE ns (failed _ (legal_judged z planes) e)
 
--- The numbers behind a version, and what is made of them.
-module _ (s : List ℕ) {v m : ℕ} (ver : Version v m) where
-  number_case : {vs : List ℕ} {at : ℕ} → Numbers s 0 (v ∷ vs) at → length vs < m → {go : ℕ → ℕ → HeaderRead}
-      → ((x end : ℕ) → read_number s at ≡ Value x end → HeaderCase s (go x end)) → HeaderCase s (head_number at (read_number s at) go)
-  number_case {at = at} ns l {go} on = head_number_case (HeaderCase s) s at go (HEAD-later ver ns l) (LONGFORM-later ver ns l) on
-
-  sizes_case : 4 ≤ m → (a : ℕ) → read_number s 0 ≡ Value v a → (go : ℕ → ℕ → ℕ → ℕ → ℕ → HeaderRead)
-      → ((w h n planes end : ℕ) → Numbers s a (w ∷ h ∷ n ∷ planes ∷ []) end → HeaderCase s (go w h n planes end)) → HeaderCase s (read_sizes s a go)
-  unfolding read_sizes
-  sizes_case f a r0 go on =
-      number_case (next r0 none) (omega arith) (λ w b r1.
-      number_case (next r0 (next r1 none)) (omega arith) (λ h c r2.
-      number_case (next r0 (next r1 (next r2 none))) (omega arith) (λ n d r3.
-      number_case (next r0 (next r1 (next r2 (next r3 none)))) (omega arith) (λ planes end r4.
-      on w h n planes end (next r1 (next r2 (next r3 (next r4 none))))))))
-
-version1_case : (s : List ℕ) (a : ℕ) → read_number s 0 ≡ Value 1 a → HeaderCase s (read_version1 s a)
-unfolding read_version1 header_numbers version_of merged_numbers
-version1_case s a r =
-    sizes_case s one (omega arith) a r _ (λ w h n planes end ns.
-    judged_case s (record { w = w; h = h; n = n; merged = Never }) planes end (next r ns))
-
-version2_case : (s : List ℕ) (a : ℕ) → read_number s 0 ≡ Value 2 a → HeaderCase s (read_version2 s a)
-unfolding read_version2 header_numbers version_of merged_numbers
-version2_case s a r = sizes_case s two (omega arith) a r _ on
+sizes_case : (s : List ℕ) (a : ℕ) → read_number s 0 ≡ Value version a → HeaderCase s (read_sizes s a)
+unfolding read_sizes
+sizes_case s a r0 =
+    number (next r0 none) (omega arith) (λ w b r1.
+    number (next r0 (next r1 none)) (omega arith) (λ g c r2.
+    number (next r0 (next r1 (next r2 none))) (omega arith) (λ n d r3.
+    number (next r0 (next r1 (next r2 (next r3 none)))) (omega arith) (λ planes end r4.
+    judged_case s (record { w = w; h = g; n = n }) planes end (next r0 (next r1 (next r2 (next r3 (next r4 none)))))))))
   where
-    on : (w h n planes e : ℕ) → Numbers s a (w ∷ h ∷ n ∷ planes ∷ []) e
-        → HeaderCase s (head_number e (read_number s e) (λ k end. judged_header (record { w = w; h = h; n = n; merged = From k }) planes end))
-    on w h n planes e (next r1 (next r2 (next r3 (next r4 none)))) =
-        number_case s two (next r (next r1 (next r2 (next r3 (next r4 none))))) (omega arith) (λ k end r5.
-        judged_case s (record { w = w; h = h; n = n; merged = From k }) planes end (next r (next r1 (next r2 (next r3 (next r4 (next r5 none)))))))
+    number : {vs : List ℕ} {at : ℕ} → Numbers s 0 (version ∷ vs) at → length vs < 4 → {go : ℕ → ℕ → HeaderRead}
+        → ((v end : ℕ) → read_number s at ≡ Value v end → HeaderCase s (go v end)) → HeaderCase s (head_number at (read_number s at) go)
+    number {at = at} ns l {go} on = head_number_case (HeaderCase s) s at go (HEAD-later ns l) (LONGFORM-later ns l) on
 
 pub header_case : (s : List ℕ) → HeaderCase s (read_header s)
 unfolding read_header
-header_case s = head_number_case (HeaderCase s) s 0 _ HEAD LONGFORM (λ v a r. cases v a r (eqb v 1) refl (eqb v 2) refl)
+header_case s = head_number_case (HeaderCase s) s 0 _ HEAD LONGFORM (λ v a r. cases v a r (eqb v version) refl)
   where
-    cases : (v a : ℕ) → read_number s 0 ≡ Value v a → (b : Bool) → eqb v 1 ≡ b → (c : Bool) → eqb v 2 ≡ c
-        → HeaderCase s (cond b (read_version1 s a) (cond c (read_version2 s a) (header.Refused refusal.Version)))
-    cases v a r true e c f = version1_case s a (r ∙ ap (λ x. Value x a) (eqb-true v 1 e))
-    cases v a r false e true f = version2_case s a (r ∙ ap (λ x. Value x a) (eqb-true v 2 f))
-    cases v a r false e false f = VERSION (next r none) (eqb-false v 1 e) (eqb-false v 2 f)
+    cases : (v a : ℕ) → read_number s 0 ≡ Value v a → (b : Bool) → eqb v version ≡ b
+        → HeaderCase s (cond b (read_sizes s a) (header.Refused refusal.Version))
+    cases v a r true e = sizes_case s a (r ∙ ap (λ x. Value x a) (eqb-true v version e))
+    cases v a r false e = VERSION (next r none) (eqb-false v version e)
 
-sizes_stop : (s : List ℕ) (a : ℕ) (vs : List ℕ) (at : ℕ) (y : HeaderRead) (go : ℕ → ℕ → ℕ → ℕ → ℕ → HeaderRead) → Numbers s a vs at → length vs < 4
-    → Stops at (read_number s at) y → read_sizes s a go ≡ y
+sizes_stop : (s : List ℕ) (a : ℕ) (vs : List ℕ) (at : ℕ) (y : HeaderRead) → Numbers s a vs at → length vs < 4 → Stops at (read_number s at) y
+    → read_sizes s a ≡ y
 unfolding read_sizes head_number
-sizes_stop s a vs at y go none l stop = stop _
-sizes_stop s a vs at y go (next r1 none) l stop = rw r1 (stop _)
-sizes_stop s a vs at y go (next r1 (next r2 none)) l stop = rw (r1, r2) (stop _)
-sizes_stop s a vs at y go (next r1 (next r2 (next r3 none))) l stop = rw (r1, r2, r3) (stop _)
-sizes_stop s a vs at y go (next r1 (next r2 (next r3 (next r4 ns)))) l stop = absurd (omega arith)
-
--- what stops a header of either version, behind its version
-later_stop : (s : List ℕ) {v m : ℕ} → Version v m → (a : ℕ) (vs : List ℕ) (at : ℕ) (y : HeaderRead) → read_number s 0 ≡ Value v a → Numbers s a vs at
-    → length vs < m → Stops at (read_number s at) y → read_header s ≡ y
-unfolding read_header read_version1 read_version2 read_sizes head_number
-later_stop s one a vs at y r ns l stop = rw r (sizes_stop s a vs at y _ ns l stop)
-later_stop s two a vs at y r (next r1 (next r2 (next r3 (next r4 none)))) l stop = rw (r, r1, r2, r3, r4) (stop _)
-later_stop s two a vs at y r (next r1 (next r2 (next r3 (next r4 (next r5 ns))))) l stop = absurd (omega arith)
-later_stop s two a vs at y r none l stop = rw r (sizes_stop s a vs at y _ none (omega arith) stop)
-later_stop s two a vs at y r (next r1 none) l stop = rw r (sizes_stop s a vs at y _ (next r1 none) (omega arith) stop)
-later_stop s two a vs at y r (next r1 (next r2 none)) l stop = rw r (sizes_stop s a vs at y _ (next r1 (next r2 none)) (omega arith) stop)
-later_stop s two a vs at y r (next r1 (next r2 (next r3 none))) l stop =
-    rw r (sizes_stop s a vs at y _ (next r1 (next r2 (next r3 none))) (omega arith) stop)
-
--- what all numbers of a header make of it
-numbers_judged : (s : List ℕ) (w h n planes end : ℕ) (m : Merged) → Numbers s 0 (header_numbers (record { w = w; h = h; n = n; merged = m }) planes) end
-    → read_header s ≡ judged_header (record { w = w; h = h; n = n; merged = m }) planes end
-unfolding read_header read_version1 read_version2 read_sizes head_number header_numbers version_of merged_numbers
-numbers_judged s w h n planes end Never (next r0 (next r1 (next r2 (next r3 (next r4 none))))) = rw (r0, r1, r2, r3, r4)
-numbers_judged s w h n planes end (From k) (next r0 (next r1 (next r2 (next r3 (next r4 (next r5 none)))))) = rw (r0, r1, r2, r3, r4, r5)
+sizes_stop s a vs at y none l stop = stop _
+sizes_stop s a vs at y (next r1 none) l stop = rw r1 (stop _)
+sizes_stop s a vs at y (next r1 (next r2 none)) l stop = rw (r1, r2) (stop _)
+sizes_stop s a vs at y (next r1 (next r2 (next r3 none))) l stop = rw (r1, r2, r3) (stop _)
+sizes_stop s a vs at y (next r1 (next r2 (next r3 (next r4 ns)))) l stop = absurd (omega arith)
 
 pub header_is : (s : List ℕ) (x : HeaderRead) → HeaderCase s x → read_header s ≡ x
-unfolding read_header head_number judged_header
+unfolding read_header read_sizes head_number judged_header
 header_is s x (HEAD u) = unread_stops 0 u _
 header_is s x (LONGFORM e) = long_stops 0 e _
-header_is s x (VERSION {v = v} (next r none) n m) = rw (r, ne_eqb v 1 n, ne_eqb v 2 m)
-header_is s x (HEAD-later {vs = vs} {at = at} x1 (next {b = b} r ns) l u) = later_stop s x1 b vs at x r ns l (unread_stops at u)
-header_is s x (LONGFORM-later {vs = vs} {at = at} x1 (next {b = b} r ns) l e) = later_stop s x1 b vs at x r ns l (long_stops at e)
-header_is s x (SIZE {z = z} {planes = planes} {end = end} ns n) =
-    numbers_judged s z.w z.h z.n planes end z.merged ns
-    ∙ rw (not_test (legal_size z && leb planes most_planes) (λ e. n (judged_legal z planes e)))
-header_is s x (LEGAL {h = h} ns l) =
-    numbers_judged s h.size.w h.size.h h.size.n h.planes h.end h.size.merged ns ∙ rw (legal_judged h.size h.planes l)
+header_is s x (VERSION {v = v} (next r none) n) = rw (r, ne_eqb v version n)
+header_is s x (HEAD-later {vs = vs} {at = at} (next {b = b} r ns) l u) = rw r (sizes_stop s b vs at x ns l (unread_stops at u))
+header_is s x (LONGFORM-later {vs = vs} {at = at} (next {b = b} r ns) l e) = rw r (sizes_stop s b vs at x ns l (long_stops at e))
+header_is s x (SIZE {z = z} {planes = planes} (next r0 (next r1 (next r2 (next r3 (next r4 none))))) n) =
+    rw (r0, r1, r2, r3, r4, not_test (legal_size z && leb planes most_planes) (λ e. n (judged_legal z planes e)))
+header_is s x (LEGAL {h = h} (next r0 (next r1 (next r2 (next r3 (next r4 none))))) l) =
+    rw (r0, r1, r2, r3, r4, legal_judged h.size h.planes l)
 
 -- Parts.
 clear_set : (body : List ℕ) (i m : ℕ) → clear_from body i m ≡ false → (j : ℕ) × (i ≤ j) × (j < i + m) × (bit_at body j ≡ true)
@@ -268,36 +223,3 @@ module _ (h : Header) (s : List ℕ) (before : PartName) (place : ℕ) where
   part_is x (WHOLE {p = p} r l w n) =
       let clear : pad_clear (body_of s p) p.bits ≡ true = passed _ (λ e. n (pad_set_lem s p e)) in
       part_judged p r ∙ rw (head_legal h before (name_of p) p.bits l, le-leb p.end (length s) w, clear)
-
--- A head by itself, where one was found: its three numbers stand there, and are legal.
-module _ (h : Header) (s : List ℕ) (before : PartName) (place : ℕ) (p : Part) where
-  abbrev Found : Type 0
-  Found = HeadRead s place p × LegalHead h before (name_of p) p.bits
-
-  judged_head_found : (q : Part) → HeadRead s place q → judged_head h before q ≡ part.Part p → Found
-  unfolding judged_head
-  judged_head_found q r = cases (legal_head h before (name_of q) q.bits) refl
-    where
-      same : part.Part q ≡ part.Part p → q ≡ p
-      same e = cc
-
-      cases : (b : Bool) → legal_head h before (name_of q) q.bits ≡ b
-          → cond b (part.Part q) (part.Refused (refusal.Part q.place)) ≡ part.Part p → Found
-      cases true l e = subst (λ x. HeadRead s place x × LegalHead h before (name_of x) x.bits) (same e) (r, legal_head_lem h before (name_of q) q.bits l)
-      cases false l e = absurd (let z : ◌≡◌ {A = ℕ} 0 1 = cc in omega arith)
-
-  pub head_found : read_head h s before place ≡ part.Part p → Found
-  unfolding read_head headed
-  head_found =
-      number place _ (λ n a r0.
-      number a _ (λ k b r1.
-      number b _ (λ bits body r2.
-      judged_head_found (headed place n k bits body) (record { numbers = next r0 (next r1 (next r2 none)); placed = refl; ends = refl }))))
-    where
-      number : (at : ℕ) (go : ℕ → ℕ → PartRead) → ((v end : ℕ) → read_number s at ≡ Value v end → go v end ≡ part.Part p → Found)
-          → part_number place (read_number s at) go ≡ part.Part p → Found
-      number at go on =
-          part_number_case (λ x. x ≡ part.Part p → Found) place s at go
-          (λ e f. absurd (let z : ◌≡◌ {A = ℕ} 0 1 = cc in omega arith))
-          (λ e f. absurd (let z : ◌≡◌ {A = ℕ} 0 1 = cc in omega arith))
-          (λ e f. absurd (let z : ◌≡◌ {A = ℕ} 0 1 = cc in omega arith)) on

@@ -8,7 +8,7 @@ use Rattle.rules.specs.declared.Part.{Part}
 use Rattle.rules.specs.declared.PartRead.TheVariants as part
 use Rattle.rules.specs.Document.Pyramid.{legal_size, most_planes}
 use Rattle.rules.specs.Document.Passes.{PartName}
-use Rattle.rules.specs.Document.Layout.{read_number, header_numbers, bytes_for, pad_clear, body_of, name_of}
+use Rattle.rules.specs.Document.Layout.{read_number, version, bytes_for, pad_clear, body_of, name_of}
 use Rattle.rules.specs.Document.Numbers.{read_header, read_part}
 use Rattle.rules.specs.Laws.Counting.Booleans.{both_left, both_right}
 use Rattle.rules.specs.Promises.Vocabulary.{LegalHead}
@@ -21,9 +21,17 @@ pub record NumberStands (s : List ℕ) (at v end : ℕ) : Type 0 where
   pub after : at < end
   pub within : end ≤ length s
 
--- A header that was read: its numbers stand one behind the other, and have legal values.
+-- A header that was read: its five numbers and where they stand, and legal values.
 pub record HeaderStands (s : List ℕ) (h : Header) : Type 0 where
-  pub numbers : Numbers s 0 (header_numbers h.size h.planes) h.end
+  pub width_at : ℕ
+  pub height_at : ℕ
+  pub depth_at : ℕ
+  pub planes_at : ℕ
+  pub version_read : read_number s 0 ≡ Value version width_at
+  pub width_read : read_number s width_at ≡ Value h.size.w height_at
+  pub height_read : read_number s height_at ≡ Value h.size.h depth_at
+  pub depth_read : read_number s depth_at ≡ Value h.size.n planes_at
+  pub planes_read : read_number s planes_at ≡ Value h.planes h.end
   pub judged : legal_size h.size && leb h.planes most_planes ≡ true
 
 -- A part that was read at a place: its three numbers and where they stand, a legal head, a whole body, clear padding.
@@ -50,12 +58,19 @@ pub read_header_stands : (s : List ℕ) (h : Header) → read_header s ≡ heade
 read_header_stands s h e = cases (subst (HeaderCase s) e (header_case s))
   where
     cases : {h : Header} → HeaderCase s (header.Header h) → HeaderStands s h
-    cases {h} (LEGAL ns l) = record { numbers = ns; judged = legal_judged h.size h.planes l }
-
--- Numbers that were read end within the bytes.
-numbers_within : {s : List ℕ} {a e : ℕ} {vs : List ℕ} → Numbers s a vs e → a ≤ length s → e ≤ length s
-numbers_within none h = h
-numbers_within {s} {a} (next {b = b} {v = v} r ns) h = numbers_within ns (read_number_stands s a v b r).within
+    cases {h} (LEGAL (next {b = a} r0 (next {b = b} r1 (next {b = c} r2 (next {b = d} r3 (next r4 none))))) l) =
+        record {
+          width_at = a;
+          height_at = b;
+          depth_at = c;
+          planes_at = d;
+          version_read = r0;
+          width_read = r1;
+          height_read = r2;
+          depth_read = r3;
+          planes_read = r4;
+          judged = legal_judged h.size h.planes l;
+        }
 
 -- The size is legal, the planes are not too many, and the header is whole.
 pub header_legal : {s : List ℕ} {h : Header} → HeaderStands s h → legal_size h.size ≡ true
@@ -65,7 +80,7 @@ pub header_planes : {s : List ℕ} {h : Header} → HeaderStands s h → h.plane
 header_planes {h = h} t = leb-true h.planes most_planes (both_right (legal_size h.size) _ t.judged)
 
 pub header_within : {s : List ℕ} {h : Header} → HeaderStands s h → h.end ≤ length s
-header_within {s} {h} t = numbers_within t.numbers (omega arith)
+header_within {s} {h} t = (read_number_stands s t.planes_at h.planes h.end t.planes_read).within
 
 pub read_part_stands : (h : Header) (s : List ℕ) (before : PartName) (place : ℕ) (p : Part) → read_part h s before place ≡ part.Part p
     → PartStands h s before place p

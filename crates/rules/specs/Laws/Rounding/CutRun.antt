@@ -1,6 +1,6 @@
 -- Decoding what arrived of a coder's record, the last part cut perhaps: it is accepted, and each coefficient is rounded at the plane that its level
 -- reached, or at the one below where that is the plane of the part that was cut.
-use Rattle.std.specs.Prelude.{◌≡◌, Bool, cond, ◌&&◌, ltb, take, replicate, ℤ, pos}
+use Rattle.std.specs.Prelude.{◌≡◌, Bool, cond, ◌&&◌, ◌⊎◌, ltb, take, replicate, ℤ, pos}
 use Rattle.std.proofs.Math.Path.{refl, ap, ap₂, sym, subst}
 use Rattle.std.proofs.Common.{◌∙◌, true≢false, ⊎_elim, get_or-take}
 use mathlib.Core.List.{List, [], ◌∷◌, ◌++◌, map-append}
@@ -16,7 +16,7 @@ use Rattle.rules.specs.declared.Part.{Part}
 use Rattle.rules.specs.declared.PartRead.{PartRead}
 use Rattle.rules.specs.declared.PartRead.TheVariants as part
 use Rattle.rules.specs.Document.Notation.{any, flat}
-use Rattle.rules.specs.Document.Pyramid.{Family, legal_size, area, levels, part_level, family, magnitude, negative, most_planes}
+use Rattle.rules.specs.Document.Pyramid.{Family, legal_size, area, levels, level_of, family, magnitude, negative, most_planes}
 use Rattle.rules.specs.Document.Passes.{State, start, after, from, PartName, part_names, Course, Reader, signed, decoded}
 use Rattle.rules.specs.Document.Layout.{header_bytes, CodedPart, parts_with, part_bytes, packed, bit_at, body_of, bits_there, name_of}
 use Rattle.rules.specs.Document.Layout.{usable, reached}
@@ -25,9 +25,9 @@ use Rattle.rules.specs.Document.Calls.{going, used_cut, tail_onward, decoding}
 use Rattle.rules.specs.Laws.Counting.Booleans.{clash, both_left, both_right, not_test}
 use Rattle.rules.specs.Laws.Counting.Sums.{All, all_then, all_both, is, sum, one_most, from_once}
 use Rattle.rules.specs.Laws.Family.Sizes.{legal}
-use Rattle.rules.specs.Promises.Vocabulary.{present, header_of, part_at, parts_at, Stated, names, kept, head_bytes, whole_in, tail_in, cut_in}
+use Rattle.rules.specs.Promises.Vocabulary.{present, header_of, part_at, parts_at, selection, Stated, names, kept, head_bytes, whole_in, tail_in, cut_in}
 use Rattle.rules.specs.Promises.Vocabulary.{at, arrived, toward_zero, RoundedAt, at_reached, at_cut, Rounded, ReadsAs, Named}
-use Rattle.rules.specs.Laws.Offspring.Level.{part_least}
+use Rattle.rules.specs.Laws.Offspring.Level.{level_least}
 use Rattle.rules.specs.Laws.Offspring.Lawful.{lawful}
 use Rattle.rules.specs.Laws.Reading.Parts.{InOrder, After, absent, all_middle, order_front, order_behind, names_named, names_in_order, name_same}
 use Rattle.rules.specs.Laws.Reading.Usable.{usable_there, usable_reached, reached_falls}
@@ -84,20 +84,16 @@ module _ (top planes : ℕ) (there : List PartName) (x : PartName) (front : All 
   itself_used u = sym (usable_reached top planes (there ++ (x ∷ [])) x.plane x.level named.under) ∙ u
 
   -- The plane that a level reaches with it, if that is used: as without it, or its own plane where that is the next.
-  reached_with : (part : List PartName) → present part x ≡ true → usable top planes (there ++ (x ∷ [])) x ≡ true → (k : ℕ) → 1 ≤ k
-      → RoundedAt top planes there part k (R k) (R' k)
+  reached_with : (part : List PartName) → present part x ≡ true → (k : ℕ) → 1 ≤ k → RoundedAt part k (R k) (R' k)
   unfolding reached_now usable_now
-  reached_with part p u k a =
-      subst (RoundedAt top planes there part k (R k)) (sym (reached_now_lem top planes there x front named k a))
-      (by (eqb k x.level && usable_now R x) refl)
+  reached_with part p k a = subst (RoundedAt part k (R k)) (sym (reached_now_lem top planes there x front named k a)) (by (eqb k x.level && usable_now R x) refl)
     where
-      by : (b : Bool) → eqb k x.level && usable_now R x ≡ b → RoundedAt top planes there part k (R k) (cond b x.plane (R k))
+      by : (b : Bool) → eqb k x.level && usable_now R x ≡ b → RoundedAt part k (R k) (cond b x.plane (R k))
       by false e = at_reached
       by true e =
           let same : k ≡ x.level = eqb-true _ _ (both_left _ _ e) in
           let up : R x.level ≡ suc x.plane = eqb-true _ _ (both_left _ _ (both_right (eqb k x.level) _ e)) in
           at_cut (ap R same ∙ up) (ap (λ (j : ℕ). present part (at x.plane j)) same ∙ p)
-          (ap (λ (j : ℕ). usable top planes (there ++ (at x.plane j ∷ [])) (at x.plane j)) same ∙ u)
 
 -- The planes at which a coefficient is rounded in either of two pyramids, where it is between one rounded at plane r and one at plane r'.
 module _ {before a b end : ℤ} where
@@ -352,11 +348,10 @@ module _ (z : Size) (ok : legal_size z ≡ true) (planes : ℕ) (few : planes �
     cut_rounded part its =
         record {
           sized = drawn_by_length there x t;
-          plane = λ q. first_plane (B q) (reached (levels z) planes there (part_level z q)) (reached (levels z) planes (there ++ (x.name ∷ [])) (part_level z q));
+          plane = λ q. first_plane (B q) (reached (levels z) planes there (level_of z q)) (reached (levels z) planes (there ++ (x.name ∷ [])) (level_of z q));
           rounds = λ q l.
-              first_either (RoundedAt (levels z) planes there part (part_level z q) (reached (levels z) planes there (part_level z q))) _ _ at_reached
-              (reached_with (levels z) planes there x.name k.front k.named part its k.usable_with (part_level z q)
-              (part_least z (legal z ok) q l)) (B q);
+              first_either (RoundedAt part (level_of z q) (reached (levels z) planes there (level_of z q))) _ _ at_reached
+              (reached_with (levels z) planes there x.name k.front k.named part its (level_of z q) (level_least z (legal z ok) q l)) (B q);
           value = λ q l.
               first_value (λ m. signed (neg q) (toward_zero m (mag q))) _ _ ((run there).value q l) ((run (there ++ (x.name ∷ []))).value q l) (B q);
         }

@@ -20,7 +20,7 @@ use Rattle.rules.specs.declared.Part.{Part}
 use Rattle.rules.specs.declared.PartRead.{PartRead}
 use Rattle.rules.specs.declared.PartRead.TheVariants as part
 use Rattle.rules.specs.declared.Refusal.TheVariants as refusal
-use Rattle.rules.specs.Document.Pyramid.{Family, family, area, levels, part_level, legal_size, magnitude, most_planes}
+use Rattle.rules.specs.Document.Pyramid.{Family, family, area, levels, level_of, legal_size, magnitude, most_planes}
 use Rattle.rules.specs.Document.Passes.{Entry, Lists, Course, listed, listing, passed, State, after, start, PartName}
 use Rattle.rules.specs.Document.Passes.{Reader, signed, grown, written, decoder, decoded}
 use Rattle.rules.specs.Document.Layout.{name_of, bit_at, body_of, bits_there, usable}
@@ -249,8 +249,8 @@ module _ (b p : PartName) (f : follows b p ≡ true) where
           rw (le-leb b.level j l, le-leb p.level j (omega (arith, comes.in_plane i))) (omega (arith, comes.downward))
 
 -- before all parts
-blank_under : (z : Size) (planes q : ℕ) → magnitude (replicate (area z) (pos 0)) q + 2 ^ plane_behind (at planes 0) (part_level z q) ≤ 2 ^ planes
-blank_under z planes q = rw (le-leb 0 (part_level z q) (omega arith), blank_magnitude (area z) q) (omega arith)
+blank_under : (z : Size) (planes q : ℕ) → magnitude (replicate (area z) (pos 0)) q + 2 ^ plane_behind (at planes 0) (level_of z q) ≤ 2 ^ planes
+blank_under z planes q = rw (le-leb 0 (level_of z q) (omega arith), blank_magnitude (area z) q) (omega arith)
 
 -- Decoding, part by part: what holds behind the part b.
 module _ (h : Header) (ok : legal_size h.size ≡ true) (bytes : List ℕ) (there : List PartName) where
@@ -261,19 +261,19 @@ module _ (h : Header) (ok : legal_size h.size ≡ true) (bytes : List ℕ) (ther
   most = 2 ^ h.planes
 
   unfoldable Under : PartName → Progress → Type 0
-  Under b (going st v) = SoundLists z st × ((q : ℕ) → magnitude v q + 2 ^ plane_behind b (part_level z q) ≤ most)
+  Under b (going st v) = SoundLists z st × ((q : ℕ) → magnitude v q + 2 ^ plane_behind b (level_of z q) ≤ most)
   Under b (unfit place) = Unit {0}
 
   -- a part that is walked over, and one that is decoded
   module _ (b : PartName) (p : Part) (f : follows b (name_of p) ≡ true) (o : OfLevel (levels z) (name_of p)) (st : State) (v : List ℤ)
-      (i : SoundLists z st × ((q : ℕ) → magnitude v q + 2 ^ plane_behind b (part_level z q) ≤ most)) where
-    walked : (q : ℕ) → magnitude v q + 2 ^ plane_behind (name_of p) (part_level z q) ≤ most
-    walked q = omega (arith, i.1 q, pow_mono (behind_falls b (name_of p) f (part_level z q)))
+      (i : SoundLists z st × ((q : ℕ) → magnitude v q + 2 ^ plane_behind b (level_of z q) ≤ most)) where
+    walked : (q : ℕ) → magnitude v q + 2 ^ plane_behind (name_of p) (level_of z q) ≤ most
+    walked q = omega (arith, i.1 q, pow_mono (behind_falls b (name_of p) f (level_of z q)))
 
     abbrev c : Course Reader
     c = decoded (family z) (name_of p) (bit_at (body_of bytes p)) (bits_there bytes p) st v
 
-    here_before : (q : ℕ) → part_level z q ≡ (name_of p).level → magnitude v q + 2 ^ suc (name_of p).plane ≤ most
+    here_before : (q : ℕ) → level_of z q ≡ (name_of p).level → magnitude v q + 2 ^ suc (name_of p).plane ≤ most
     here_before q e = omega (arith, subst (λ (j : ℕ). magnitude v q + 2 ^ plane_behind b j ≤ most) e (i.1 q), pow_mono (behind_above b (name_of p) f))
 
     once_here : (q : ℕ) → lists_weight (family z) (is q) (st (name_of p).level) ≤ 1
@@ -286,15 +286,15 @@ module _ (h : Header) (ok : legal_size h.size ≡ true) (bytes : List ℕ) (ther
           one_most (ltb q (area z)),
         )
 
-    decoded_values : (q : ℕ) → magnitude c.side.pyramid q + 2 ^ plane_behind (name_of p) (part_level z q) ≤ most
+    decoded_values : (q : ℕ) → magnitude c.side.pyramid q + 2 ^ plane_behind (name_of p) (level_of z q) ≤ most
     unfolding decoded sum
     decoded_values q =
         let g = passed_under (lawful z (legal z ok)) (name_of p).plane (name_of p).level most (bit_at (body_of bytes p)) (bits_there bytes p)
         (st (name_of p).level) v (i.0.placed (name_of p).level) once_here here_before in
-        by g (ℕ_discrete (part_level z q) (name_of p).level)
+        by g (ℕ_discrete (level_of z q) (name_of p).level)
       where
         by : Growth (lawful z (legal z ok)) (name_of p).plane (name_of p).level most (bit_at (body_of bytes p)) (bits_there bytes p) (st (name_of p).level) v c []
-            → Dec (part_level z q ≡ (name_of p).level) → magnitude c.side.pyramid q + 2 ^ plane_behind (name_of p) (part_level z q) ≤ most
+            → Dec (level_of z q ≡ (name_of p).level) → magnitude c.side.pyramid q + 2 ^ plane_behind (name_of p) (level_of z q) ≤ most
         by g (yes e) = rw (e, behind_own (name_of p)) (omega (arith, g.small q e))
         by g (no d) = omega (arith, g.elsewhere q d, walked q)
 
@@ -368,7 +368,7 @@ module _ (s : List ℕ) (room work : ℕ) (x : Picture) (e : decoding s room wor
       let u = parts_under h ok s there first h.end (read_parts h s).parts whole
       (going (start h.size) (replicate (area h.size) (pos 0))) (start_sound h.size (legal h.size ok), blank_under h.size h.planes) in
       let v = subst (Under h ok s there u.0) g.1 u.1 in
-      (h, a.1, λ q. omega (arith, v.1 q, pow_some (plane_behind u.0 (part_level h.size q))))
+      (h, a.1, λ q. omega (arith, v.1 q, pow_some (plane_behind u.0 (level_of h.size q))))
 
 -- Whatever bytes decoding accepts, every magnitude is below 2^planes, planes being what the header says, and no more than 131,071.
 module _ (s : List ℕ) (room work : ℕ) (x : Picture) (e : decoding s room work ≡ accepted x) where

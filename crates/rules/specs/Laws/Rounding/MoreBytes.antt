@@ -9,7 +9,7 @@ use Rattle.std.proofs.Math.Decide.{dec_lt}
 use Rattle.std.proofs.Math.ListN.{get_or-eq_default}
 use Rattle.std.proofs.Math.IntN.{nat_abs}
 use Rattle.rules.specs.declared.Size.{Size}
-use Rattle.rules.specs.Document.Pyramid.{legal_size, area, levels, part_level, magnitude, negative, most_planes, below0}
+use Rattle.rules.specs.Document.Pyramid.{legal_size, area, levels, level_of, magnitude, negative, most_planes, below0}
 use Rattle.rules.specs.Document.Passes.{PartName, signed}
 use Rattle.rules.specs.Document.Layout.{CodedPart, parts_with, part_bytes, usable, reached}
 use Rattle.rules.specs.Document.Calls.{Picture, accepted, decoding}
@@ -68,13 +68,13 @@ names_more ps more q p h =
 module _ (z : Size) (ok : legal_size z ≡ true) (planes : ℕ) (few : planes ≤ most_planes) (pyramid : List ℤ)
     (small : (q : ℕ) → magnitude pyramid q < 2 ^ planes) where
   abbrev reaches : List PartName → ℕ → ℕ
-  reaches there q = reached (levels z) planes there (part_level z q)
+  reaches there q = reached (levels z) planes there (level_of z q)
 
   abbrev value : ℕ → ℕ → ℤ
   value q m = signed (negative pyramid q) (toward_zero m (magnitude pyramid q))
 
   reaches_more : (there : List PartName) (x : PartName) (q : ℕ) → reaches (there ++ (x ∷ [])) q ≤ reaches there q
-  reaches_more there x q = reached_more (levels z) planes there (there ++ (x ∷ [])) (λ p h. present_append there (x ∷ []) p ∙ rw h) (part_level z q)
+  reaches_more there x q = reached_more (levels z) planes there (there ++ (x ∷ [])) (λ p h. present_append there (x ∷ []) p ∙ rw h) (level_of z q)
 
   -- Where a coefficient is rounded in a pyramid that is printed: at the plane that its level reached or lower, and not lower than with x, if x is
   -- the part that is cut.
@@ -169,7 +169,7 @@ module _ (z : Size) (ok : legal_size z ≡ true) (planes : ℕ) (few : planes �
         let a : PlaneAt ps n₁ w₁ q = plane_at ps n₁ w₁ p₁ q l in
         let b : PlaneAt ps n₂ w₂ q = plane_at ps n₂ w₂ p₂ q l in
         let later : reaches (names (whole_in n₁ ps ++ x ∷ more)) q ≤ reaches (names (whole_in n₁ ps) ++ (x.name ∷ [])) q
-        = reached_more (levels z) planes _ _ (names_more (whole_in n₁ ps) more x) (part_level z q) in
+        = reached_more (levels z) planes _ _ (names_more (whole_in n₁ ps) more x) (level_of z q) in
         record {
           first = a.plane;
           second = b.plane;
@@ -222,11 +222,10 @@ module _ (z : Size) (ok : legal_size z ≡ true) (planes : ℕ) (few : planes �
       by q (no d) = (omega (arith, past q d), λ some. absurd (omega (arith, past q d)))
 
   -- Decoding gives these pyramids.
-  module _ (keep : PartName → Bool) where
-    printed_is : {room work : ℕ} → Stated z room work → (n : ℕ) (x : Picture)
-        → decoding (arrived z planes (kept keep (parts_with z planes pyramid)) n) room work ≡ accepted x
+  module _ (keep : PartName → Bool) (room work : ℕ) (sizes : Stated z room work) where
+    printed_is : (n : ℕ) (x : Picture) → decoding (arrived z planes (kept keep (parts_with z planes pyramid)) n) room work ≡ accepted x
         → (comes z ok planes few pyramid small keep n).onward.printed ≡ x.pyramid
-    printed_is {room} {work} sizes n x e =
+    printed_is n x e =
         let ps : List CodedPart = kept keep (parts_with z planes pyramid) in
         let some : (left : PartName → Bool) × (kept left (parts_with z planes pyramid) ≡ whole_in n ps)
         = arrived_selection keep n (before_all planes) (parts_with z planes pyramid)
@@ -235,12 +234,11 @@ module _ (z : Size) (ok : legal_size z ≡ true) (planes : ℕ) (few : planes �
         room work sizes in
         ap (λ (y : Picture). y.pyramid) (accepted_same (sym same ∙ e))
 
-    -- Each with a room and a workspace of its own.
-    pub arrived_no_worse : {room₁ work₁ room₂ work₂ : ℕ} → Stated z room₁ work₁ → Stated z room₂ work₂ → (n₁ n₂ : ℕ) → n₁ ≤ n₂ → (x₁ x₂ : Picture)
-        → decoding (arrived z planes (kept keep (parts_with z planes pyramid)) n₁) room₁ work₁ ≡ accepted x₁
-        → decoding (arrived z planes (kept keep (parts_with z planes pyramid)) n₂) room₂ work₂ ≡ accepted x₂ → NoWorse x₁.pyramid x₂.pyramid
-    arrived_no_worse sizes₁ sizes₂ n₁ n₂ l x₁ x₂ e₁ e₂ =
+    pub arrived_no_worse : (n₁ n₂ : ℕ) → n₁ ≤ n₂ → (x₁ x₂ : Picture)
+        → decoding (arrived z planes (kept keep (parts_with z planes pyramid)) n₁) room work ≡ accepted x₁
+        → decoding (arrived z planes (kept keep (parts_with z planes pyramid)) n₂) room work ≡ accepted x₂ → NoWorse x₁.pyramid x₂.pyramid
+    arrived_no_worse n₁ n₂ l x₁ x₂ e₁ e₂ =
         let c₁ = comes z ok planes few pyramid small keep n₁ in
         let c₂ = comes z ok planes few pyramid small keep n₂ in
-        subst₂ NoWorse (printed_is sizes₁ n₁ x₁ e₁) (printed_is sizes₂ n₂ x₂ e₂)
+        subst₂ NoWorse (printed_is n₁ x₁ e₁) (printed_is n₂ x₂ e₂)
         (prints_no_worse (kept keep (parts_with z planes pyramid)) n₁ n₂ l c₁.onward.printed c₂.onward.printed c₁.prints c₂.prints)

@@ -15,7 +15,7 @@ use Rattle.rules.specs.declared.Size.{Size}
 use Rattle.rules.specs.declared.Plane.{Plane}
 use Rattle.rules.specs.declared.Header.{Header}
 use Rattle.rules.specs.Document.Notation.{count}
-use Rattle.rules.specs.Document.Pyramid.{legal_size, area, levels, part_level, family, below0, magnitude, negative, most_planes}
+use Rattle.rules.specs.Document.Pyramid.{legal_size, area, levels, level_of, family, below0, magnitude, negative, most_planes}
 use Rattle.rules.specs.Document.Passes.{State, start, from, PartName, part_names, signed}
 use Rattle.rules.specs.Document.Layout.{header_bytes, CodedPart, parts_with, name_of, reached}
 use Rattle.rules.specs.Document.Numbers.{tail, behind, top_level}
@@ -26,7 +26,7 @@ use Rattle.rules.specs.Laws.Counting.Sums.{sum, one, one_most, is, ◌∈◌, Al
 use Rattle.rules.specs.Laws.Family.Sizes.{legal}
 use Rattle.rules.specs.Promises.Vocabulary.{Legal, present, header_of, parts_at, selection, Stated, names, kept, toward_zero}
 use Rattle.rules.specs.Promises.Vocabulary.{RoundedAt, at_reached, Rounded, ReadsAs, Named}
-use Rattle.rules.specs.Laws.Offspring.Level.{part_most_lem, part_least}
+use Rattle.rules.specs.Laws.Offspring.Level.{level_most, level_least}
 use Rattle.rules.specs.Laws.Offspring.Lawful.{lawful}
 use Rattle.rules.specs.Laws.Offspring.Start.{start_top, start_else}
 use Rattle.rules.specs.Laws.State.Parts.{part_names_levels, coded_parts_bits}
@@ -55,9 +55,9 @@ map_length f a zero = refl
 map_length f a (suc m) = omega (arith, map_length f (suc a) m)
 
 module _ (h : Header) (there : List PartName) where
-  reports_places : length (reached_planes h there) ≡ level_places
+  reports_six : length (reached_planes h there) ≡ level_places
   unfolding reached_planes
-  reports_places = map_length (reached_plane h there) 1 level_places
+  reports_six = map_length (reached_plane h there) 1 level_places
 
   reports_level : (k : ℕ) → 1 ≤ k → k ≤ top_level h → top_level h ≤ level_places
       → plane_in (reached_planes h there) (k - 1) ≡ reached (top_level h) h.planes there k
@@ -81,9 +81,9 @@ module _ (h : Header) (there : List PartName) where
           (get_or-eq_default (map (reached_plane h there) (from 1 level_places)) (record { 0 = 0 }) {n = k - 1}
           (omega (arith, map_length (reached_plane h there) 1 level_places)))
 
-  counts_places : length (skipped_counts h there) ≡ level_places
+  counts_six : length (skipped_counts h there) ≡ level_places
   unfolding skipped_counts
-  counts_places = map_length (skipped_parts h there) 1 level_places
+  counts_six = map_length (skipped_parts h there) 1 level_places
 
   counts_level : (k : ℕ) → 1 ≤ k → k ≤ level_places → count_in (skipped_counts h there) (k - 1) ≡ skipped_parts h there k
   unfolding count_in skipped_counts
@@ -103,7 +103,7 @@ module _ (h : Header) (there : List PartName) where
     where
       by : Dec (k - 1 < level_places) → get_or (skipped_counts h there) (k - 1) 0 ≡ 0
       by (yes l) = counts_level k (omega arith) (omega arith) ∙ skipped_beyond h there named k a
-      by (no l) = get_or-eq_default (skipped_counts h there) 0 {n = k - 1} (omega (arith, counts_places))
+      by (no l) = get_or-eq_default (skipped_counts h there) 0 {n = k - 1} (omega (arith, counts_six))
 
 -- What passed a test is not there if it does not pass.
 kept_passes : (keep : PartName → Bool) (ps : List CodedPart) → All (λ p. keep p ≡ true) (names (kept keep ps))
@@ -190,7 +190,7 @@ module _ (z : Size) (ok : legal_size z ≡ true) (planes : ℕ) (few : planes �
       pub sound : Sound (family z) (levels z) (from 0 (area z)) lists
       pub sized : length drawn ≡ area z
       pub value : (q : ℕ) → q < area z
-          → get_or drawn q (pos 0) ≡ signed (negative pyramid q) (toward_zero (reached (levels z) planes there (part_level z q)) (magnitude pyramid q))
+          → get_or drawn q (pos 0) ≡ signed (negative pyramid q) (toward_zero (reached (levels z) planes there (level_of z q)) (magnitude pyramid q))
 
     pub run_of : Run
     unfolding Ended
@@ -211,7 +211,7 @@ module _ (z : Size) (ok : legal_size z ≡ true) (planes : ℕ) (few : planes �
               sized = w.sized;
               value = λ q l.
                   known_value (magnitude pyramid) (negative pyramid) w.sound reaches (reached_falls (levels z) planes there) w.known q (counted q l)
-                  (part_least z Z q l) (part_most_lem z q);
+                  (level_least z Z q l) (level_most z q);
             }
 
   -- Bytes that read as these parts, and where decoding comes to by what stands behind them.
@@ -226,7 +226,7 @@ module _ (z : Size) (ok : legal_size z ≡ true) (planes : ℕ) (few : planes �
   pub record RoundedTo (part there : List PartName) (v : List ℤ) : Type 0 where
     pub sized : length v ≡ area z
     pub plane : ℕ → ℕ
-    pub rounds : (q : ℕ) → q < area z → RoundedAt (levels z) planes there part (part_level z q) (reached (levels z) planes there (part_level z q)) (plane q)
+    pub rounds : (q : ℕ) → q < area z → RoundedAt part (level_of z q) (reached (levels z) planes there (level_of z q)) (plane q)
     pub value : (q : ℕ) → q < area z → get_or v q (pos 0) ≡ signed (negative pyramid q) (toward_zero (plane q) (magnitude pyramid q))
 
   abbrev picture_of : List PartName → ℕ → List ℤ → Picture
@@ -294,12 +294,12 @@ module _ (z : Size) (ok : legal_size z ≡ true) (planes : ℕ) (few : planes �
                 unfold magnitude negative in
                 ap below0 (r.value q l)
                 ∙ signed_sign (negative pyramid q) (m q) (omega (arith, ap nat_abs (r.value q l), signed_magnitude (negative pyramid q) (m q)));
-            places = reports_places h there;
-            reports = λ k a b. reports_level h there k a b (omega (arith, Z.few, Z.few_levels));
+            six = reports_six h there;
+            reports = λ k a b. reports_level h there k a b (omega (arith, Z.few));
             beyond = reports_beyond h there;
-            places_counts = counts_places h there;
-            skips = λ k a b. counts_level h there k a (omega (arith, Z.few, Z.few_levels));
-            used_and_skipped = λ k a b. counts_all h there (before_all planes) in_order all_named k a b (omega (arith, Z.few, Z.few_levels));
+            six_counts = counts_six h there;
+            skips = λ k a b. counts_level h there k a (omega (arith, Z.few));
+            used_and_skipped = λ k a b. counts_all h there (before_all planes) in_order all_named k a b (omega (arith, Z.few));
             skips_beyond = counts_beyond h there all_named;
             tail = refl;
           }
@@ -337,7 +337,7 @@ module _ (z : Size) (ok : legal_size z ≡ true) (planes : ℕ) (few : planes �
   pub unused_rounded : (ps : List CodedPart) (part : List PartName) → RoundedTo part (names ps) (run_of (names ps)).drawn
   unused_rounded ps part =
       let W : Run (names ps) = run_of (names ps) in
-      record { sized = W.sized; plane = λ q. reached (levels z) planes (names ps) (part_level z q); rounds = λ q l. at_reached; value = W.value }
+      record { sized = W.sized; plane = λ q. reached (levels z) planes (names ps) (level_of z q); rounds = λ q l. at_reached; value = W.value }
 
   pub rounded_read : (keep : PartName → Bool) {bytes : List ℕ} → ReadsAs z planes (kept keep (parts_with z planes pyramid)) 0 bytes → (room work : ℕ)
       → Stated z room work

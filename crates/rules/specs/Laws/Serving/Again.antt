@@ -17,67 +17,49 @@ use Rattle.rules.specs.declared.HeaderRead.TheVariants as header
 use Rattle.rules.specs.declared.Part.{Part}
 use Rattle.rules.specs.Document.Notation.{flat, zeros}
 use Rattle.rules.specs.Document.Pyramid.{levels}
-use Rattle.rules.specs.Document.Passes.{PartName}
 use Rattle.rules.specs.Document.Layout.{whole_of}
 use Rattle.rules.specs.Document.Numbers.{verdict_number, read_header, read_parts}
-use Rattle.rules.specs.Document.Calls.{Result, refused, accepted, unless, on_header, on_ending, legal_ask}
-use Rattle.rules.specs.Document.Calls.{kept_by, selected_bytes, served_bytes, Portion, portioned, serving}
+use Rattle.rules.specs.Document.Calls.{Result, refused, accepted, unless, on_header, on_ending, legal_ask, kept_of, served_bytes, Portion, portioned, serving}
 use Rattle.rules.specs.Document.Calls.{filled, serve_out, serve_answer, Serving, serve_numbers, serve_places, AfsServe}
-use Rattle.rules.specs.Promises.Vocabulary.{Again, Leaves, AgainLent, Told, AgainTold, selection, placed_from, Request, level_plane, wanted, IsServed}
+use Rattle.rules.specs.Promises.Vocabulary.{Again, Leaves, AgainLent, Told, AgainTold, selection, placed_from, wanted, IsServed}
 use Rattle.rules.specs.Laws.Reading.Stands.{read_header_stands, header_within}
 use Rattle.rules.specs.Laws.Counting.Booleans.{clash, both, both_left, both_right}
-use Rattle.rules.specs.Laws.Serving.Requests.{serving_for, serving_for_lem}
 use Rattle.rules.specs.Laws.Serving.Selection.{kept_moved}
 use Rattle.rules.specs.Laws.Reading.WholeParts.{read_parts_whole}
-use Rattle.rules.specs.Laws.Serving.Served.{kept_both, asked_both, serving_served, served_header, served_parts}
+use Rattle.rules.specs.Laws.Serving.Served.{kept_both, serving_served, served_header, served_parts}
 use Rattle.rules.specs.Laws.Calls.Results.{number_accepts}
 use Rattle.rules.specs.Laws.Calls.Exports.{afs_serve_short, afs_serve_serves}
 
--- The bytes of what was served for one request, served for another: those of a request for what both ask for.
-module _ (s : List ℕ) (first : Request) (x : Portion) (v : IsServed s first x) (second both : Request)
-    (same : (n : PartName) → first.asks n && second.asks n ≡ both.asks n) where
+-- The bytes of what was served for (r1, p1), served for (r2, p2).
+module _ (s : List ℕ) (r1 p1 : ℕ) (x : Portion) (v : IsServed s r1 p1 x) (r2 p2 : ℕ) where
   abbrev ps : List Part
   ps = (read_parts v.head s).parts
 
-  bytes_again : selected_bytes v.head x.bytes second.asks (placed_from v.head.end (selection (wanted first.asks) ps))
-      ≡ selected_bytes v.head s both.asks ps
-  unfolding selected_bytes
+  bytes_again : served_bytes v.head x.bytes r2 p2 (placed_from v.head.end (selection (wanted r1 p1) ps))
+      ≡ served_bytes v.head s (max r1 r2) (max p1 p2) ps
+  unfolding served_bytes
   bytes_again =
       let end : ℕ = v.head.end in
       let f : List ℕ = take end s in
       let n : length f ≡ end = length-take-le end s (header_within (read_header_stands s v.head v.read)) in
       let front : take end x.bytes ≡ f
-      = ap (take end) v.bytes ∙ take_at f (flat (whole_of s) (selection (wanted first.asks) ps)) end n in
+      = ap (take end) v.bytes ∙ take_at f (flat (whole_of s) (selection (wanted r1 p1) ps)) end n in
       ap₂ ◌++◌ front
-      (ap₂ (λ (l : List ℕ) (m : ℕ). flat (kept_by l second.asks) (placed_from m (selection (wanted first.asks) ps))) v.bytes (sym n)
-      ∙ kept_moved v.head s (wanted first.asks) ps (record { plane = v.head.planes; level = 0 }) end (read_parts_whole v.head s) second.asks f
-      ∙ kept_both s first.asks second.asks both.asks same ps)
-
-  pub again_for : (room : ℕ)
-      → serving_for second x.bytes room ≡ unless (second.legal v.head) refusal.Ask (portioned (selected_bytes v.head s both.asks ps) 0 room)
-  unfolding serving_for on_header on_ending
-  again_for room = rw (served_header s first x v, served_parts s first x v, bytes_again)
-
-  pub once_for : both.legal v.head ≡ true → (room : ℕ) → serving_for both s room ≡ portioned (selected_bytes v.head s both.asks ps) x.tail room
-  unfolding serving_for on_header on_ending unless
-  once_for e room = rw (v.read, e, v.ending)
-
--- For levels and planes: the larger of both.
-module _ (s : List ℕ) (r1 p1 : ℕ) (x : Portion) (v : IsServed s (level_plane r1 p1) x) (r2 p2 : ℕ) where
-  abbrev larger : Request
-  larger = level_plane (max r1 r2) (max p1 p2)
+      (ap₂ (λ (l : List ℕ) (m : ℕ). flat (kept_of l r2 p2) (placed_from m (selection (wanted r1 p1) ps))) v.bytes (sym n)
+      ∙ kept_moved v.head s (wanted r1 p1) ps (record { plane = v.head.planes; level = 0 }) end (read_parts_whole v.head s) r2 p2 f
+      ∙ kept_both s r1 p1 r2 p2 ps)
 
   pub serving_again : (room : ℕ)
       → serving x.bytes r2 p2 room
-      ≡ unless (legal_ask v.head r2 p2) refusal.Ask (portioned (served_bytes v.head s (max r1 r2) (max p1 p2) (read_parts v.head s).parts) 0 room)
-  serving_again room =
-      sym (serving_for_lem x.bytes r2 p2 room) ∙ again_for s (level_plane r1 p1) x v (level_plane r2 p2) larger (asked_both r1 p1 r2 p2) room
+      ≡ unless (legal_ask v.head r2 p2) refusal.Ask (portioned (served_bytes v.head s (max r1 r2) (max p1 p2) ps) 0 room)
+  unfolding serving on_header on_ending
+  serving_again room = rw (served_header s r1 p1 x v, served_parts s r1 p1 x v, bytes_again)
 
   -- The request for the larger of both is legal if both are.
   asks_larger : legal_ask v.head r2 p2 ≡ true → legal_ask v.head (max r1 r2) (max p1 p2) ≡ true
   unfolding legal_ask
   asks_larger e =
-      let a = v.legal in
+      let a = v.asked in
       let l1 : r1 ≤ levels v.head.size = leb-true _ _ (both_right (leb 1 r1) _ (both_left _ (leb p1 v.head.planes) a)) in
       let l2 : r2 ≤ levels v.head.size = leb-true _ _ (both_right (leb 1 r2) _ (both_left _ (leb p2 v.head.planes) e)) in
       let f1 : 1 ≤ r1 = leb-true _ _ (both_left _ _ (both_left _ (leb p1 v.head.planes) a)) in
@@ -88,10 +70,9 @@ module _ (s : List ℕ) (r1 p1 : ℕ) (x : Portion) (v : IsServed s (level_plane
       (le-leb (max p1 p2) v.head.planes (omega (arith, q1, q2)))
 
   pub serving_once : legal_ask v.head r2 p2 ≡ true → (room : ℕ)
-      → serving s (max r1 r2) (max p1 p2) room ≡ portioned (served_bytes v.head s (max r1 r2) (max p1 p2) (read_parts v.head s).parts) x.tail room
-  serving_once e room =
-      sym (serving_for_lem s (max r1 r2) (max p1 p2) room)
-      ∙ once_for s (level_plane r1 p1) x v (level_plane r2 p2) larger (asked_both r1 p1 r2 p2) (asks_larger e) room
+      → serving s (max r1 r2) (max p1 p2) room ≡ portioned (served_bytes v.head s (max r1 r2) (max p1 p2) ps) x.tail room
+  unfolding serving on_header on_ending unless
+  serving_once e room = rw (v.read, asks_larger e, v.ending)
 
 -- Every record that serving accepts, every second request, every room.
 pub served_again : (s : List ℕ) (r1 p1 room1 : ℕ) (x : Portion) → serving s r1 p1 room1 ≡ accepted x → (r2 p2 : ℕ) → Again s r1 p1 x r2 p2
@@ -101,7 +82,7 @@ served_again s r1 p1 room1 x e r2 p2 =
     record {
       head = v.head;
       of_record = v.read;
-      of_served = served_header s (level_plane r1 p1) x v;
+      of_served = served_header s r1 p1 x v;
       unasked = λ n room. serving_again s r1 p1 x v r2 p2 room ∙ rw n;
       bytes = served_bytes v.head s (max r1 r2) (max p1 p2) (read_parts v.head s).parts;
       twice = λ a room. serving_again s r1 p1 x v r2 p2 room ∙ rw a;

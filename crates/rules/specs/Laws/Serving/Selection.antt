@@ -1,6 +1,6 @@
 -- "Any selection in that order is also a record": pieces, parts that were read somewhere, put together in order behind a header, read as just these
 -- parts, moved; so do any of one record's parts.
-use Rattle.std.specs.Prelude.{◌≡◌, Bool, true, false, cond, take, drop}
+use Rattle.std.specs.Prelude.{◌≡◌, Bool, true, false, cond, ◌&&◌, leb, take, drop}
 use Rattle.std.proofs.Math.Path.{refl, ap, ap₂, subst}
 use Rattle.std.proofs.Common.{sym, ◌∙◌, subst₂, length-append, length-drop, get_or-append-add, get_or-take, get_or-drop, length-take-le, take_at}
 use mathlib.Core.List.{List, [], ◌∷◌, ◌++◌, map, append_assoc, append-nil}
@@ -15,7 +15,7 @@ use Rattle.rules.specs.Document.Notation.{flat}
 use Rattle.rules.specs.Document.Passes.{PartName}
 use Rattle.rules.specs.Document.Layout.{whole_of, name_of}
 use Rattle.rules.specs.Document.Numbers.{follows, read_part, tail, Reading}
-use Rattle.rules.specs.Document.Calls.{kept_by}
+use Rattle.rules.specs.Document.Calls.{kept_of}
 use Rattle.rules.specs.Laws.Reading.Stands.{PartStands, read_part_stands}
 use Rattle.rules.specs.Laws.Reading.Walk.{parts_from, read_part_past, parts_from_part, parts_from_tail}
 use Rattle.rules.specs.Laws.Reading.Local.{Same, read_part_local}
@@ -45,8 +45,8 @@ piece_holds x = holds x.source x.this
 abbrev pub piece_name : {h : Header} → Piece h → PartName
 piece_name x = name_of x.this
 
-abbrev pub pieceBytes : {h : Header} → Piece h → List ℕ
-pieceBytes x = whole_of x.source x.this
+abbrev pub piece_bytes : {h : Header} → Piece h → List ℕ
+piece_bytes x = whole_of x.source x.this
 
 -- bytes that stand behind others
 whole_same : (s : List ℕ) (p : Part) → p.place ≤ p.end → p.end ≤ length s → (front rest : List ℕ)
@@ -83,15 +83,15 @@ module _ {h : Header} where
   pub piece_ordered : (x : Piece h) → x.this.place ≤ x.this.end
   piece_ordered x = let st = piece_stands x in omega (arith, st.placed, st.after, st.end)
 
-  pub piece_length : (x : Piece h) → length (pieceBytes x) ≡ x.this.end - x.this.place
+  pub piece_length : (x : Piece h) → length (piece_bytes x) ≡ x.this.end - x.this.place
   piece_length x = whole_length x.source x.this (piece_ordered x) (piece_stands x).within
 
-  front_length : (front : List ℕ) (x : Piece h) → length (front ++ pieceBytes x) ≡ length front + (x.this.end - x.this.place)
-  front_length front x = length-append front (pieceBytes x) ∙ ap (λ (n : ℕ). length front + n) (piece_length x)
+  front_length : (front : List ℕ) (x : Piece h) → length (front ++ piece_bytes x) ≡ length front + (x.this.end - x.this.place)
+  front_length front x = length-append front (piece_bytes x) ∙ ap (λ (n : ℕ). length front + n) (piece_length x)
 
   -- Pieces in order read as themselves, wherever they stand.
   pub pieces_read : (xs : List (Piece h)) (earlier : PartName) → InOrder earlier (map piece_name xs) → (front : List ℕ)
-      → parts_from h (front ++ flat pieceBytes xs) earlier (length front)
+      → parts_from h (front ++ flat piece_bytes xs) earlier (length front)
       ≡ record { parts = placed_from (length front) (map (λ x. x.this) xs); ending = tail 0 }
   unfolding InOrder flat placed_from moved_to name_of
   pieces_read [] earlier o front =
@@ -102,16 +102,16 @@ module _ {h : Header} where
   pieces_read (x ∷ xs) earlier o front =
       parts_from_part h u earlier (length front) (moved_to (length front) p) here
       ∙ ap (λ (r : Reading). record { parts = moved_to (length front) p ∷ r.parts; ending = r.ending })
-      (next (pieces_read xs (piece_name x) o.1 (front ++ pieceBytes x)))
+      (next (pieces_read xs (piece_name x) o.1 (front ++ piece_bytes x)))
     where
       p : Part
       p = x.this
 
       rest : List ℕ
-      rest = flat pieceBytes xs
+      rest = flat piece_bytes xs
 
       u : List ℕ
-      u = front ++ (pieceBytes x ++ rest)
+      u = front ++ (piece_bytes x ++ rest)
 
       st : PartStands h x.source x.before x.place p
       st = piece_stands x
@@ -123,40 +123,40 @@ module _ {h : Header} where
           (whole_same x.source p (piece_ordered x) st.within front rest))
           (head_legal h earlier (name_of p) p.bits (legal_behind st.legal o.0))
 
-      next : parts_from h ((front ++ pieceBytes x) ++ rest) (name_of p) (length (front ++ pieceBytes x))
-          ≡ record { parts = placed_from (length (front ++ pieceBytes x)) (map (λ x. x.this) xs); ending = tail 0 }
+      next : parts_from h ((front ++ piece_bytes x) ++ rest) (name_of p) (length (front ++ piece_bytes x))
+          ≡ record { parts = placed_from (length (front ++ piece_bytes x)) (map (λ x. x.this) xs); ending = tail 0 }
           → parts_from h u (name_of p) (length front + (p.end - p.place))
           ≡ record { parts = placed_from (length front + (p.end - p.place)) (map (λ x. x.this) xs); ending = tail 0 }
       next k =
           subst₂ (λ (v : List ℕ) (n : ℕ). parts_from h v (name_of p) n ≡ record { parts = placed_from n (map (λ x. x.this) xs); ending = tail 0 })
-          (append_assoc front (pieceBytes x) rest) (front_length front x) k
+          (append_assoc front (piece_bytes x) rest) (front_length front x) k
 
   -- So put together, they hold what they held.
   pub pieces_hold : (xs : List (Piece h)) (front : List ℕ)
-      → map (holds (front ++ flat pieceBytes xs)) (placed_from (length front) (map (λ x. x.this) xs)) ≡ map piece_holds xs
+      → map (holds (front ++ flat piece_bytes xs)) (placed_from (length front) (map (λ x. x.this) xs)) ≡ map piece_holds xs
   unfolding flat placed_from moved_to name_of
   pieces_hold [] front = refl
   pieces_hold (x ∷ xs) front =
-      let rest : List ℕ = flat pieceBytes xs in
+      let rest : List ℕ = flat piece_bytes xs in
       let these : List Part = map (λ y. y.this) xs in
       ap₂ (λ (w : List ℕ) (l : List Held). record { name = piece_name x; bytes = w } ∷ l) (moved_whole x.source x.this (piece_length x) front rest)
-      (ap₂ (λ (l : List ℕ) (n : ℕ). map (holds l) (placed_from n these)) (sym (append_assoc front (pieceBytes x) rest)) (sym (front_length front x))
-      ∙ pieces_hold xs (front ++ pieceBytes x))
+      (ap₂ (λ (l : List ℕ) (n : ℕ). map (holds l) (placed_from n these)) (sym (append_assoc front (piece_bytes x) rest)) (sym (front_length front x))
+      ∙ pieces_hold xs (front ++ piece_bytes x))
 
--- What a test keeps goes by what a part holds.
-kept_held : (PartName → Bool) → Held → List ℕ
-kept_held test x = cond (test x.name) x.bytes []
+-- What a request keeps goes by what a part holds.
+kept_held : ℕ → ℕ → Held → List ℕ
+kept_held r p x = cond (leb r x.name.level && leb p x.name.plane) x.bytes []
 
-kept_held_lem : (test : PartName → Bool) (s : List ℕ) (ps : List Part) → flat (kept_by s test) ps ≡ flat (kept_held test) (map (holds s) ps)
-unfolding flat kept_by kept_held
-kept_held_lem test s [] = refl
-kept_held_lem test s (x ∷ ps) = ap (λ (l : List ℕ). kept_by s test x ++ l) (kept_held_lem test s ps)
+kept_held_lem : (r p : ℕ) (s : List ℕ) (ps : List Part) → flat (kept_of s r p) ps ≡ flat (kept_held r p) (map (holds s) ps)
+unfolding flat kept_of name_of kept_held
+kept_held_lem r p s [] = refl
+kept_held_lem r p s (x ∷ ps) = ap (λ (l : List ℕ). kept_of s r p x ++ l) (kept_held_lem r p s ps)
 
 -- Of the parts of one record those that pass a test, as pieces: in order wherever the first of the parts may stand.
 pub record PiecesOf (h : Header) (s : List ℕ) (before : PartName) (these : List Part) : Type 0 where
   pub pieces : List (Piece h)
   pub are : map (λ x. x.this) pieces ≡ these
-  pub bytes : flat pieceBytes pieces ≡ flat (whole_of s) these
+  pub bytes : flat piece_bytes pieces ≡ flat (whole_of s) these
   pub hold : map piece_holds pieces ≡ map (holds s) these
   pub in_order : (earlier : PartName) → ((x : PartName) → follows before x ≡ true → follows earlier x ≡ true)
       → InOrder earlier (map piece_name pieces)
@@ -213,9 +213,8 @@ module _ (h : Header) (s : List ℕ) (t : Part → Bool) where
         ∙ pieces_hold r.pieces front ∙ r.hold
 
     -- What is kept of parts that were put together anew is what is kept of the parts themselves.
-    pub kept_moved : (test : PartName → Bool) (front : List ℕ)
-        → flat (kept_by (front ++ flat (whole_of s) (selection t ps)) test) (placed_from (length front) (selection t ps))
-        ≡ flat (kept_by s test) (selection t ps)
-    kept_moved test front =
-        kept_held_lem test _ (placed_from (length front) (selection t ps)) ∙ ap (flat (kept_held test)) (selection_holds front)
-        ∙ sym (kept_held_lem test s (selection t ps))
+    pub kept_moved : (r p : ℕ) (front : List ℕ)
+        → flat (kept_of (front ++ flat (whole_of s) (selection t ps)) r p) (placed_from (length front) (selection t ps))
+        ≡ flat (kept_of s r p) (selection t ps)
+    kept_moved r p front =
+        kept_held_lem r p _ (placed_from (length front) (selection t ps)) ∙ ap (flat (kept_held r p)) (selection_holds front) ∙ sym (kept_held_lem r p s (selection t ps))

@@ -16,29 +16,26 @@ use Rattle.rules.specs.Document.Layout.{whole_of, name_of}
 use Rattle.rules.specs.declared.PartRead.{PartRead}
 use Rattle.rules.specs.declared.PartRead.TheVariants as part
 use Rattle.rules.specs.Document.Numbers.{tail, Reading, read_header, read_part, go_on, read_from, read_parts, top_level}
-use Rattle.rules.specs.Document.Calls.{accepted, unless, on_header, on_ending, legal_ask, asked, kept_by}
-use Rattle.rules.specs.Document.Calls.{selected_bytes, served_bytes, Portion, portioned, serving}
-use Rattle.rules.specs.Laws.Family.Sizes.{legal}
-use Rattle.rules.specs.Promises.Vocabulary.{Request, level_plane, wanted, IsServed, selection, placed_from}
-use Rattle.rules.specs.Laws.Reading.Stands.{read_header_stands, header_legal, header_within, read_part_stands}
+use Rattle.rules.specs.Document.Calls.{accepted, unless, on_header, on_ending, legal_ask, kept_of, served_bytes, Portion, portioned, serving}
+use Rattle.rules.specs.Promises.Vocabulary.{wanted, IsServed, selection, placed_from}
+use Rattle.rules.specs.Laws.Reading.Stands.{read_header_stands, header_within, read_part_stands}
 use Rattle.rules.specs.Laws.Counting.Booleans.{selection_both, same_test, both, both_left, both_right}
 use Rattle.rules.specs.Laws.Calls.Results.{unless_accepted, on_header_accepted, on_ending_accepted, accepted_same}
 use Rattle.rules.specs.Laws.Reading.Walk.{parts_from, read_parts_from}
 use Rattle.rules.specs.Laws.Reading.Local.{Same, same_taken, read_header_local}
-use Rattle.rules.specs.Laws.Serving.Requests.{serving_for, serving_for_lem}
 use Rattle.rules.specs.Laws.Serving.Selection.{selection_read}
 use Rattle.rules.specs.Laws.Reading.WholeParts.{WholeParts, read_parts_whole}
 
 -- Two requests are one: what both want is what the larger level and the larger plane want.
-pub leb_both : (a b x : ℕ) → leb a x && leb b x ≡ leb (max a b) x
+leb_both : (a b x : ℕ) → leb a x && leb b x ≡ leb (max a b) x
 leb_both a b x =
     same_test _ _ (λ e. le-leb (max a b) x (omega (arith, leb-true a x (both_left _ _ e), leb-true b x (both_right (leb a x) _ e))))
     (λ e. both _ _ (le-leb a x (omega (arith, leb-true (max a b) x e))) (le-leb b x (omega (arith, leb-true (max a b) x e))))
 
-pub asked_both : (r1 p1 r2 p2 : ℕ) (x : PartName) → asked r1 p1 x && asked r2 p2 x ≡ asked (max r1 r2) (max p1 p2) x
-asked_both r1 p1 r2 p2 x =
-    four (leb r1 x.level) (leb p1 x.plane) (leb r2 x.level) (leb p2 x.plane)
-    ∙ ap₂ ◌&&◌ (leb_both r1 r2 x.level) (leb_both p1 p2 x.plane)
+pub wanted_both : (r1 p1 r2 p2 : ℕ) (x : Part) → wanted r1 p1 x && wanted r2 p2 x ≡ wanted (max r1 r2) (max p1 p2) x
+wanted_both r1 p1 r2 p2 x =
+    four (leb r1 x.level.0) (leb p1 x.plane.0) (leb r2 x.level.0) (leb p2 x.plane.0)
+    ∙ ap₂ ◌&&◌ (leb_both r1 r2 x.level.0) (leb_both p1 p2 x.plane.0)
   where
     four : (a b c d : Bool) → (a && b) && (c && d) ≡ (a && c) && (b && d)
     four true true c d = refl
@@ -46,48 +43,45 @@ asked_both r1 p1 r2 p2 x =
     four true false false d = refl
     four false b c d = refl
 
-flat_selection : (s : List ℕ) (test : PartName → Bool) (ps : List Part) → flat (kept_by s test) ps ≡ flat (whole_of s) (selection (wanted test) ps)
-unfolding flat kept_by selection
-flat_selection s test [] = refl
-flat_selection s test (x ∷ ps) = go (wanted test x) (flat_selection s test ps)
+flat_selection : (s : List ℕ) (r p : ℕ) (ps : List Part) → flat (kept_of s r p) ps ≡ flat (whole_of s) (selection (wanted r p) ps)
+unfolding flat kept_of selection
+flat_selection s r p [] = refl
+flat_selection s r p (x ∷ ps) = go (wanted r p x) (flat_selection s r p ps)
   where
-    go : (b : Bool) → flat (kept_by s test) ps ≡ flat (whole_of s) (selection (wanted test) ps)
-        → cond b (whole_of s x) [] ++ flat (kept_by s test) ps ≡ flat (whole_of s) (cond b (x ∷ selection (wanted test) ps) (selection (wanted test) ps))
+    go : (b : Bool) → flat (kept_of s r p) ps ≡ flat (whole_of s) (selection (wanted r p) ps)
+        → cond b (whole_of s x) [] ++ flat (kept_of s r p) ps ≡ flat (whole_of s) (cond b (x ∷ selection (wanted r p) ps) (selection (wanted r p) ps))
     go true e = ap (λ (l : List ℕ). whole_of s x ++ l) e
     go false e = e
 
--- What one test keeps of what another selects, a third keeps that holds where both do.
-pub kept_both : (s : List ℕ) (first second both : PartName → Bool) → ((x : PartName) → first x && second x ≡ both x) → (ps : List Part)
-    → flat (kept_by s second) (selection (wanted first) ps) ≡ flat (kept_by s both) ps
-kept_both s first second both e ps =
-    let one : selection (wanted second) (selection (wanted first) ps) ≡ selection (wanted both) ps
-    = sym (selection_both (wanted first) (wanted second) ps) ∙ ap (λ t. selection t ps) (fun_ext (λ x. e (name_of x))) in
-    flat_selection s second (selection (wanted first) ps) ∙ ap (flat (whole_of s)) one ∙ sym (flat_selection s both ps)
+-- what a request keeps of what another one selects
+pub kept_both : (s : List ℕ) (r1 p1 r2 p2 : ℕ) (ps : List Part)
+    → flat (kept_of s r2 p2) (selection (wanted r1 p1) ps) ≡ flat (kept_of s (max r1 r2) (max p1 p2)) ps
+kept_both s r1 p1 r2 p2 ps =
+    let one : selection (wanted r2 p2) (selection (wanted r1 p1) ps) ≡ selection (wanted (max r1 r2) (max p1 p2)) ps
+    = sym (selection_both (wanted r1 p1) (wanted r2 p2) ps) ∙ ap (λ t. selection t ps) (fun_ext (wanted_both r1 p1 r2 p2)) in
+    flat_selection s r2 p2 (selection (wanted r1 p1) ps) ∙ ap (flat (whole_of s)) one ∙ sym (flat_selection s (max r1 r2) (max p1 p2) ps)
 
-pub served_for : (s : List ℕ) (q : Request) (room : ℕ) (x : Portion) → serving_for q s room ≡ accepted x → IsServed s q x
-unfolding serving_for portioned selected_bytes
-served_for s q room x e =
+pub serving_served : (s : List ℕ) (r p room : ℕ) (x : Portion) → serving s r p room ≡ accepted x → IsServed s r p x
+unfolding serving portioned served_bytes
+serving_served s r p room x e =
     let h = on_header_accepted (read_header s) _ x e in
-    let a = unless_accepted (q.legal h.0) refusal.Ask _ x h.2 in
+    let a = unless_accepted (legal_ask h.0 r p) refusal.Ask _ x h.2 in
     let t = on_ending_accepted (read_parts h.0 s).ending _ x a.1 in
     let b = unless_accepted _ refusal.Room _ x t.2 in
-    let y : record { bytes = selected_bytes h.0 s q.asks (read_parts h.0 s).parts; tail = t.0 } ≡ x = accepted_same b.1 in
-    subst (IsServed s q) y
+    let y : record { bytes = served_bytes h.0 s r p (read_parts h.0 s).parts; tail = t.0 } ≡ x = accepted_same b.1 in
+    subst (IsServed s r p) y
     (record {
       head = h.0;
       read = h.1;
-      legal = a.0;
+      asked = a.0;
       ending = t.1;
-      bytes = ap (λ (l : List ℕ). take h.0.end s ++ l) (flat_selection s q.asks (read_parts h.0 s).parts);
+      bytes = ap (λ (l : List ℕ). take h.0.end s ++ l) (flat_selection s r p (read_parts h.0 s).parts);
     })
 
-pub serving_served : (s : List ℕ) (r p room : ℕ) (x : Portion) → serving s r p room ≡ accepted x → IsServed s (level_plane r p) x
-serving_served s r p room x e = served_for s (level_plane r p) room x (serving_for_lem s r p room ∙ e)
-
 -- What was served reads as the parts named, one behind the other, and nothing else.
-module _ (s : List ℕ) (q : Request) (x : Portion) (v : IsServed s q x) where
+module _ (s : List ℕ) (r p : ℕ) (x : Portion) (v : IsServed s r p x) where
   abbrev named : List Part
-  named = selection (wanted q.asks) (read_parts v.head s).parts
+  named = selection (wanted r p) (read_parts v.head s).parts
 
   within : v.head.end ≤ length s
   within = header_within (read_header_stands s v.head v.read)
@@ -103,7 +97,7 @@ module _ (s : List ℕ) (q : Request) (x : Portion) (v : IsServed s q x) where
       let n : length f ≡ v.head.end = length-take-le v.head.end s within in
       let first : PartName = record { plane = v.head.planes; level = 0 } in
       let c : parts_from v.head (f ++ flat (whole_of s) named) first (length f) ≡ record { parts = placed_from (length f) named; ending = tail 0 }
-      = selection_read v.head s (wanted q.asks) (read_parts v.head s).parts first v.head.end (read_parts_whole v.head s) first (λ y t. t) f in
+      = selection_read v.head s (wanted r p) (read_parts v.head s).parts first v.head.end (read_parts_whole v.head s) first (λ y t. t) f in
       read_parts_from v.head x.bytes (header_within (read_header_stands x.bytes v.head served_header))
       ∙ subst₂ (λ (l : List ℕ) (k : ℕ). parts_from v.head l first k ≡ record { parts = placed_from k named; ending = tail 0 }) (sym v.bytes) n c
 
@@ -149,8 +143,7 @@ module _ (h : Header) (s : List ℕ) where
       ∙ take-append-drop h.end s
 
 -- Served for r = 1 and p = 0, every part is kept.
-selection_all : (h : Header) (s : List ℕ) (before : PartName) (place : ℕ) (ps : List Part) → WholeParts h s before place ps
-    → selection (wanted (asked 1 0)) ps ≡ ps
+selection_all : (h : Header) (s : List ℕ) (before : PartName) (place : ℕ) (ps : List Part) → WholeParts h s before place ps → selection (wanted 1 0) ps ≡ ps
 unfolding WholeParts selection name_of
 selection_all h s before place [] c = refl
 selection_all h s before place (p ∷ ps) c =
@@ -159,9 +152,9 @@ selection_all h s before place (p ∷ ps) c =
     let n : leb 0 p.plane.0 ≡ true = le-leb 0 p.plane.0 (omega arith) in
     rw (k, n) (ap (λ (l : List Part). p ∷ l) (selection_all h s (name_of p) p.end ps c.1))
 
-pub asks_all : (h : Header) → 1 ≤ top_level h → legal_ask h 1 0 ≡ true
+pub asks_all : (h : Header) → legal_ask h 1 0 ≡ true
 unfolding legal_ask
-asks_all h l = both _ _ (both _ _ (le-leb 1 1 (omega arith)) (le-leb 1 (top_level h) l)) (le-leb 0 h.planes (omega arith))
+asks_all h = both _ _ (both _ _ (le-leb 1 1 (omega arith)) (le-leb 1 (top_level h) (omega arith))) (le-leb 0 h.planes (omega arith))
 
 -- A record without its tail is its header and its parts.
 pub record_whole : (s : List ℕ) (h : Header) (k : ℕ) → h.end ≤ length s → (read_parts h s).ending ≡ tail k
@@ -175,18 +168,17 @@ record_whole s h k l e =
 
 serves_all : (s : List ℕ) (h : Header) (k : ℕ) → h.end ≤ length s → (read_parts h s).ending ≡ tail k
     → served_bytes h s 1 0 (read_parts h s).parts ≡ take (length s - k) s
-unfolding selected_bytes
+unfolding served_bytes
 serves_all s h k l e =
     let c = selection_all h s (record { plane = h.planes; level = 0 }) h.end (read_parts h s).parts (read_parts_whole h s) in
-    ap (λ (x : List ℕ). take h.end s ++ x) (flat_selection s (asked 1 0) (read_parts h s).parts ∙ ap (flat (whole_of s)) c) ∙ record_whole s h k l e
+    ap (λ (x : List ℕ). take h.end s ++ x) (flat_selection s 1 0 (read_parts h s).parts ∙ ap (flat (whole_of s)) c) ∙ record_whole s h k l e
 
 -- A record served whole is itself less its tail, in whatever room there is; without a tail it is itself.
 pub serving_all : (s : List ℕ) (h : Header) (k room : ℕ) → read_header s ≡ header.Header h → (read_parts h s).ending ≡ tail k
     → serving s 1 0 room ≡ portioned (take (length s - k) s) k room
 unfolding serving on_header on_ending unless
 serving_all s h k room a e =
-    rw (a, asks_all h (legal h.size (header_legal (read_header_stands s h a))).some_levels, e)
-    (ap (λ (x : List ℕ). portioned x k room) (serves_all s h k (header_within (read_header_stands s h a)) e))
+    rw (a, asks_all h, e) (ap (λ (x : List ℕ). portioned x k room) (serves_all s h k (header_within (read_header_stands s h a)) e))
 
 pub served_whole : (s : List ℕ) (h : Header) (room : ℕ) → read_header s ≡ header.Header h → (read_parts h s).ending ≡ tail 0 → length s ≤ room
     → serving s 1 0 room ≡ accepted (record { bytes = s; tail = 0 })
@@ -196,11 +188,8 @@ served_whole s h room a e l =
     serving_all s h 0 room a e ∙ rw (b, le-leb (length s) room l)
 
 -- What was served is accepted by serving, for any legal request and with room.
-pub is_record : (s : List ℕ) (q : Request) (x : Portion) → IsServed s q x
-    → serving x.bytes 1 0 (length x.bytes) ≡ accepted (record { bytes = x.bytes; tail = 0 })
-is_record s q x v =
-    served_whole x.bytes v.head (length x.bytes) (served_header s q x v) (ap (λ (y : Reading). y.ending) (served_parts s q x v)) (omega arith)
-
 pub served_is_record : (s : List ℕ) (r p room : ℕ) (x : Portion) → serving s r p room ≡ accepted x
     → serving x.bytes 1 0 (length x.bytes) ≡ accepted (record { bytes = x.bytes; tail = 0 })
-served_is_record s r p room x e = is_record s (level_plane r p) x (serving_served s r p room x e)
+served_is_record s r p room x e =
+    let v = serving_served s r p room x e in
+    served_whole x.bytes v.head (length x.bytes) (served_header s r p x v) (ap (λ (y : Reading). y.ending) (served_parts s r p x v)) (omega arith)

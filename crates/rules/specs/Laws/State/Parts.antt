@@ -50,7 +50,7 @@ module _ {F : Family} (L : Lawful F) {top : ℕ} {all : List ℕ} {s : State} (h
     decoded_sound = sound_after L h p.level o.from1 o.up_to (decoder bit there p.plane) (record { taken = 0; pyramid = v })
 
 -- All parts of the coder.
-pub parts_of_plane_levels : (top n k : ℕ) → k ≤ top → All (OfLevel top) (parts_of_plane n k)
+parts_of_plane_levels : (top n k : ℕ) → k ≤ top → All (OfLevel top) (parts_of_plane n k)
 unfolding All parts_of_plane
 parts_of_plane_levels top n zero h = tt
 parts_of_plane_levels top n (suc k) h = (record { from1 = omega arith; up_to = h }, parts_of_plane_levels top n k (omega arith))

@@ -12,7 +12,7 @@ use Rattle.rules.specs.Laws.Counting.Sums.{sum, is, All, sum_times, sum_same, is
 use Rattle.rules.specs.Laws.Family.Lawful.{Lawful, leaves_a}
 use Rattle.rules.specs.Laws.Pass.Lists.{set_weight, lists_weight}
 use Rattle.rules.specs.Laws.Pass.Levels.{Met, Settled, Placed, leaves_met, leaves_next, all_if_any}
-use Rattle.rules.specs.Laws.Pass.Slots.{here, slots_twice, level_length, here_four, slots_gone, slots_paid, met_paid}
+use Rattle.rules.specs.Laws.Pass.Slots.{here, slots_twice, level_length, here_four, slots_gone, slots_paid}
 use Rattle.rules.specs.Laws.State.Weight.{state_weight, level_once}
 use Rattle.rules.specs.Laws.State.Sound.{level_count, Sound}
 
@@ -84,10 +84,6 @@ module _ {F : Family} (L : Lawful F) {j : ℕ} (most : (q : ℕ) → F.level q �
           whole (λ q. is (suc j) (F.level q)),
           level_length F (suc j) band in_top,
         )
-
-    -- Roots that have members in the top level pay for their slots with these.
-    pub roots_stay_paid : All (Met F (suc j)) (roots_of F band) → 2 * sum (slots_twice F (suc j)) (roots_of F band) ≤ 3 * level_count F all (suc j)
-    roots_stay_paid a = omega (arith, met_paid L (suc j) (roots_of F band) a, whole (λ q. is (suc j) (F.level q)))
 
     pub begins_sound : (s : State) → Begins F (suc j) band s → 2 * sum (slots_twice F (suc j)) (roots_of F band) ≤ 3 * level_count F all (suc j)
         → Sound F (suc j) all s

@@ -1,2 +1,0 @@
--- Document 02's W12 as definitions, in its words: what a reader must believe. No law is stated or cited here; those are in Laws.
-pub mod Checking

@@ -1,1 +1,0 @@
-// Serving with a plane for each level: definitions and laws, in specs. There is no code here.
