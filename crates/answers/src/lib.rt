@@ -1,4 +1,6 @@
 // The document's number and place for each verdict, made in one function each; and each answer's numbers at the front of a lent slice.
+#![tactic(auto)]
+
 ghost use Rattle.std.specs.Prelude.{◌≡◌, map, ◌+◌, ◌*◌, ◌≤◌, length};
 ghost use Rattle.std.proofs.lemmas.List.Edits.{sets};
 ghost use Rattle.rules.specs.Document.Passes.{from};

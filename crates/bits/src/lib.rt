@@ -1,4 +1,6 @@
 // Bits in bytes, most significant bit first: a position that is passed on by value, reading, writing and the padding of a body.
+#![tactic(auto)]
+
 ghost use Rattle.std.specs.Prelude.{◌≡◌, ◌+◌, ◌^◌, ◌<◌};
 ghost use Rattle.rules.specs.Document.Layout.{bit_at, pad_clear};
 ghost use Rattle.bits.specs.Bits.{bit_of, with_bit, set_bit};

@@ -1,5 +1,7 @@
 // The coder: from a lent pyramid to its record, written from the front of the output on. What would fall past the end of the output is left
 // out while the length goes on counting; at the end the length decides.
+#![tactic(auto)]
+
 ghost use Rattle.std.specs.Prelude.{◌≡◌, [], ◌∷◌, ◌*◌, ◌≤◌, ◌<◌, length, nat_abs};
 ghost use Rattle.rules.specs.Document.Notation.{greatest, zeros};
 ghost use Rattle.rules.specs.Document.Pyramid.{levels, most_planes, planes_of};

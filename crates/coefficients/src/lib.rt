@@ -1,4 +1,6 @@
 // Leaves over document 01's pyramid, what its coefficients are: sign and magnitude, as a value and as a word; the largest of them, the count of planes.
+#![tactic(auto)]
+
 ghost use Rattle.std.specs.Prelude.{◌≡◌, cond, ◌+◌, ◌*◌, ◌^◌, ◌<◌, max, get_or, pos, nat_abs};
 ghost use Rattle.rules.specs.Document.Notation.{greatest};
 ghost use Rattle.rules.specs.Document.Pyramid.{magnitude, below0, planes_of};

@@ -1,5 +1,7 @@
 // Decoding: from any bytes to a pyramid or a refusal, in one walk over the parts of the record, with exactly those that are usable. The walk draws in
 // the workspace; the pyramid is laid out at its end.
+#![tactic(auto)]
+
 ghost use Rattle.std.specs.Prelude.{◌≡◌, length};
 ghost use Rattle.rules.specs.Document.Pyramid.{area};
 ghost use Rattle.rules.specs.Document.Numbers.{read_parts};

@@ -1,4 +1,6 @@
 // Grey pictures: from a binary grey file to a pyramid, from a pyramid to a file, and how large the picture in a file is.
+#![tactic(auto)]
+
 ghost use Rattle.std.specs.Prelude.{◌≡◌, map, true, ◌+◌, ◌≤◌, ◌<◌, leb, length};
 ghost use Rattle.std.proofs.lemmas.List.Edits.{sets};
 ghost use Rattle.rules.specs.Document.Notation.{zeros};

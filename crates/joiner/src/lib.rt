@@ -1,4 +1,6 @@
 // Joining two records into one with all parts of either, in order, without decoding them.
+#![tactic(auto)]
+
 ghost use Rattle.std.specs.Prelude.{◌≡◌, true, ◌+◌, ◌^◌, ◌<◌, length};
 ghost use Rattle.rules.specs.Document.Pyramid.{legal_size};
 ghost use Rattle.rules.specs.Document.Passes.{part_names};

@@ -1,4 +1,6 @@
 // The largest magnitude in D and in L of every node, found once: "found from the offspring and the same node's L", "from the D of each offspring".
+#![tactic(auto)]
+
 ghost use Rattle.std.specs.Prelude.{◌≡◌, true, ◌+◌, ◌-◌, ◌*◌, ◌/◌, ◌^◌, ◌≤◌, ◌<◌, max, length};
 ghost use Rattle.rules.specs.Document.Pyramid.{legal_size, levels};
 ghost use Rattle.rules.specs.Document.Calls.{work_for};

@@ -1,4 +1,6 @@
 // The 5/3 lifting of pictures, forward and back, exact: in the workspace a number v stands as its tone, v + 2^28.
+#![tactic(auto)]
+
 ghost use Rattle.std.specs.Prelude.{◌≡◌, true, ◌+◌, ◌-◌, ◌*◌, ◌≤◌, ◌<◌, min, length, get_or, set, pos, nat_abs};
 ghost use Rattle.rules.specs.Document.Pyramid.{legal_size};
 ghost use Rattle.pictures.specs.Laws.Tones.{bias, toned, tone_high, tone_low, tone_even, tone_odd};

@@ -1,6 +1,8 @@
 // The lists of a level, in its stretch of the workspace: LIP, LSP and LIS; and behind the stretch, at the end of the next level's LIS, the sets
 // that move out of the level. In LIP and LSP the coder has beside each tree number what a test asks for: past the caches a word that is looked up at
 // its place costs more than the test.
+#![tactic(auto)]
+
 ghost use Rattle.std.specs.Prelude.{◌≡◌, ◌+◌, ◌*◌, ◌^◌, ◌≤◌, ◌<◌, length};
 ghost use Rattle.stretches.specs.Cut.{set_room, lip_from, lsp_from, lis_from};
 ghost use Rattle.lists.specs.Lists.{Inside, mark_of, Marked, coefficient, entry, entry_of, index_of, four_from, lip_at, lsp_at, past, emptied};

@@ -1,4 +1,6 @@
 // Zeroing whole slices, copying and comparing stretches of bytes. What would fall past the end of a slice is left out.
+#![tactic(auto)]
+
 ghost use Rattle.std.specs.Prelude.{◌≡◌, true, ◌↔◌, ◌+◌, ◌-◌, min, length, replicate, take, drop, pos};
 ghost use Rattle.std.proofs.lemmas.List.Edits.{sets};
 

@@ -1,4 +1,6 @@
 // Numbers of a record: groups of seven bits, lowest group first, at most four bytes, shortest form only.
+#![tactic(auto)]
+
 ghost use Rattle.std.specs.Prelude.{◌≡◌, ◌+◌, ◌*◌, ◌^◌, ◌≤◌, ◌<◌, length, get_or, set};
 ghost use Rattle.std.proofs.lemmas.List.Edits.{sets};
 ghost use Rattle.rules.specs.Document.Layout.{number_bytes, read_number};

@@ -1,5 +1,7 @@
 // Prints what the record on standard input holds: its header, its parts and its tail. Of a record that is refused it prints the refusal alone, so
 // the whole is judged before the first line.
+#![tactic(auto)]
+
 use libc::{STDIN_FILENO, STDOUT_FILENO};
 use record::walk::Cursor;
 use rules::{Header, Part, PartRead, Verdict};

@@ -1,5 +1,7 @@
 // One part in the workspace of all levels, coded or decoded: the level's stretch lent to its pass, and behind it the next level's, to whose LIS the
 // sets go that move out; and the lists at the start.
+#![tactic(auto)]
+
 ghost use Rattle.std.specs.Prelude.{◌≡◌, true, [], ◌∷◌, ◌+◌, ◌-◌, ◌*◌, ◌/◌, ◌^◌, ◌≤◌, ◌<◌, length};
 ghost use Rattle.rules.specs.Document.Pyramid.{legal_size, levels};
 ghost use Rattle.rules.specs.Document.Passes.{band_ll};

@@ -1,5 +1,7 @@
 // The pass of one part over its level, for coder and decoder alike, in the level's stretch that is lent to it: the sets of LIS visited, and the three
 // steps in their order.
+#![tactic(auto)]
+
 ghost use Rattle.std.specs.Prelude.{◌≡◌, map, ◌+◌, ◌*◌, ◌^◌, ◌≤◌, ◌<◌};
 ghost use Rattle.rules.specs.Document.Passes.{typeA, typeB};
 ghost use Rattle.stretches.specs.Cut.{set_room};

@@ -1,4 +1,6 @@
 // Grey pictures: definitions and laws, in specs, and the types that the crates above share. There is no code here.
+#![tactic(auto)]
+
 use rules::Verdict;
 
 // What a file holds: a picture's width and height, with the place where its pixels begin; or no grey picture.

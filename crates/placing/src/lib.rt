@@ -1,4 +1,6 @@
 // Between the pyramid, row by row, and the workspace, in tree order: the pyramid copied in, and what was drawn laid out.
+#![tactic(auto)]
+
 ghost use Rattle.std.specs.Prelude.{◌≡◌, true, ◌+◌, ◌*◌, ◌/◌, ◌%◌, ◌^◌, ◌≤◌, ◌<◌, length, get_or, pos};
 ghost use Rattle.rules.specs.Document.Pyramid.{legal_size, levels, area, index};
 ghost use Rattle.trees.specs.Places.{band_width};

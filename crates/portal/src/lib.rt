@@ -1,4 +1,6 @@
 // The calls exported to the portal's C host: thin, on plain numbers and slices, over the proved routines.
+#![tactic(auto)]
+
 ghost use Rattle.std.specs.Prelude.{◌≡◌, length};
 ghost use Rattle.rules.specs.Document.Notation.{zeros};
 ghost use Rattle.rules.specs.Document.Calls.{AfsCode, AfsServe, AfsDecode};

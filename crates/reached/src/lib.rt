@@ -1,4 +1,6 @@
 // The plane that each level reached, level 1 first, and what it says of the next part: whether it is usable; and how many parts of it were not.
+#![tactic(auto)]
+
 ghost use Rattle.std.specs.Prelude.{◌≡◌, true, [], ◌+◌, ◌-◌, ◌^◌, ◌≤◌, ◌<◌, length, set};
 ghost use Rattle.rules.specs.Document.Pyramid.{legal_size, most_planes};
 ghost use Rattle.rules.specs.Document.Calls.{level_places, reached_planes, count_in};

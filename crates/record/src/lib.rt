@@ -1,4 +1,6 @@
 // The format's home, both ways: reading a record, walking over its parts, and writing its header and heads.
+#![tactic(auto)]
+
 pub mod read;
 pub mod walk;
 pub mod write;

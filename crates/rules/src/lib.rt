@@ -1,4 +1,5 @@
 // Document 01's types, shared by every crate above. The rules themselves stand in specs/Document.
+#![tactic(auto)]
 
 pub const VERSION: usize = 1;
 

@@ -1,4 +1,6 @@
 // Serving: the header and the parts with a level and a plane of at least those asked for, copied without being decoded.
+#![tactic(auto)]
+
 ghost use Rattle.std.specs.Prelude.{◌≡◌, length};
 ghost use Rattle.rules.specs.declared.HeaderRead.TheVariants as header;
 ghost use Rattle.rules.specs.Document.Numbers.{read_header};

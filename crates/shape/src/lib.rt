@@ -1,4 +1,6 @@
 // Leaves over document 01's pyramid, where its coefficients stand: legal sizes, levels and how many coefficients they have.
+#![tactic(auto)]
+
 ghost use Rattle.std.specs.Prelude.{◌≡◌, true, ◌+◌, ◌≤◌};
 ghost use Rattle.rules.specs.Document.Pyramid.{most_decompositions, legal_side, legal_size};
 ghost use Rattle.rules.specs.Document.Pyramid.{levels};

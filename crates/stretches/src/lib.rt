@@ -1,4 +1,6 @@
 // A level's stretch of the workspace: where it lies, and what stands in it beside the lists: the level's values as words, and the maxima of sets.
+#![tactic(auto)]
+
 ghost use Rattle.std.specs.Prelude.{◌≡◌, true, cond, ◌+◌, ◌*◌, ◌^◌, ◌≤◌, ◌<◌, length, get_or};
 ghost use Rattle.rules.specs.Document.Pyramid.{legal_size, levels};
 ghost use Rattle.rules.specs.Document.Calls.{work_for};

@@ -1,4 +1,6 @@
 // What a record holds, judged as serving it whole judges it: what afs_survey answers, and what partlist decides before it prints.
+#![tactic(auto)]
+
 ghost use Rattle.std.specs.Prelude.{◌≡◌};
 ghost use Rattle.rules.specs.declared.HeaderRead.TheVariants as header;
 ghost use Rattle.rules.specs.Document.Numbers.{read_header, read_parts};

@@ -1,5 +1,7 @@
 // Single coefficients, for coder and decoder alike, in the level's stretch that is lent to a pass: those of LIP and the offspring of an opened set
 // tested, those of LSP refined, and the leaves that ask of them and take note for either side.
+#![tactic(auto)]
+
 ghost use Rattle.std.specs.Prelude.{true, false, cond, ◌≡◌, [], ◌∷◌, ◌+◌, ◌*◌, ◌^◌, ◌≤◌, ◌<◌, length};
 ghost use Rattle.rules.specs.Document.Pyramid.{most_planes};
 ghost use Rattle.rules.specs.Document.Passes.{bit?, set?, refined};
