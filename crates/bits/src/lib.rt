@@ -6,12 +6,12 @@ ghost use Rattle.rules.specs.Document.Layout.{bit_at, pad_clear};
 ghost use Rattle.bits.specs.Bits.{bit_of, with_bit, set_bit};
 
 // How many bits lie before.
-#[derive(Drop)]
+#[derive(Clone, Copy)]
 pub struct BitPosition {
     pub at: usize,
 }
 
-#[derive(Drop)]
+#[derive(Clone, Copy)]
 pub struct BitRead {
     pub bit: bool,
     pub next: BitPosition,

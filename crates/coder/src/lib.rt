@@ -22,7 +22,7 @@ use rules::{Coded, Level, Plane, Refusal, Size, Verdict};
 const MOST_MAGNITUDE: u32 = 65535;
 
 // Between parts: how full the lists are, and the place of the next part.
-#[derive(Drop)]
+#[derive(Clone, Copy)]
 struct Progress {
     counts: Counts,
     place: usize,

@@ -23,7 +23,7 @@ use rules::{
 
 // Where the walk stands between two parts, the plane that each level reached, level 1 first, how many of its parts were skipped, and how full the
 // lists are.
-#[derive(Drop)]
+#[derive(Clone, Copy)]
 pub struct Walk {
     pub cursor: Cursor,
     pub reached: [Plane; LEVEL_PLACES],
@@ -32,14 +32,14 @@ pub struct Walk {
 }
 
 // What one turn of the walk found, and where the walk stands after it.
-#[derive(Drop)]
+#[derive(Clone, Copy)]
 pub enum Found {
     Part,
     Tail,
     Refused(Refusal),
 }
 
-#[derive(Drop)]
+#[derive(Clone, Copy)]
 pub struct Turn {
     pub found: Found,
     pub walk: Walk,

@@ -14,7 +14,7 @@ use record::walk::Cursor;
 use rules::{Coded, Header, Level, PartRead, Plane, Refusal, Verdict};
 
 // What a record has under a name: the bytes of that part, none if there is no such part; and where it is read on.
-#[derive(Drop)]
+#[derive(Clone, Copy)]
 pub struct Offer {
     pub place: usize,
     pub count: usize,
@@ -22,14 +22,14 @@ pub struct Offer {
 }
 
 // How far a join is: where each record is read on, and how many bytes there are so far, written or past the end of the output.
-#[derive(Drop)]
+#[derive(Clone, Copy)]
 pub struct Joint {
     pub one: Cursor,
     pub two: Cursor,
     pub written: usize,
 }
 
-#[derive(Drop)]
+#[derive(Clone, Copy)]
 pub enum Step {
     On(Joint),
     Clash(usize),

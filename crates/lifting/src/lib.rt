@@ -24,7 +24,7 @@ const HALF_BIAS: u32 = 134217728;
 const SIGNED_BIAS: i32 = 268435456;
 
 // A turn: half the sides of its block, the width of a row of the pyramid, and where in the workspace the lines stand.
-#[derive(Drop)]
+#[derive(Clone, Copy)]
 pub struct Turn {
     pub half: usize,
     pub pairs: usize,

@@ -9,7 +9,7 @@ ghost use Rattle.lists.specs.Lists.{Inside, mark_of, Marked, coefficient, entry,
 ghost use Rattle.lists.specs.Lists.{Fits, LipPushed, LinedUp, PushedBy, NextSet, SetAdded, SetKept, SetMoved};
 
 // Which side of the conversation a pass is run for: the coder answers from the stretch and writes bits, the decoder reads them and draws coefficients.
-#[derive(Drop)]
+#[derive(Clone, Copy)]
 pub enum Role {
     Codes,
     Reads,
@@ -17,7 +17,7 @@ pub enum Role {
 
 // A level's stretch: whose lists it has, for how many coefficients, from which tree number on, and the place behind it where the sets go that move out
 // of the level.
-#[derive(Drop)]
+#[derive(Clone, Copy)]
 pub struct Stretch {
     pub role: Role,
     pub n: usize,
@@ -26,7 +26,7 @@ pub struct Stretch {
 }
 
 // How full the lists are, in the midst of a pass: of LIS so many sets were kept, so many visited, so many are left to visit.
-#[derive(Drop)]
+#[derive(Clone, Copy)]
 pub struct Fill {
     pub lip: usize,
     pub lsp: usize,
@@ -37,7 +37,7 @@ pub struct Fill {
 }
 
 // An entry of LIS: a coefficient as type A, for its D, or as type B, for its L.
-#[derive(Drop)]
+#[derive(Clone, Copy)]
 pub enum Set {
     TypeA(usize),
     TypeB(usize),

@@ -13,13 +13,13 @@ use rules::Size;
 const GREATEST_TOLD: usize = 18446744073709551615;
 
 // Digits read: what they are worth, GREATEST_TOLD where it is more, and the place behind them.
-#[derive(Drop)]
+#[derive(Clone, Copy)]
 pub struct Digits {
     pub value: usize,
     pub end: usize,
 }
 
-#[derive(Drop)]
+#[derive(Clone, Copy)]
 pub enum Field {
     Number(usize, usize),
     Missing,

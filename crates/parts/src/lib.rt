@@ -17,7 +17,7 @@ use shape::Depth;
 use testing::{Run, Stand};
 
 // How full each level's lists are; level 1 first.
-#[derive(Drop)]
+#[derive(Clone, Copy)]
 pub struct Counts {
     pub lip: [usize; LEVEL_PLACES],
     pub lsp: [usize; LEVEL_PLACES],
@@ -25,7 +25,7 @@ pub struct Counts {
 }
 
 // The counts after a part, and the place of the next bit.
-#[derive(Drop)]
+#[derive(Clone, Copy)]
 pub struct Passed {
     pub counts: Counts,
     pub at: BitPosition,

@@ -4,7 +4,7 @@
 use rules::Verdict;
 
 // What a file holds: a picture's width and height, with the place where its pixels begin; or no grey picture.
-#[derive(Drop)]
+#[derive(Clone, Copy)]
 pub enum Grey {
     Picture(usize, usize, usize),
     NotGrey,
@@ -14,14 +14,14 @@ pub enum Grey {
 pub const GREY_PLACES: usize = 4;
 
 // The answers of the way in, a grey file's to its pyramid, and of the way back.
-#[derive(Drop)]
+#[derive(Clone, Copy)]
 pub struct GreyRead {
     pub verdict: Verdict,
     pub w: usize,
     pub h: usize,
 }
 
-#[derive(Drop)]
+#[derive(Clone, Copy)]
 pub struct GreyWritten {
     pub verdict: Verdict,
     pub length: usize,

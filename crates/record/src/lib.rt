@@ -8,7 +8,7 @@ pub mod write;
 use rules::{Level, Plane};
 
 // A part's plane and level.
-#[derive(Drop)]
+#[derive(Clone, Copy)]
 pub struct Name {
     pub plane: Plane,
     pub level: Level,

@@ -7,7 +7,7 @@ use crate::{Name, read};
 use rules::{Header, Level, Part, PartRead, Plane};
 
 // The name of the part before, and the place of the next one.
-#[derive(Drop)]
+#[derive(Clone, Copy)]
 pub struct Cursor {
     pub before: Name,
     pub place: usize,

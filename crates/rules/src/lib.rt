@@ -18,14 +18,14 @@ pub const SERVE_PLACES: usize = 4;
 pub const DECODE_PLACES: usize = 3 + 2 * LEVEL_PLACES;
 
 // Planes and levels are counted apart: a place for one never accepts the other.
-#[derive(Drop)]
+#[derive(Clone, Copy)]
 pub struct Plane(pub usize);
 
-#[derive(Drop)]
+#[derive(Clone, Copy)]
 pub struct Level(pub usize);
 
 // Width, height and decomposition count.
-#[derive(Drop)]
+#[derive(Clone, Copy)]
 pub struct Size {
     pub w: usize,
     pub h: usize,
@@ -33,7 +33,7 @@ pub struct Size {
 }
 
 // What a call is refused for, with the place where one is reported.
-#[derive(Drop)]
+#[derive(Clone, Copy)]
 pub enum Refusal {
     Size,
     Length,
@@ -52,27 +52,27 @@ pub enum Refusal {
     Clash(usize),
 }
 
-#[derive(Drop)]
+#[derive(Clone, Copy)]
 pub enum Verdict {
     Accepted,
     Refused(Refusal),
 }
 
 // The answers of coding, serving and decoding.
-#[derive(Drop)]
+#[derive(Clone, Copy)]
 pub struct Coded {
     pub verdict: Verdict,
     pub length: usize,
 }
 
-#[derive(Drop)]
+#[derive(Clone, Copy)]
 pub struct Served {
     pub verdict: Verdict,
     pub length: usize,
     pub tail: usize,
 }
 
-#[derive(Drop)]
+#[derive(Clone, Copy)]
 pub struct Decoded {
     pub verdict: Verdict,
     pub tail: usize,
@@ -81,7 +81,7 @@ pub struct Decoded {
 }
 
 // A number read: its value and the place after it, or why it is none.
-#[derive(Drop)]
+#[derive(Clone, Copy)]
 pub enum Number {
     Value(usize, usize),
     TooManyBytes,
@@ -90,21 +90,21 @@ pub enum Number {
 }
 
 // A header read: what it says and the place after it.
-#[derive(Drop)]
+#[derive(Clone, Copy)]
 pub struct Header {
     pub size: Size,
     pub planes: usize,
     pub end: usize,
 }
 
-#[derive(Drop)]
+#[derive(Clone, Copy)]
 pub enum HeaderRead {
     Header(Header),
     Refused(Refusal),
 }
 
 // A part of a record: its head, and where it, its body and the next part begin.
-#[derive(Drop)]
+#[derive(Clone, Copy)]
 pub struct Part {
     pub plane: Plane,
     pub level: Level,
@@ -115,7 +115,7 @@ pub struct Part {
 }
 
 // What stands at a place: a part, one that is whole but for its body, less than a head, or what is refused.
-#[derive(Drop)]
+#[derive(Clone, Copy)]
 pub enum PartRead {
     Part(Part),
     Cut(Part),

@@ -12,7 +12,7 @@ use record::walk::Cursor;
 use rules::{Header, HeaderRead, Level, Part, PartRead, Plane, Refusal, Served, Verdict};
 
 // How the walk over the parts ended: with the length of the whole result and that of the tail, or at a part at fault.
-#[derive(Drop)]
+#[derive(Clone, Copy)]
 pub enum Ended {
     Whole(usize, usize),
     Fault(Refusal),

@@ -15,7 +15,7 @@ const LEAST_SIDE: usize = 4;
 const MOST_DECOMPOSITIONS: usize = 5;
 
 // How many times a stretch of the pyramid was halved: where a coefficient lies, whatever level its bits are coded with.
-#[derive(Drop)]
+#[derive(Clone, Copy)]
 pub struct Depth(pub usize);
 
 fn legal_side(n: usize, side: usize) -> bool

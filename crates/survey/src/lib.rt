@@ -16,7 +16,7 @@ pub const LONGEST: usize = 16384;
 // The length of what afs_survey answers.
 pub const SURVEY_PLACES: usize = 8;
 
-#[derive(Drop)]
+#[derive(Clone, Copy)]
 pub struct Survey {
     pub verdict: Verdict,
     pub header: Header,

@@ -18,7 +18,7 @@ use rules::{Level, Plane, Size};
 // Which part is run. The tree numbers of the nodes whose offspring are in the level begin at `parents`, those of the nodes whose offspring's offspring
 // are at `elders`. At the beginning its LIS had so many sets, and the bits go on from a place. Those that
 // are there end at the place `until`: of a part that is cut, W1 has the tail decoded "as far as its bits go".
-#[derive(Drop)]
+#[derive(Clone, Copy)]
 pub struct Run {
     pub z: Size,
     pub plane: Plane,
@@ -32,7 +32,7 @@ pub struct Run {
 }
 
 // Where a pass stands: how full the lists are, and the place of the next bit.
-#[derive(Drop)]
+#[derive(Clone, Copy)]
 pub struct Stand {
     pub fill: Fill,
     pub at: BitPosition,
@@ -40,7 +40,7 @@ pub struct Stand {
 
 // What a test moves of where a pass stands: the ends of LIP and LSP, and the place of the next bit. A small answer: the rest of a stand is not
 // carried through memory for each block of four.
-#[derive(Drop)]
+#[derive(Clone, Copy)]
 pub struct Ends {
     pub lip: usize,
     pub lsp: usize,
@@ -48,7 +48,7 @@ pub struct Ends {
 }
 
 // What was told of a coefficient: whether it is found and, if so, whether it is negative; and the place of the next bit.
-#[derive(Drop)]
+#[derive(Clone, Copy)]
 pub struct Told {
     pub found: bool,
     pub negative: bool,

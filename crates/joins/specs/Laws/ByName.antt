@@ -46,6 +46,7 @@ after_other x y a = (not_test _ (λ e. apart (sym (same_name_lem y x e))), not_t
 pub among_all : (P : PartName → Type 0) (ns xs : List PartName) → Among xs ns → All P ns → All P xs
 unfolding All
 among_all P [] [] none a = tt
+among_all P [] (x ∷ xs) r a = elim r [ ]
 among_all P (n ∷ ns) (x ∷ xs) (this r) a = (a.0, among_all P ns xs r a.1)
 among_all P (n ∷ ns) xs (other r) a = among_all P ns xs r a.1
 
@@ -60,6 +61,7 @@ pub by_name : (ns : List PartName) (before : PartName) → InOrder before ns →
     → held_bytes ps ≡ flat (found ps) ns
 unfolding flat found InOrder
 by_name [] before o [] none = refl
+by_name [] before o (p ∷ ps) r = elim r [ ]
 by_name (x ∷ ns) before o [] (other r) = by_name ns x o.1 [] r
 by_name (x ∷ ns) before o (p ∷ ps) (other r) =
     ap₂ ◌++◌ (sym (found_none x (p ∷ ps) (among_all (After x) ns (held_names (p ∷ ps)) r (order_after x ns o.1))))

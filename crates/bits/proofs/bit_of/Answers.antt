@@ -1,0 +1,6 @@
+use borrow.Author.Rules.{rules}
+use Rattle.bits.proofs.Laws.{masked}
+use Rattle.bits.proofs.bit_of.Goals as goal
+
+pub returns : goal.returns
+returns c = masked c.args.byte c.args.i

@@ -1,0 +1,6 @@
+use borrow.Author.Rules.{rules}
+use Rattle.bits.proofs.Laws.{shifted}
+use Rattle.bits.proofs.with_bit.Goals as goal
+
+pub returns : goal.returns
+returns c = shifted c.args.byte c.args.i c.args.bit

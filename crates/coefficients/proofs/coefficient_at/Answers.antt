@@ -1,0 +1,6 @@
+use borrow.Author.Rules.{rules}
+use Rattle.coefficients.proofs.Signed.{past_end}
+use Rattle.coefficients.proofs.coefficient_at.Goals as goal
+
+pub returns-else-q-pyramid : goal.returns-else-q-pyramid
+returns-else-q-pyramid c = past_end c.args.pyramid.now _ c.if-q-pyramid.false

@@ -1,0 +1,10 @@
+use Prim.Native.Nat.{◌-◌}
+use borrow.Author.Rules.{rules}
+use Rattle.memory.proofs.Laws.{Alike, unlike_length, alike_none, alike_more, unlike_byte, alike_all, fewer}
+use Rattle.memory.proofs.same.Given as goal
+
+abbrev pub invariant-loop-i : goal.invariant-loop-i
+invariant-loop-i l = Alike l.one l.start l.count l.other l.from l.many l.there l.i
+
+abbrev pub decreases-loop-i : goal.decreases-loop-i
+decreases-loop-i l = l.there - l.i

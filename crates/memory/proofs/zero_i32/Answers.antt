@@ -1,0 +1,28 @@
+use Prim.Native.Nat.{◌-◌}
+use native.Mathlib.Omega.{arith}
+use lib.ListN.{length}
+use lib.IntN.{pos}
+use borrow.Author.Rules.{rules}
+use Rattle.memory.proofs.Laws.{Filled, filled_none, filled_more, filled_all}
+use Rattle.memory.proofs.zero_i32.Goals as goal
+
+pub loop-i-init : goal.loop-i-init
+loop-i-init c = filled_none
+
+pub slice_set_of-s : goal.slice_set_of-s
+slice_set_of-s c = omega arith
+
+pub overflow_add-i : goal.overflow_add-i
+overflow_add-i c = omega arith
+
+pub loop-i-smaller : goal.loop-i-smaller
+loop-i-smaller c = omega arith
+
+pub loop-i-preserved : goal.loop-i-preserved
+loop-i-preserved c = filled_more c.loop-i.invariant (omega arith)
+
+pub shape_of-s : goal.shape_of-s
+shape_of-s c = omega arith
+
+pub returns : goal.returns
+returns c = filled_all c.loop-i.invariant (omega arith)

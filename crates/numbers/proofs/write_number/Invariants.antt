@@ -1,0 +1,10 @@
+use native.Mathlib.Omega.{arith}
+use borrow.Author.Rules.{rules}
+use Rattle.numbers.proofs.Laws.{writing_same, Writing, writing_begins, writing_place, writing_next, writing_last}
+use Rattle.numbers.proofs.write_number.Given as goal
+
+abbrev pub invariant-loop-rest : goal.invariant-loop-rest
+invariant-loop-rest l = Writing l.initial.out l.at l.value l.out l.place l.rest
+
+abbrev pub decreases-loop-rest : goal.decreases-loop-rest
+decreases-loop-rest l = l.rest

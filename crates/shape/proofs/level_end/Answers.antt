@@ -1,0 +1,7 @@
+use borrow.Author.Rules.{rules}
+use Rattle.rules.specs.Laws.Family.Sizes.{level_end}
+use Rattle.shape.proofs.level_end.Goals as goal
+
+pub returns : goal.returns
+unfolding level_end
+returns c = c.span_of.ensures

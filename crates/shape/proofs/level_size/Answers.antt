@@ -1,0 +1,14 @@
+use mathlib.Core.Path.{ap₂}
+use Prim.Native.Nat.{ℕ, ◌-◌}
+use native.Mathlib.Omega.{arith}
+use borrow.Author.Rules.{rules}
+use Rattle.rules.specs.Laws.Family.Sizes.{level_size}
+use Rattle.shape.proofs.Sizes.{start_before}
+use Rattle.shape.proofs.level_size.Goals as goal
+
+pub overflow_sub-result : goal.overflow_sub-result
+overflow_sub-result c = omega (arith, start_before _ c.requires.0 _ c.requires.1 c.requires.2)
+
+pub returns : goal.returns
+unfolding level_size
+returns c = ap₂ (λ (a b : ℕ). a - b) c.level_end.ensures c.level_start.ensures
