@@ -1,0 +1,12 @@
+use Prim.Native.Nat.{◌-◌, ◌≤◌}
+use native.Mathlib.Omega.{arith}
+use borrow.Author.Rules.{rules}
+use Rattle.rules.specs.Document.Pyramid.{most_decompositions}
+use Rattle.lifting.proofs.Stages.{few_turns, Stage, stage_none, stage_asks, stage_next, last_block, last_end}
+use Rattle.lifting.proofs.split_picture.Given as goal
+
+abbrev pub invariant-loop-l : goal.invariant-loop-l
+invariant-loop-l l = (l.l ≤ l.z.n) × (l.z.n ≤ most_decompositions) × Stage l.z l.initial.work l.initial.out l.l l.work l.out
+
+abbrev pub decreases-loop-l : goal.decreases-loop-l
+decreases-loop-l l = l.z.n - l.l

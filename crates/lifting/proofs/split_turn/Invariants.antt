@@ -1,0 +1,13 @@
+use Prim.Native.Nat.{◌-◌, ◌*◌, ◌≤◌}
+use native.Mathlib.Omega.{arith}
+use borrow.Author.Rules.{rules}
+use Rattle.lifting.specs.Turns.{ForTurn}
+use Rattle.lifting.proofs.RowLaws.{pairs_there, row_there}
+use Rattle.lifting.proofs.TurnLaws.{Begun, first_line, turn_still, begun_none, begun_pair, begun_more, turn_done}
+use Rattle.lifting.proofs.split_turn.Given as goal
+
+abbrev pub invariant-loop-i : goal.invariant-loop-i
+invariant-loop-i l = (l.i ≤ l.turn.pairs) × ForTurn l.turn l.initial.work l.initial.out × Begun l.turn l.initial.work l.initial.out l.i l.work l.out
+
+abbrev pub decreases-loop-i : goal.decreases-loop-i
+decreases-loop-i l = l.turn.pairs - l.i

@@ -1,0 +1,16 @@
+use Prim.Native.Nat.{◌-◌, ◌≤◌}
+use native.Mathlib.Omega.{arith}
+use lib.IntN.{pos}
+use borrow.Author.Rules.{rules}
+use Rattle.pictures.specs.Laws.Tones.{toned}
+use Rattle.lifting.specs.Fills.{along, Filled}
+use Rattle.lifting.specs.Lines.{line}
+use Rattle.lifting.proofs.Filling.{filled_none, filled_end}
+use Rattle.lifting.proofs.Stored.{store_asks, store_more}
+use Rattle.lifting.proofs.store_line.Given as goal
+
+abbrev pub invariant-loop-j : goal.invariant-loop-j
+invariant-loop-j l = (l.j ≤ l.count) × Filled (pos 0) l.initial.out (along l.at) (λ c. toned (line l.work l.from c)) l.j l.out
+
+abbrev pub decreases-loop-j : goal.decreases-loop-j
+decreases-loop-j l = l.count - l.j

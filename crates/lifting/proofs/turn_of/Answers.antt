@@ -1,0 +1,13 @@
+use native.Mathlib.Omega.{arith}
+use borrow.Author.Rules.{rules}
+use Rattle.rules.specs.Laws.Family.Sizes.{legal, area_bound}
+use Rattle.lifting.proofs.turn_of.Goals as goal
+
+pub overflow_shr-result : goal.overflow_shr-result
+overflow_shr-result c = omega (arith, (legal _ c.requires.0).few)
+
+pub overflow_shr-result-2 : goal.overflow_shr-result-2
+overflow_shr-result-2 c = omega (arith, (legal _ c.requires.0).few)
+
+pub overflow_mul-result : goal.overflow_mul-result
+overflow_mul-result c = omega (arith, area_bound _ c.requires.0)

@@ -1,0 +1,12 @@
+use Rattle.netpbm.proofs.Laws.{Still, still_begins, comment_on, comment_ends, comment_out}
+use Prim.Native.Nat.{◌-◌}
+use lib.ListN.{length}
+use Rattle.pictures.specs.Document.Netpbm.{after_comment}
+use borrow.Author.Rules.{rules}
+use Rattle.netpbm.proofs.past_comment.Given as goal
+
+abbrev pub invariant-loop-i : goal.invariant-loop-i
+invariant-loop-i l = Still after_comment l.file l.at l.i
+
+abbrev pub decreases-loop-i : goal.decreases-loop-i
+decreases-loop-i l = length l.file - l.i
