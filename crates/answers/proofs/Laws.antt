@@ -9,8 +9,8 @@ use lib.Seq.{sets}
 use Rattle.rules.specs.declared.Decoded.{Decoded}
 use Rattle.rules.specs.Document.Passes.{from}
 use Rattle.rules.specs.Document.Calls.{filled, level_places, plane_in, count_in}
-use Rattle.rules.specs.Laws.Counting.Sums.{from_length}
-use Rattle.rules.specs.Laws.Bytes.Output.{filled_sets, filled_append}
+use Rattle.rules.proofs.Laws.Counting.Sums.{from_length}
+use Rattle.rules.proofs.Laws.Bytes.Output.{filled_sets, filled_append}
 use Rattle.memory.specs.Stores.{sets_append}
 use Rattle.answers.specs.Report.{level_numbers, Reported}
 

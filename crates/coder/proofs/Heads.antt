@@ -7,8 +7,8 @@ use native.Mathlib.Omega.{arith}
 use lib.ListN.{length, length-append}
 use lib.Seq.{sets}
 use Rattle.rules.specs.Document.Layout.{number_bytes, bytes_for, packed}
-use Rattle.rules.specs.Laws.Bytes.Numbers.{number_bytes_length}
-use Rattle.rules.specs.Laws.Bytes.BodyBack.{packed_length}
+use Rattle.rules.proofs.Laws.Bytes.Numbers.{number_bytes_length}
+use Rattle.rules.proofs.Laws.Bytes.BodyBack.{packed_length}
 use Rattle.memory.specs.Stores.{sets_append}
 use Rattle.record.specs.Write.{short_head, made_way, head_of, head_of_length}
 use Rattle.coder.proofs.Stores.{sets_beside, sets_covered, stored_again}

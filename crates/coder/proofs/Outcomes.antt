@@ -12,7 +12,7 @@ use lib.Seq.{length-sets}
 use borrow.Author.Tests.{leb-true, eqb-true, le-leb, lt-leb, eq-eqb, ne_eqb}
 use mir.Syntax.{w64}
 use mir.Val.{Fits}
-use Rattle.rules.specs.Laws.Family.Sizes.{area_bound}
+use Rattle.rules.proofs.Laws.Family.Sizes.{area_bound}
 use Rattle.rules.specs.declared.Size.{Size}
 use Rattle.rules.specs.declared.Coded.{Coded}
 use Rattle.rules.specs.declared.Refusal.{Refusal}
@@ -23,7 +23,7 @@ use Rattle.rules.specs.Document.Notation.{zeros}
 use Rattle.rules.specs.Document.Pyramid.{legal_size, area, most_magnitude}
 use Rattle.rules.specs.Document.Layout.{record_of}
 use Rattle.rules.specs.Document.Calls.{Result, refused, unless, work_for, first_over, fitted, coding, code_out, code_answer, Coding}
-use Rattle.rules.specs.Laws.Bytes.Output.{filled_sets}
+use Rattle.rules.proofs.Laws.Bytes.Output.{filled_sets}
 use Rattle.coder.specs.Writing.{Answered, judged_input, Given, Stored}
 
 -- Stores keep the length.

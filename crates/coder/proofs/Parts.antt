@@ -16,10 +16,10 @@ use Rattle.rules.specs.Document.Pyramid.{legal_size, levels}
 use Rattle.rules.specs.Document.Passes.{State}
 use Rattle.rules.specs.Document.Layout.{packed, bytes_for}
 use Rattle.rules.specs.Document.Numbers.{part_most}
-use Rattle.rules.specs.Laws.Family.Sizes.{legal}
+use Rattle.rules.proofs.Laws.Family.Sizes.{legal}
 use Rattle.rules.specs.Laws.State.Parts.{OfLevel}
-use Rattle.rules.specs.Laws.Family.Sizes.{area_bound}
-use Rattle.rules.specs.Laws.Bytes.BodyBack.{packed_length}
+use Rattle.rules.proofs.Laws.Family.Sizes.{area_bound}
+use Rattle.rules.proofs.Laws.Bytes.BodyBack.{packed_length}
 use Rattle.bits.specs.Written.{write_bits_packed}
 use Rattle.bits.specs.Bits.{write_bits}
 use Rattle.parts.specs.Standing.{named, state_of, agree_same, ReadyToCode, PartCoded, CodedFrom, course_c}

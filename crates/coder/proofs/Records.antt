@@ -13,14 +13,16 @@ use Rattle.rules.specs.Document.Pyramid.{area, levels, most_magnitude, magnitude
 use Rattle.rules.specs.Document.Passes.{Entry, typeA, typeB, members, PartName, part_names}
 use Rattle.rules.specs.Document.Calls.{level_places, work_for}
 use Rattle.rules.specs.Document.Layout.{version, number_bytes, header_bytes, part_bytes, planes_in, parts_of, record_of}
-use Rattle.rules.specs.Laws.Family.Sizes.{legal}
-use Rattle.rules.specs.Laws.Counting.Sums.{every_all}
-use Rattle.rules.specs.Laws.Family.Maxima.{greatest_same}
-use Rattle.rules.specs.Laws.Rounding.Planes.{planes_of_most, magnitude_most, range_greatest}
+use Rattle.rules.proofs.Laws.Family.Sizes.{legal}
+use Rattle.rules.proofs.Laws.Counting.Sums.{every_all}
+use Rattle.rules.proofs.Laws.Family.Maxima.{greatest_same}
+use Rattle.rules.proofs.Laws.Rounding.Planes.{planes_of_most, magnitude_most, range_greatest}
 use Rattle.memory.specs.Stores.{sets_append, get_d_sets_behind}
 use Rattle.trees.specs.Family.{coefficient_of, trees}
-use Rattle.trees.specs.Run.{tree_start, parts_of_trees}
-use Rattle.trees.specs.Sound.{TreeSound, tree_start_sound, tree_members_area}
+use Rattle.trees.specs.Run.{tree_start}
+use Rattle.trees.proofs.Run.{parts_of_trees}
+use Rattle.trees.specs.Sound.{TreeSound}
+use Rattle.trees.proofs.Sound.{tree_start_sound, tree_members_area}
 use Rattle.coefficients.specs.Words.{worded, magnitude_word, magnitude_word_lem}
 use Rattle.stretches.specs.Cut.{largest_d, largest_l}
 use Rattle.stretches.specs.Workspace.{word_in, measured, Holds}

@@ -14,13 +14,14 @@ use Rattle.rules.specs.Document.Pyramid.{legal_size, area, levels, magnitude, ne
 use Rattle.rules.specs.Document.Passes.{State, PartName, parts_of_plane}
 use Rattle.rules.specs.Document.Layout.{packed, part_bytes, coded_parts}
 use Rattle.rules.specs.Document.Numbers.{most_bits, part_most}
-use Rattle.rules.specs.Laws.Counting.Sums.{from_length}
-use Rattle.rules.specs.Laws.Family.Sizes.{legal, area_bound}
-use Rattle.rules.specs.Laws.State.Parts.{OfLevel, coded_sound, coded_bits}
-use Rattle.rules.specs.Laws.Bytes.Numbers.{number_bytes_length}
-use Rattle.rules.specs.Laws.Bytes.BodyBack.{packed_length}
+use Rattle.rules.proofs.Laws.Counting.Sums.{from_length}
+use Rattle.rules.proofs.Laws.Family.Sizes.{legal, area_bound}
+use Rattle.rules.specs.Laws.State.Parts.{OfLevel}
+use Rattle.rules.proofs.Laws.State.Parts.{coded_sound, coded_bits}
+use Rattle.rules.proofs.Laws.Bytes.Numbers.{number_bytes_length}
+use Rattle.rules.proofs.Laws.Bytes.BodyBack.{packed_length}
 use Rattle.trees.specs.Family.{coefficient_of}
-use Rattle.trees.specs.Lawful.{trees_lawful}
+use Rattle.trees.proofs.Lawful.{trees_lawful}
 use Rattle.trees.specs.Sound.{TreeSound}
 use Rattle.memory.specs.Stores.{sets_append, get_d_sets_behind}
 use Rattle.record.specs.Write.{head_of, head_of_length}

@@ -11,7 +11,7 @@ use Rattle.rules.specs.declared.Level.{Level}
 use Rattle.rules.specs.Document.Pyramid.{levels, most_planes}
 use Rattle.rules.specs.Document.Passes.{PartName, parts_of_plane, part_names}
 use Rattle.rules.specs.Document.Calls.{level_places}
-use Rattle.rules.specs.Laws.Family.Sizes.{legal}
+use Rattle.rules.proofs.Laws.Family.Sizes.{legal}
 use Rattle.stretches.specs.Workspace.{Holds}
 use Rattle.parts.specs.declared.Counts.{Counts}
 use Rattle.parts.specs.Standing.{named}

@@ -16,8 +16,8 @@ use borrow.Author.Tests.{lt-ltb, le-ltb}
 use Rattle.rules.specs.Document.Notation.{greatest}
 use Rattle.rules.specs.Document.Pyramid.{magnitude, planes_of}
 use Rattle.rules.specs.Document.Calls.{first_over}
-use Rattle.rules.specs.Laws.Counting.Booleans.{lowest_found}
-use Rattle.rules.specs.Laws.Rounding.Planes.{counts_once, planes_of_counts}
+use Rattle.rules.proofs.Laws.Counting.Booleans.{lowest_found}
+use Rattle.rules.proofs.Laws.Rounding.Planes.{counts_once, planes_of_counts}
 
 max_assoc : (a b c : ℕ) → max (max a b) c ≡ max a (max b c)
 max_assoc a b c = omega arith

@@ -16,10 +16,14 @@ use Rattle.rules.specs.Document.Pyramid.{area}
 use Rattle.rules.specs.Document.Passes.{State, start, from}
 use Rattle.rules.specs.Document.Calls.{Progress, going, unfit, decode_parts, tail_onward}
 use Rattle.rules.specs.Promises.Vocabulary.{Legal}
-use Rattle.rules.specs.Laws.Counting.Sums.{All, all_then, from_length, from_all}
-use Rattle.trees.specs.Family.{trees, coefficient_of, coefficient_out}
-use Rattle.trees.specs.Run.{number_of, coefficient_number, number_area}
-use Rattle.trees.specs.Decoding.{Laid, Same, onward_of, decode_parts_of, tail_onward_of, laid_out, decoded_trees}
+use Rattle.rules.specs.Laws.Counting.Sums.{All}
+use Rattle.rules.proofs.Laws.Counting.Sums.{all_then, from_length, from_all}
+use Rattle.trees.specs.Family.{trees, coefficient_of}
+use Rattle.trees.proofs.Family.{coefficient_out}
+use Rattle.trees.specs.Run.{number_of}
+use Rattle.trees.proofs.Run.{coefficient_number, number_area}
+use Rattle.trees.specs.Decoding.{Laid, Same, onward_of, decode_parts_of, tail_onward_of}
+use Rattle.trees.proofs.Decoding.{laid_out, decoded_trees}
 use Rattle.coefficients.specs.Words.{value_of, value_zero}
 use Rattle.stretches.specs.Workspace.{word_in, drawn_in, drawn_length}
 use Rattle.decoder.specs.Walking.{names, begin, walked, tail_walked}

@@ -25,13 +25,17 @@ use Rattle.rules.specs.Document.Numbers.{tail, fault, Reading, read_parts, behin
 use Rattle.rules.specs.Document.Notation.{zeros}
 use Rattle.rules.specs.Document.Calls.{level_places, Result, refused, accepted, Progress, going, unfit, on_ending, Picture}
 use Rattle.rules.specs.Document.Calls.{reached_planes, skipped_counts, count_in, pictured, decoded_parts}
-use Rattle.rules.specs.Laws.Counting.Booleans.{clash}
-use Rattle.rules.specs.Laws.Family.Sizes.{legal}
-use Rattle.rules.specs.Laws.Reading.Parts.{After, follows_after}
-use Rattle.rules.specs.Laws.Reading.OneWalk.{usable_now, reached_now}
-use Rattle.rules.specs.Laws.Reading.Stands.{HeaderStands, read_header_stands, header_legal, header_planes, PartStands}
-use Rattle.rules.specs.Laws.Reading.WholeParts.{WholeParts, parts_whole, usable_read, reached_read}
-use Rattle.rules.specs.Laws.Reading.CutPart.{CutStands, usable_cut}
+use Rattle.rules.proofs.Laws.Counting.Booleans.{clash}
+use Rattle.rules.proofs.Laws.Family.Sizes.{legal}
+use Rattle.rules.specs.Laws.Reading.Parts.{After}
+use Rattle.rules.proofs.Laws.Reading.Parts.{follows_after}
+use Rattle.rules.proofs.Laws.Reading.OneWalk.{usable_now, reached_now}
+use Rattle.rules.specs.Laws.Reading.Stands.{HeaderStands, PartStands}
+use Rattle.rules.proofs.Laws.Reading.Stands.{read_header_stands, header_legal, header_planes}
+use Rattle.rules.specs.Laws.Reading.WholeParts.{WholeParts}
+use Rattle.rules.proofs.Laws.Reading.WholeParts.{parts_whole, usable_read, reached_read}
+use Rattle.rules.specs.Laws.Reading.CutPart.{CutStands}
+use Rattle.rules.proofs.Laws.Reading.CutPart.{usable_cut}
 use Rattle.rules.specs.Promises.Vocabulary.{Legal}
 use Rattle.record.specs.declared.walk.Cursor.{Cursor}
 use Rattle.record.specs.Named.{named}
@@ -40,7 +44,8 @@ use Rattle.record.specs.Walk.{stands_tail, stands_cut, stands_fault}
 use Rattle.trees.specs.Family.{trees}
 use Rattle.trees.specs.Run.{tree_start}
 use Rattle.trees.specs.Decoding.{onward_of, decode_parts_of, tail_onward_of}
-use Rattle.trees.specs.Sound.{TreeSound, TreeProgress, tree_start_sound, tree_onward_sound}
+use Rattle.trees.specs.Sound.{TreeSound, TreeProgress}
+use Rattle.trees.proofs.Sound.{tree_start_sound, tree_onward_sound}
 use Rattle.stretches.specs.Workspace.{word_in, drawn_in}
 use Rattle.placing.specs.Placing.{Roomy, LaidOut, Cleared}
 use Rattle.parts.specs.Standing.{state_of, agree_same}

@@ -15,7 +15,7 @@ use Rattle.rules.specs.declared.Verdict.{Verdict}
 use Rattle.rules.specs.declared.Verdict.TheVariants.{Accepted, Refused}
 use Rattle.rules.specs.Document.Pyramid.{legal_size, area}
 use Rattle.rules.specs.Document.Calls.{Result, refused, unless, work_for, first_over}
-use Rattle.rules.specs.Laws.Family.Sizes.{area_bound}
+use Rattle.rules.proofs.Laws.Family.Sizes.{area_bound}
 use Rattle.pictures.specs.Document.Calls.{most_decoded}
 use Rattle.grey.specs.Outcomes.{judged_in, unless_over, judged_out, Fits, Printing}
 

@@ -13,7 +13,8 @@ use native.Mathlib.Numerals.{add-one}
 use lib.Seq.{sets, take-suc, length-take-le, get_or-set_same, get_or-set_other}
 use lib.IntN.{ℤ}
 use Rattle.pictures.specs.Document.Calls.{clip, outside, clipped_in}
-use Rattle.pictures.specs.Laws.Tones.{bias, toned, sub_below, sub_least}
+use Rattle.pictures.specs.Laws.Tones.{bias, toned}
+use Rattle.pictures.proofs.Laws.Tones.{sub_below, sub_least}
 use Rattle.grey.specs.Pixels.{counted, numbers_in}
 
 module _ (t : ℕ) where

@@ -18,18 +18,19 @@ use Rattle.rules.specs.declared.Verdict.TheVariants.{Accepted, Refused}
 use Rattle.rules.specs.Document.Notation.{zeros}
 use Rattle.rules.specs.Document.Pyramid.{legal_size, area, row, column}
 use Rattle.rules.specs.Document.Calls.{Result, refused, accepted, unless, filled}
-use Rattle.rules.specs.Laws.Family.Sizes.{legal}
+use Rattle.rules.proofs.Laws.Family.Sizes.{legal}
 use Rattle.rules.specs.Promises.Vocabulary.{Legal}
-use Rattle.rules.specs.Laws.Rounding.Planes.{under_first}
-use Rattle.rules.specs.Laws.Bytes.Output.{clipped, clipped_nothing, clipped_append, clipped_fits}
-use Rattle.rules.specs.Laws.Offspring.Level.{column_lt, row_lt}
-use Rattle.rules.specs.Laws.Offspring.Block.{index_place}
+use Rattle.rules.proofs.Laws.Rounding.Planes.{under_first}
+use Rattle.rules.specs.Laws.Bytes.Output.{clipped}
+use Rattle.rules.proofs.Laws.Bytes.Output.{clipped_nothing, clipped_append, clipped_fits}
+use Rattle.rules.proofs.Laws.Offspring.Level.{column_lt, row_lt}
+use Rattle.rules.proofs.Laws.Offspring.Block.{index_place}
 use Rattle.pictures.specs.declared.GreyWritten.{GreyWritten}
 use Rattle.pictures.specs.Document.Lifting.{Grid, back, grid_of, picture_of}
 use Rattle.pictures.specs.Document.Netpbm.{grey_lines, grey_file}
 use Rattle.pictures.specs.Document.Calls.{clip, clipped_in, most_decoded, GreyPrint, print_of, printed, grey_out, grey_out_out, grey_out_answer, GreyOut}
 use Rattle.pictures.specs.Laws.Tones.{toned}
-use Rattle.pictures.specs.Laws.Grids.{list_at, picture_length}
+use Rattle.pictures.proofs.Laws.Grids.{list_at, picture_length}
 use Rattle.lifting.specs.Pictures.{TonesOf, NumbersOf, Joining}
 use Rattle.grey.specs.Pixels.{numbers_in}
 use Rattle.grey.specs.Outcomes.{judged_out, RefusedOut, Fits, Printing, PixelsPrinted, Prints}

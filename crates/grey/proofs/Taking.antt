@@ -17,18 +17,19 @@ use Rattle.rules.specs.declared.Verdict.{Verdict}
 use Rattle.rules.specs.declared.Verdict.TheVariants.{Accepted, Refused}
 use Rattle.rules.specs.Document.Pyramid.{legal_size, area, row, column}
 use Rattle.rules.specs.Document.Calls.{Result, refused, accepted}
-use Rattle.rules.specs.Laws.Family.Sizes.{legal}
+use Rattle.rules.proofs.Laws.Family.Sizes.{legal}
 use Rattle.rules.specs.Promises.Vocabulary.{Legal}
-use Rattle.rules.specs.Laws.Offspring.Level.{column_lt, row_lt}
-use Rattle.rules.specs.Laws.Offspring.Block.{index_place}
+use Rattle.rules.proofs.Laws.Offspring.Level.{column_lt, row_lt}
+use Rattle.rules.proofs.Laws.Offspring.Block.{index_place}
 use Rattle.pictures.specs.declared.Grey.{Grey}
 use Rattle.pictures.specs.declared.Grey.TheVariants.{Picture, NotGrey}
 use Rattle.pictures.specs.declared.GreyRead.{GreyRead}
 use Rattle.pictures.specs.Document.Lifting.{Grid, forward, grey_of, pyramid_of}
 use Rattle.pictures.specs.Document.Netpbm.{GreyHeader, not_grey, picture, pixels_there, taken, read_grey, read_file, greatest_told, told}
 use Rattle.pictures.specs.Document.Calls.{GreyPyramid, on_picture, lifted, grey_in, grey_in_out, grey_in_answer, GreyIn, grey_size, GreySize}
-use Rattle.pictures.specs.Laws.Tones.{bias, toned, sub_least}
-use Rattle.pictures.specs.Laws.Grids.{list_at, pyramid_length}
+use Rattle.pictures.specs.Laws.Tones.{bias, toned}
+use Rattle.pictures.proofs.Laws.Tones.{sub_least}
+use Rattle.pictures.proofs.Laws.Grids.{list_at, pyramid_length}
 use Rattle.netpbm.specs.Told.{Tells, no_header_lem, too_short, all_there}
 use Rattle.lifting.specs.Pictures.{TonesOf, NumbersOf, Splitting}
 use Rattle.grey.specs.Pixels.{Loaded}

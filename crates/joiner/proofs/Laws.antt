@@ -26,26 +26,32 @@ use Rattle.rules.specs.Document.Passes.{PartName, parts_of_plane, part_names}
 use Rattle.rules.specs.Document.Layout.{whole_of, name_of, same_name}
 use Rattle.rules.specs.Document.Numbers.{top_level, Reading, read_part}
 use Rattle.rules.specs.Document.Calls.{Result, refused, accepted, unless, on_header, on_ending, fitted, code_out, code_answer}
-use Rattle.rules.specs.Laws.Counting.Sums.{All, all_then, flat_same, map_all}
+use Rattle.rules.specs.Laws.Counting.Sums.{All}
+use Rattle.rules.proofs.Laws.Counting.Sums.{all_then, flat_same, map_all}
 use Rattle.rules.specs.Promises.Vocabulary.{at}
-use Rattle.rules.specs.Laws.Reading.Parts.{After, InOrder, same_name_lem, name_same, order_after}
-use Rattle.rules.specs.Laws.Counting.Booleans.{not_test}
-use Rattle.rules.specs.Laws.Family.Sizes.{legal}
-use Rattle.rules.specs.Laws.Reading.Stands.{read_header_stands, header_legal, read_part_stands}
-use Rattle.rules.specs.Laws.Reading.Walk.{parts_from, read_parts_from, parts_from_part, parts_from_tail, parts_from_cut, parts_from_fault}
-use Rattle.rules.specs.Laws.Serving.Selection.{whole_length}
-use Rattle.rules.specs.Laws.Bytes.Output.{clipped, clipped_nothing, clipped_length, clipped_append, clipped_fits}
+use Rattle.rules.specs.Laws.Reading.Parts.{After, InOrder}
+use Rattle.rules.proofs.Laws.Reading.Parts.{same_name_lem, name_same, order_after}
+use Rattle.rules.proofs.Laws.Counting.Booleans.{not_test}
+use Rattle.rules.proofs.Laws.Family.Sizes.{legal}
+use Rattle.rules.proofs.Laws.Reading.Stands.{read_header_stands, header_legal, read_part_stands}
+use Rattle.rules.specs.Laws.Reading.Walk.{parts_from}
+use Rattle.rules.proofs.Laws.Reading.Walk.{read_parts_from, parts_from_part, parts_from_tail, parts_from_cut, parts_from_fault}
+use Rattle.rules.proofs.Laws.Serving.Selection.{whole_length}
+use Rattle.rules.specs.Laws.Bytes.Output.{clipped}
+use Rattle.rules.proofs.Laws.Bytes.Output.{clipped_nothing, clipped_length, clipped_append, clipped_fits}
 use Rattle.rules.specs.declared.Plane.{Plane}
 use Rattle.rules.specs.declared.Level.{Level}
 use Rattle.record.specs.Named.{name_by, named}
 use Rattle.joins.specs.Document.Joining.{same_bytes, part_named, or_else, joined_part, joined_bytes, clashes, unless_clash, on_record, joining, Joining}
-use Rattle.joins.specs.Laws.ByName.{Among, none, this, other, after_other, among_all, named_none, all_names, first, all_in_order, parts_among}
-use Rattle.joins.specs.Laws.Gathered.{or_first}
-use Rattle.joins.specs.Laws.Joined.{Readable, readable_within, Agrees, agrees_clear, same_bytes_lem, bytes_same, same_header, on_record_readable, joining_read}
-use Rattle.joins.specs.Laws.JoinRefusals.{clash_behind}
+use Rattle.joins.specs.Laws.ByName.{Among, none, this, other, all_names, first}
+use Rattle.joins.proofs.Laws.ByName.{after_other, among_all, named_none, all_in_order, parts_among}
+use Rattle.joins.proofs.Laws.Gathered.{or_first}
+use Rattle.joins.specs.Laws.Joined.{Agrees}
+use Rattle.joins.proofs.Laws.Joined.{Readable, readable_within, agrees_clear, same_bytes_lem, bytes_same, same_header, on_record_readable, joining_read}
+use Rattle.joins.proofs.Laws.JoinRefusals.{clash_behind}
 use Rattle.survey.specs.declared.Survey.{Survey}
 use Rattle.survey.specs.Surveyed.{survey_of}
-use Rattle.survey.specs.AsServing.{survey_of_case}
+use Rattle.survey.proofs.AsServing.{survey_of_case}
 use Rattle.record.specs.declared.walk.Cursor.{Cursor}
 use Rattle.record.specs.Walk.{first_of, next_of, past_of}
 use Rattle.joiner.specs.declared.Offer.{Offer}

@@ -6,7 +6,7 @@ use native.Mathlib.Omega.{arith}
 use native.Mathlib.Decide.{ℕ_discrete}
 use lib.ListN.{length, get_or}
 use lib.Seq.{get_or-set_same, get_or-set_other}
-use Rattle.trees.specs.Measure.{four_same}
+use Rattle.trees.proofs.Measure.{four_same}
 use Rattle.stretches.specs.Cut.{maxima_from, maxima_in, maxima_length, largest_d, largest_l, MaximumSet}
 use Rattle.largest.specs.Blocks.{word_measure, near, far, four, Apart, SomeD, SomeL}
 

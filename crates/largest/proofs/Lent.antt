@@ -10,8 +10,10 @@ use borrow.Rule.Slice.PartMut.{mid_of, put_mid, mid_len, same_len_mid}
 use Rattle.rules.specs.declared.Size.{Size}
 use Rattle.rules.specs.Document.Calls.{work_for}
 use Rattle.rules.specs.Promises.Vocabulary.{Legal}
-use Rattle.rules.specs.Laws.Family.Sizes.{legal, span, level_start, level_end, level_size, level_size_fine, level_start_fine, span_quarter}
-use Rattle.trees.specs.Measure.{four_most, four_same}
+use Rattle.rules.specs.Laws.Family.Sizes.{span, level_start, level_end, level_size}
+use Rattle.rules.proofs.Laws.Family.Sizes.{legal, level_size_fine, level_start_fine, span_quarter}
+use Rattle.trees.specs.Measure.{four_most}
+use Rattle.trees.proofs.Measure.{four_same}
 use Rattle.stretches.specs.Seg.{seg, seg_at, seg_seg}
 use Rattle.stretches.specs.Cut.{maxima_from, maxima_in, stretch_of, largest_d, largest_l}
 use Rattle.stretches.specs.Workspace.{word_in, maximum_in}

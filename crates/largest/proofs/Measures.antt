@@ -6,7 +6,7 @@ use native.Mathlib.Nat.{pow-suc}
 use native.Mathlib.Decide.{dec_le}
 use lib.Pow.{pow_mono}
 use Rattle.rules.specs.Document.Pyramid.{planes_of}
-use Rattle.rules.specs.Laws.Rounding.Planes.{planes_of_counts}
+use Rattle.rules.proofs.Laws.Rounding.Planes.{planes_of_counts}
 use Rattle.coefficients.specs.Words.{magnitude_word}
 use Rattle.largest.specs.Blocks.{word_measure}
 

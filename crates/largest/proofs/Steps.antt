@@ -11,9 +11,12 @@ use Rattle.rules.specs.Document.Pyramid.{levels, area}
 use Rattle.rules.specs.Document.Notation.{greatest}
 use Rattle.rules.specs.Document.Passes.{typeA, typeB, members}
 use Rattle.rules.specs.Promises.Vocabulary.{Legal}
-use Rattle.rules.specs.Laws.Family.Sizes.{legal, span, level_start, level_size, span_whole}
-use Rattle.trees.specs.Family.{trees, tree_level, span_falls}
-use Rattle.trees.specs.Measure.{four_most, four_same, largest_d_four, largest_l_four, largest_l_none}
+use Rattle.rules.specs.Laws.Family.Sizes.{span, level_start, level_size}
+use Rattle.rules.proofs.Laws.Family.Sizes.{legal, span_whole}
+use Rattle.trees.specs.Family.{trees, tree_level}
+use Rattle.trees.proofs.Family.{span_falls}
+use Rattle.trees.specs.Measure.{four_most}
+use Rattle.trees.proofs.Measure.{four_same, largest_d_four, largest_l_four, largest_l_none}
 use Rattle.stretches.specs.Cut.{maxima_from, largest_d, largest_l}
 use Rattle.stretches.specs.Workspace.{word_in, maximum_in}
 use Rattle.stretches.specs.Levels.{words_from, blocks_from, level_before, numbered, word_numbered, maximum_place}

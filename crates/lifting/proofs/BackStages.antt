@@ -13,13 +13,16 @@ use lib.ListN.{length, get_or}
 use lib.Pow.{shr_le}
 use Rattle.rules.specs.declared.Size.{Size}
 use Rattle.rules.specs.Document.Pyramid.{magnitude}
-use Rattle.rules.specs.Laws.Family.Sizes.{legal, side_some, side_falls}
+use Rattle.rules.proofs.Laws.Family.Sizes.{legal, side_some, side_falls}
 use Rattle.rules.specs.Promises.Vocabulary.{Legal}
 use Rattle.pictures.specs.Document.Lifting.{Line, Grid, even, odd, joined, turn_back}
-use Rattle.pictures.specs.Laws.Tones.{bias, toned, sub_below, sub_least, toned_even, toned_odd}
-use Rattle.pictures.specs.Laws.Turns.{Most, turn_back_outside, returned, returned_next, returned_back}
-use Rattle.pictures.specs.Laws.Grids.{turn_back_at}
-use Rattle.pictures.specs.Laws.Room.{shallow, most_back, room_back}
+use Rattle.pictures.specs.Laws.Tones.{bias, toned}
+use Rattle.pictures.proofs.Laws.Tones.{sub_below, sub_least, toned_even, toned_odd}
+use Rattle.pictures.specs.Laws.Turns.{Most, returned}
+use Rattle.pictures.proofs.Laws.Turns.{turn_back_outside, returned_next, returned_back}
+use Rattle.pictures.proofs.Laws.Grids.{turn_back_at}
+use Rattle.pictures.specs.Laws.Room.{shallow, most_back}
+use Rattle.pictures.proofs.Laws.Room.{room_back}
 use Rattle.lifting.specs.declared.Turn.{Turn}
 use Rattle.lifting.specs.Lines.{reach, line, Near}
 use Rattle.lifting.specs.Turns.{turn_at}

@@ -7,7 +7,8 @@ use lib.IntN.{ℤ, pos, negsuc, nat_abs, ◌+ℤ◌, ◌-ℤ◌}
 use mir.Syntax.{w32}
 use mir.Val.{SFits, to_z, of_z}
 use mir.ValLaws.{to_z-of_z, to_z_pos}
-use Rattle.pictures.specs.Laws.Tones.{bias, toned, sub_below, sub_least}
+use Rattle.pictures.specs.Laws.Tones.{bias, toned}
+use Rattle.pictures.proofs.Laws.Tones.{sub_below, sub_least}
 use Rattle.pictures.specs.Laws.Room.{most_back}
 use Rattle.lifting.specs.Joins.{tone_of}
 

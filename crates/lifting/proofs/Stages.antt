@@ -15,14 +15,16 @@ use lib.Pow.{shr_le}
 use borrow.Author.Tests.{lt-ltb, le-ltb}
 use Rattle.rules.specs.declared.Size.{Size}
 use Rattle.rules.specs.Document.Pyramid.{area, most_decompositions}
-use Rattle.rules.specs.Laws.Family.Sizes.{legal, side_some}
+use Rattle.rules.proofs.Laws.Family.Sizes.{legal, side_some}
 use Rattle.rules.specs.Promises.Vocabulary.{Legal}
 use Rattle.pictures.specs.Document.Lifting.{Line, Grid, high, low, split, columns_split, turn, forward}
-use Rattle.pictures.specs.Laws.Tones.{bias, toned, sub_below, sub_least, toned_high, toned_low}
-use Rattle.pictures.specs.Laws.Reversible.{by_block, rows_outside, columns_outside}
+use Rattle.pictures.specs.Laws.Tones.{bias, toned}
+use Rattle.pictures.proofs.Laws.Tones.{sub_below, sub_least, toned_high, toned_low}
+use Rattle.pictures.proofs.Laws.Reversible.{by_block, rows_outside, columns_outside}
 use Rattle.pictures.specs.Laws.Turns.{Most, most_pixel}
-use Rattle.pictures.specs.Laws.Grids.{turn_at}
-use Rattle.pictures.specs.Laws.Room.{shallow, room_in}
+use Rattle.pictures.proofs.Laws.Grids.{turn_at}
+use Rattle.pictures.specs.Laws.Room.{shallow}
+use Rattle.pictures.proofs.Laws.Room.{room_in}
 use Rattle.lifting.specs.declared.Turn.{Turn}
 use Rattle.lifting.specs.Lines.{reach, Near, high_t, low_t, split_t}
 use Rattle.lifting.specs.Rows.{Room}

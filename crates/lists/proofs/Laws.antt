@@ -13,7 +13,7 @@ use lib.ListN.{length, get_or, set, take, drop, length-set, length-append}
 use lib.Seq.{get_or-set_same, get_or-set_other, take_at, drop_at}
 use Rattle.rules.specs.Document.Pyramid.{planes_of}
 use Rattle.rules.specs.Document.Passes.{Entry, typeA, typeB}
-use Rattle.rules.specs.Laws.Rounding.Planes.{planes_of_counts}
+use Rattle.rules.proofs.Laws.Rounding.Planes.{planes_of_counts}
 use Rattle.stretches.specs.Seg.{seg, seg-cons, seg_below, seg_above, seg_snoc}
 use Rattle.stretches.specs.Cut.{set_room, lip_from, lsp_from, lis_from, maxima_from, values_in, values_at}
 use Rattle.lists.specs.declared.Role.TheVariants.{Reads}

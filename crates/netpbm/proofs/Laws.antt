@@ -11,14 +11,14 @@ use lib.Dec.{leb, eqb}
 use lib.ListN.{length, get_or, drop, drop_of_length-le, get_or-eq_default}
 use lib.Seq.{drop-cons, drop-drop}
 use borrow.Author.Tests.{leb-true, leb-false, le-leb, lt-leb, eq-eqb, ne_eqb}
-use Rattle.rules.specs.Laws.Counting.Booleans.{clash, both_left, both_right, same_test}
+use Rattle.rules.proofs.Laws.Counting.Booleans.{clash, both_left, both_right, same_test}
 use Rattle.pictures.specs.declared.Grey.{Grey}
 use Rattle.pictures.specs.declared.Grey.TheVariants.{Picture, NotGrey}
 use Rattle.pictures.specs.Document.Netpbm.{line_end, blank, hash, gap_byte, digit, begins, after_comment, after_blanks, after_gap, number, GreyHeader, no_header}
 use Rattle.pictures.specs.Document.Netpbm.{header, is_p5, on_magic, on_number, last_blank, on_end, greatest_pixel, read_grey, greatest_told, told}
 use Rattle.pictures.specs.Laws.GreyCauses.{no_more}
 use Rattle.pictures.specs.Laws.GreyCauses.Gap.{a_blank}
-use Rattle.pictures.specs.Laws.GreyCases.{end_blank, gap_passed}
+use Rattle.pictures.proofs.Laws.GreyCases.{end_blank, gap_passed}
 use Rattle.netpbm.specs.declared.Digits.{Digits}
 use Rattle.netpbm.specs.declared.Field.{Field}
 use Rattle.netpbm.specs.declared.Field.TheVariants.{Number, Missing}

@@ -12,7 +12,7 @@ use Rattle.rules.specs.declared.Size.{Size}
 use Rattle.memory.specs.Stores.{sets_append}
 use Rattle.pictures.specs.Document.Netpbm.{decimal, grey_lines}
 use Rattle.netpbm.specs.Wrote.{Wrote, width_line, side_lines}
-use Rattle.pictures.specs.Laws.GreyFiles.{decimal_last, decimal_next}
+use Rattle.pictures.proofs.Laws.GreyFiles.{decimal_last, decimal_next}
 
 decimal_longer : (v : ℕ) → 10 ≤ v → length (decimal v) ≡ length (decimal (v / 10)) + 1
 decimal_longer v l = ap length (decimal_next v l) ∙ length-append (decimal (v / 10)) ((48 + v % 10) ∷ [])

@@ -9,8 +9,9 @@ use lib.Seq.{sets}
 use lib.Pow.{pow_mono, pow-add}
 use Rattle.rules.specs.declared.Number.TheVariants.{TooManyBytes, CutOff}
 use Rattle.rules.specs.Document.Layout.{groups, number_bytes, number_from, read_number}
-use Rattle.rules.specs.Laws.Bytes.Numbers.{too_large, groups_last, groups_next, number_bytes_last, number_bytes_next, number_bytes_length}
-use Rattle.rules.specs.Laws.Bytes.Numbers.{number_from_cut, number_from_last, number_from_next}
+use Rattle.rules.specs.Laws.Bytes.Numbers.{too_large}
+use Rattle.rules.proofs.Laws.Bytes.Numbers.{groups_last, groups_next, number_bytes_last, number_bytes_next, number_bytes_length}
+use Rattle.rules.proofs.Laws.Bytes.Numbers.{number_from_cut, number_from_last, number_from_next}
 use Rattle.numbers.specs.LastByte.{last_byte}
 
 -- What is left to read of a number that began at `at`: up to `left` bytes, the next one at `place`.

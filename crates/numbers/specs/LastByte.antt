@@ -3,7 +3,7 @@ use Rattle.std.specs.Prelude.{◌≡◌, refl, cond, ◌&&◌, ℕ, ◌+◌, ◌
 use Rattle.std.proofs.Common.{lt-ltb, eq-eqb}
 use Rattle.rules.specs.declared.Number.{Number}
 use Rattle.rules.specs.declared.Number.TheVariants.{Value, LongForm}
-use Rattle.rules.specs.Laws.Bytes.Numbers.{shortest_form}
+use Rattle.rules.proofs.Laws.Bytes.Numbers.{shortest_form}
 
 -- Of several bytes the last may not be 0.
 abbrev pub last_byte : ℕ → ℕ → ℕ → ℕ → Number

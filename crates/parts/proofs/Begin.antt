@@ -19,19 +19,24 @@ use Rattle.rules.specs.Document.Notation.{flat, if_any}
 use Rattle.rules.specs.Document.Pyramid.{greatest_side, legal_size, area, levels, level_of, odd, block, offspring_of}
 use Rattle.rules.specs.Document.Passes.{Entry, typeA, Lists, from, rows, band_ll}
 use Rattle.rules.specs.Document.Calls.{level_places, work_for}
-use Rattle.rules.specs.Laws.Counting.Sums.{All, every_all, if_any_some, flat_append}
-use Rattle.rules.specs.Laws.Family.Sizes.{legal, area_bound, span_most, level_start, level_start_top, level_size, level_size_top}
-use Rattle.rules.specs.Laws.Offspring.Block.{row_index, column_index, block_ll, offspring_band}
-use Rattle.rules.specs.Laws.Offspring.Level.{level_area}
-use Rattle.rules.specs.Laws.Offspring.Once.{band_level}
-use Rattle.rules.specs.Laws.Offspring.Start.{band_length}
-use Rattle.rules.specs.Laws.Pass.Slots.{room_slots}
+use Rattle.rules.specs.Laws.Counting.Sums.{All}
+use Rattle.rules.proofs.Laws.Counting.Sums.{every_all, if_any_some, flat_append}
+use Rattle.rules.specs.Laws.Family.Sizes.{level_start, level_size}
+use Rattle.rules.proofs.Laws.Family.Sizes.{legal, area_bound, span_most, level_start_top, level_size_top}
+use Rattle.rules.specs.Laws.Offspring.Block.{block_ll}
+use Rattle.rules.proofs.Laws.Offspring.Block.{row_index, column_index, offspring_band}
+use Rattle.rules.proofs.Laws.Offspring.Level.{level_area}
+use Rattle.rules.proofs.Laws.Offspring.Once.{band_level}
+use Rattle.rules.proofs.Laws.Offspring.Start.{band_length}
+use Rattle.rules.proofs.Laws.Pass.Slots.{room_slots}
 use Rattle.rules.specs.Promises.Vocabulary.{Legal}
-use Rattle.trees.specs.Family.{tree_level, tree_offspring, coefficient_of, level_same, offspring_same}
-use Rattle.trees.specs.Lawful.{trees_lawful}
-use Rattle.trees.specs.Renamed.{map-append, map_length}
-use Rattle.trees.specs.Run.{number_of, tree_root, tree_start, coefficient_number}
-use Rattle.trees.specs.Sound.{tree_start_sound, tree_part_room, tree_level_area}
+use Rattle.trees.specs.Family.{tree_level, tree_offspring, coefficient_of}
+use Rattle.trees.proofs.Family.{level_same, offspring_same}
+use Rattle.trees.proofs.Lawful.{trees_lawful}
+use Rattle.trees.proofs.Renamed.{map-append, map_length}
+use Rattle.trees.specs.Run.{number_of, tree_root, tree_start}
+use Rattle.trees.proofs.Run.{coefficient_number}
+use Rattle.trees.proofs.Sound.{tree_start_sound, tree_part_room, tree_level_area}
 use Rattle.stretches.specs.Seg.{seg, seg_same}
 use Rattle.stretches.specs.Cut.{set_room, maxima_in, stretch_of}
 use Rattle.stretches.specs.Workspace.{word_in, maximum_in}

@@ -20,14 +20,17 @@ use Rattle.rules.specs.Document.Notation.{greatest}
 use Rattle.rules.specs.Document.Pyramid.{area, most_planes, magnitude, negative, below0}
 use Rattle.rules.specs.Document.Passes.{Entry, typeA, typeB, members, Question, significant?, negative?, bit?, set?, Course, State, truth}
 use Rattle.rules.specs.Document.Passes.{coder, coded}
-use Rattle.rules.specs.Laws.Family.Sizes.{span, level_start, level_size, level_size_fine, span_quarter}
+use Rattle.rules.specs.Laws.Family.Sizes.{span, level_start, level_size}
+use Rattle.rules.proofs.Laws.Family.Sizes.{level_size_fine, span_quarter}
 use Rattle.rules.specs.Laws.Pass.Levels.{Met}
 use Rattle.rules.specs.Promises.Vocabulary.{Legal}
 use Rattle.trees.specs.Family.{tree_level, trees, coefficient_of}
-use Rattle.trees.specs.Lawful.{trees_lawful}
-use Rattle.trees.specs.Measure.{kept_of, kept_set}
-use Rattle.trees.specs.Sound.{tree_level_area}
-use Rattle.trees.specs.Within.{QuestionOf, EventOf, Agreeing, Related, passed_related, after_related}
+use Rattle.trees.proofs.Lawful.{trees_lawful}
+use Rattle.trees.specs.Measure.{kept_of}
+use Rattle.trees.proofs.Measure.{kept_set}
+use Rattle.trees.proofs.Sound.{tree_level_area}
+use Rattle.trees.specs.Within.{QuestionOf, EventOf, Agreeing, Related}
+use Rattle.trees.proofs.Within.{passed_related, after_related}
 use Rattle.coefficients.specs.Words.{worded, magnitude_word, negative_word, magnitude_word_lem, negative_word_lem}
 use Rattle.stretches.specs.Cut.{values_in, largest_d, largest_l, stretch_of}
 use Rattle.stretches.specs.Workspace.{word_in, maximum_in, Maxima, Holds}

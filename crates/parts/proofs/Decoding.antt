@@ -22,9 +22,10 @@ use Rattle.rules.specs.Document.Layout.{bit_at}
 use Rattle.rules.specs.Laws.Family.Sizes.{level_start, level_size}
 use Rattle.rules.specs.Promises.Vocabulary.{Legal}
 use Rattle.trees.specs.Family.{tree_level, trees}
-use Rattle.trees.specs.Lawful.{trees_lawful}
-use Rattle.trees.specs.Sound.{tree_level_area}
-use Rattle.trees.specs.Within.{QuestionOf, EventOf, Agreeing, Related, passed_related, after_related}
+use Rattle.trees.proofs.Lawful.{trees_lawful}
+use Rattle.trees.proofs.Sound.{tree_level_area}
+use Rattle.trees.specs.Within.{QuestionOf, EventOf, Agreeing, Related}
+use Rattle.trees.proofs.Within.{passed_related, after_related}
 use Rattle.coefficients.specs.Words.{word_of, value_of, value_word, value_refined}
 use Rattle.stretches.specs.Cut.{values_in, stretch_of, values_length}
 use Rattle.stretches.specs.Workspace.{word_in, drawn_in, Words, drawn_length, drawn_at}

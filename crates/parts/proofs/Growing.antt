@@ -13,16 +13,21 @@ use borrow.Author.Tests.{lt-leb}
 use Rattle.rules.specs.declared.Size.{Size}
 use Rattle.rules.specs.Document.Pyramid.{Family, area, levels, most_planes}
 use Rattle.rules.specs.Document.Passes.{Entry, added, to_lsp, refined, Lists, State, listed, listing, passed}
-use Rattle.rules.specs.Laws.Counting.Sums.{sum, is, is_yes, sum_append, one_most, from_once}
-use Rattle.rules.specs.Laws.Family.Lawful.{Lawful, set_splits}
-use Rattle.rules.specs.Laws.Family.Sizes.{level_start, level_size, span_whole, span_some}
-use Rattle.rules.specs.Laws.Pass.Kept.{Kept, kept_pass}
+use Rattle.rules.specs.Laws.Counting.Sums.{sum, is}
+use Rattle.rules.proofs.Laws.Counting.Sums.{is_yes, sum_append, one_most, from_once}
+use Rattle.rules.specs.Laws.Family.Lawful.{Lawful}
+use Rattle.rules.proofs.Laws.Family.Lawful.{set_splits}
+use Rattle.rules.specs.Laws.Family.Sizes.{level_start, level_size}
+use Rattle.rules.proofs.Laws.Family.Sizes.{span_whole, span_some}
+use Rattle.rules.specs.Laws.Pass.Kept.{Kept}
+use Rattle.rules.proofs.Laws.Pass.Kept.{kept_pass}
 use Rattle.rules.specs.Laws.Pass.Lists.{set_weight, lists_weight}
 use Rattle.rules.specs.Laws.Pass.Steps.{sign_noted, bit_noted, begun}
-use Rattle.rules.specs.Laws.State.Weight.{weight_part}
+use Rattle.rules.proofs.Laws.State.Weight.{weight_part}
 use Rattle.rules.specs.Promises.Vocabulary.{Legal}
 use Rattle.trees.specs.Family.{trees, tree_level}
-use Rattle.trees.specs.Sound.{TreeSound, tree_level_area}
+use Rattle.trees.specs.Sound.{TreeSound}
+use Rattle.trees.proofs.Sound.{tree_level_area}
 use Rattle.stretches.specs.Cut.{values_in, stretch_of, values_length, values_at}
 use Rattle.stretches.specs.Workspace.{word_in, Words}
 use Rattle.stretches.specs.Levels.{place_level, level_place, word_in_lem}

@@ -15,8 +15,9 @@ use Rattle.bits.specs.declared.BitPosition.{BitPosition}
 use Rattle.rules.specs.Document.Pyramid.{levels}
 use Rattle.rules.specs.Document.Passes.{State, Side, Course, own, handed, after}
 use Rattle.rules.specs.Document.Calls.{level_places, work_for}
-use Rattle.rules.specs.Laws.Family.Sizes.{legal, area_bound, level_start, level_size}
-use Rattle.rules.specs.Laws.State.Weight.{after_own, after_next, after_other}
+use Rattle.rules.specs.Laws.Family.Sizes.{level_start, level_size}
+use Rattle.rules.proofs.Laws.Family.Sizes.{legal, area_bound}
+use Rattle.rules.proofs.Laws.State.Weight.{after_own, after_next, after_other}
 use Rattle.rules.specs.Promises.Vocabulary.{Legal}
 use Rattle.stretches.specs.Seg.{seg, seg_same, seg_seg}
 use Rattle.stretches.specs.Cut.{set_room, lip_from, lis_from, maxima_from, values_in, maxima_in, stretch_of, maxima_at}

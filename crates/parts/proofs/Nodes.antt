@@ -7,13 +7,16 @@ use native.Mathlib.Decide.{dec_le}
 use Rattle.rules.specs.declared.Size.{Size}
 use Rattle.rules.specs.Document.Pyramid.{levels}
 use Rattle.rules.specs.Document.Passes.{Entry, typeA, typeB, in_level, opened}
-use Rattle.rules.specs.Laws.Counting.Sums.{◌∈◌, all_every, some_in}
+use Rattle.rules.specs.Laws.Counting.Sums.{◌∈◌}
+use Rattle.rules.proofs.Laws.Counting.Sums.{all_every, some_in}
 use Rattle.rules.specs.Laws.Family.Sizes.{span}
-use Rattle.rules.specs.Laws.Pass.Levels.{Met, Settled, met_settled, node_of, settled_offspring, opened_placed, type_a_met}
+use Rattle.rules.specs.Laws.Pass.Levels.{Met, Settled, node_of}
+use Rattle.rules.proofs.Laws.Pass.Levels.{met_settled, settled_offspring, opened_placed, type_a_met}
 use Rattle.rules.specs.Promises.Vocabulary.{Legal}
-use Rattle.trees.specs.Family.{tree_level, tree_offspring, trees, Lies, lies}
-use Rattle.trees.specs.Lawful.{trees_lawful, tree_offspring_level}
-use Rattle.trees.specs.Sound.{tree_node, tree_level_most}
+use Rattle.trees.specs.Family.{tree_level, tree_offspring, trees}
+use Rattle.trees.proofs.Family.{Lies, lies}
+use Rattle.trees.proofs.Lawful.{trees_lawful, tree_offspring_level}
+use Rattle.trees.proofs.Sound.{tree_node, tree_level_most}
 
 -- Where the node of a set stands that is in its place in level k.
 module _ (z : Size) (Z : Legal z) where

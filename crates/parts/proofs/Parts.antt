@@ -16,14 +16,18 @@ use Rattle.rules.specs.declared.Level.{Level}
 use Rattle.bits.specs.declared.BitPosition.{BitPosition}
 use Rattle.rules.specs.Document.Pyramid.{levels}
 use Rattle.rules.specs.Document.Passes.{Entry, typeA, typeB, in_level, State, Side, passed}
-use Rattle.rules.specs.Laws.Counting.Sums.{sum, is, All, all_then}
-use Rattle.rules.specs.Laws.Family.Sizes.{legal, area_bound, level_start, level_size}
-use Rattle.rules.specs.Laws.Pass.Levels.{Settled, Placed, passed_level1}
-use Rattle.rules.specs.Laws.Pass.Slots.{Room, room_slots}
+use Rattle.rules.specs.Laws.Counting.Sums.{sum, is, All}
+use Rattle.rules.proofs.Laws.Counting.Sums.{all_then}
+use Rattle.rules.specs.Laws.Family.Sizes.{level_start, level_size}
+use Rattle.rules.proofs.Laws.Family.Sizes.{legal, area_bound}
+use Rattle.rules.specs.Laws.Pass.Levels.{Settled, Placed}
+use Rattle.rules.proofs.Laws.Pass.Levels.{passed_level1}
+use Rattle.rules.specs.Laws.Pass.Slots.{Room}
+use Rattle.rules.proofs.Laws.Pass.Slots.{room_slots}
 use Rattle.rules.specs.Promises.Vocabulary.{Legal}
 use Rattle.trees.specs.Family.{trees}
-use Rattle.trees.specs.Lawful.{trees_lawful}
-use Rattle.trees.specs.Sound.{tree_part_room, tree_moved_room}
+use Rattle.trees.proofs.Lawful.{trees_lawful}
+use Rattle.trees.proofs.Sound.{tree_part_room, tree_moved_room}
 use Rattle.stretches.specs.Seg.{seg_at}
 use Rattle.stretches.specs.Cut.{set_room, lip_from, lis_from, maxima_from, values_in, maxima_in, stretch_of}
 use Rattle.stretches.specs.Levels.{size_some, stretch_room, next_start, stretch_length}

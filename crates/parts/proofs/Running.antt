@@ -14,7 +14,8 @@ use Rattle.bits.specs.declared.BitPosition.{BitPosition}
 use Rattle.rules.specs.Document.Pyramid.{legal_size, levels}
 use Rattle.rules.specs.Document.Numbers.{most_bits}
 use Rattle.rules.specs.Document.Calls.{level_places}
-use Rattle.rules.specs.Laws.Family.Sizes.{legal, area_bound, span, level_start, level_size}
+use Rattle.rules.specs.Laws.Family.Sizes.{span, level_start, level_size}
+use Rattle.rules.proofs.Laws.Family.Sizes.{legal, area_bound}
 use Rattle.stretches.specs.Cut.{lis_from}
 use Rattle.lists.specs.declared.Stretch.{Stretch}
 use Rattle.lists.specs.declared.Fill.{Fill}

@@ -14,7 +14,7 @@ use Rattle.rules.specs.declared.Size.{Size}
 use Rattle.rules.specs.Document.Pyramid.{levels}
 use Rattle.rules.specs.Document.Calls.{level_places}
 use Rattle.rules.specs.Document.Passes.{Lists}
-use Rattle.trees.specs.Renamed.{map-append}
+use Rattle.trees.proofs.Renamed.{map-append}
 use Rattle.stretches.specs.Seg.{seg, seg_add}
 use Rattle.stretches.specs.Cut.{lip_from, lsp_from, lis_from}
 use Rattle.lists.specs.declared.Fill.{Fill}

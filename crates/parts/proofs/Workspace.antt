@@ -11,7 +11,8 @@ use borrow.Rule.Slice.PartMut.{mid_of, put_mid, same_len_mid, mid_len}
 use Rattle.rules.specs.declared.Size.{Size}
 use Rattle.rules.specs.Document.Pyramid.{legal_size, levels}
 use Rattle.rules.specs.Document.Calls.{work_for}
-use Rattle.rules.specs.Laws.Family.Sizes.{legal, level_start, level_size}
+use Rattle.rules.specs.Laws.Family.Sizes.{level_start, level_size}
+use Rattle.rules.proofs.Laws.Family.Sizes.{legal}
 use Rattle.rules.specs.Promises.Vocabulary.{Legal}
 use Rattle.stretches.specs.Seg.{seg, seg_at, seg_seg, seg_length}
 use Rattle.stretches.specs.Cut.{maxima_from, stretch_of}

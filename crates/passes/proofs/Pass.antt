@@ -9,13 +9,15 @@ use lib.ListN.{length, get_or}
 use lib.Pow.{pow_mono}
 use Rattle.rules.specs.Document.Pyramid.{Family}
 use Rattle.rules.specs.Document.Passes.{Lists, Side, Course, listing}
-use Rattle.rules.specs.Laws.Counting.Sums.{All, all_then}
+use Rattle.rules.specs.Laws.Counting.Sums.{All}
+use Rattle.rules.proofs.Laws.Counting.Sums.{all_then}
 use Rattle.rules.specs.Laws.Family.Lawful.{Lawful}
-use Rattle.rules.specs.Laws.Family.Sizes.{legal}
-use Rattle.rules.specs.Laws.Pass.Kept.{kept_tried_all, kept_visited_all}
-use Rattle.rules.specs.Laws.Pass.Steps.{tried_all, visited_all, visited_all_none, sharpened_all, begun, passed_steps, sharpened_lists}
-use Rattle.rules.specs.Laws.Pass.Slots.{room_tests, room_held, room_slots}
-use Rattle.trees.specs.Lawful.{trees_lawful}
+use Rattle.rules.proofs.Laws.Family.Sizes.{legal}
+use Rattle.rules.proofs.Laws.Pass.Kept.{kept_tried_all, kept_visited_all}
+use Rattle.rules.specs.Laws.Pass.Steps.{tried_all, visited_all, sharpened_all, begun}
+use Rattle.rules.proofs.Laws.Pass.Steps.{visited_all_none, passed_steps, sharpened_lists}
+use Rattle.rules.proofs.Laws.Pass.Slots.{room_tests, room_held, room_slots}
+use Rattle.trees.proofs.Lawful.{trees_lawful}
 use Rattle.bits.specs.declared.BitPosition.{BitPosition}
 use Rattle.stretches.specs.Seg.{seg, seg_same}
 use Rattle.stretches.specs.Cut.{values_in, lip_from, lsp_from, lis_from}

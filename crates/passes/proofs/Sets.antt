@@ -12,16 +12,21 @@ use lib.ListN.{length, length-append}
 use borrow.Author.Tests.{le-ltb, le-leb, lt-leb}
 use Rattle.rules.specs.Document.Pyramid.{Family}
 use Rattle.rules.specs.Document.Passes.{Entry, typeA, typeB, set?, stays, opened, added, Side, Course, listed, listing, done}
-use Rattle.rules.specs.Laws.Counting.Sums.{All, all_then}
+use Rattle.rules.specs.Laws.Counting.Sums.{All}
+use Rattle.rules.proofs.Laws.Counting.Sums.{all_then}
 use Rattle.rules.specs.Laws.Family.Lawful.{Lawful}
-use Rattle.rules.specs.Laws.Family.Sizes.{legal, level_start, level_size}
+use Rattle.rules.specs.Laws.Family.Sizes.{level_start, level_size}
+use Rattle.rules.proofs.Laws.Family.Sizes.{legal}
 use Rattle.rules.specs.Promises.Vocabulary.{Legal}
-use Rattle.rules.specs.Laws.Pass.Levels.{Met, node_of, type_a_met, opened_placed}
-use Rattle.rules.specs.Laws.Pass.Steps.{tried_all, visited_all, walk_stays, walk_opens}
-use Rattle.rules.specs.Laws.Pass.Slots.{Room, room_past, room_open, room_tests, room_slots, room_held}
+use Rattle.rules.specs.Laws.Pass.Levels.{Met, node_of}
+use Rattle.rules.proofs.Laws.Pass.Levels.{type_a_met, opened_placed}
+use Rattle.rules.specs.Laws.Pass.Steps.{tried_all, visited_all}
+use Rattle.rules.proofs.Laws.Pass.Steps.{walk_stays, walk_opens}
+use Rattle.rules.specs.Laws.Pass.Slots.{Room}
+use Rattle.rules.proofs.Laws.Pass.Slots.{room_past, room_open, room_tests, room_slots, room_held}
 use Rattle.trees.specs.Family.{tree_level, tree_offspring}
-use Rattle.trees.specs.Lawful.{trees_lawful}
-use Rattle.trees.specs.Sound.{tree_level_most, tree_level_area}
+use Rattle.trees.proofs.Lawful.{trees_lawful}
+use Rattle.trees.proofs.Sound.{tree_level_most, tree_level_area}
 use Rattle.bits.specs.declared.BitRead.{BitRead}
 use Rattle.stretches.specs.Cut.{set_room, values_in}
 use Rattle.stretches.specs.Levels.{numbered}

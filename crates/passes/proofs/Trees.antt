@@ -11,17 +11,22 @@ use Rattle.rules.specs.declared.Size.{Size}
 use Rattle.rules.specs.Document.Notation.{if_any}
 use Rattle.rules.specs.Document.Pyramid.{family, level_of, offspring_of, legal_size}
 use Rattle.rules.specs.Document.Passes.{Entry, typeA, typeB, members, in_level, added}
-use Rattle.rules.specs.Laws.Counting.Sums.{◌∈◌, All, every_all, all_every, map_all, some_in, if_any_some}
-use Rattle.rules.specs.Laws.Family.Lawful.{Lawful, level_some, opened_level, grandchild, grandchild_in}
-use Rattle.rules.specs.Laws.Family.Sizes.{legal, span_whole, span_quarter, area_bound}
+use Rattle.rules.specs.Laws.Counting.Sums.{◌∈◌, All}
+use Rattle.rules.proofs.Laws.Counting.Sums.{every_all, all_every, map_all, some_in, if_any_some}
+use Rattle.rules.specs.Laws.Family.Lawful.{Lawful}
+use Rattle.rules.proofs.Laws.Family.Lawful.{level_some, opened_level, grandchild, grandchild_in}
+use Rattle.rules.proofs.Laws.Family.Sizes.{legal, span_whole, span_quarter, area_bound}
 use Rattle.rules.specs.Promises.Vocabulary.{Legal}
-use Rattle.rules.specs.Laws.Offspring.Kin.{offspring_level}
-use Rattle.rules.specs.Laws.Offspring.Sets.{in_level_b, members_b_some, members_b_none}
-use Rattle.rules.specs.Laws.Pass.Levels.{Met, node_of, met_settled, settled_offspring}
-use Rattle.trees.specs.Renamed.{name_entry, map_length, members_renamed, in_level_renamed}
-use Rattle.trees.specs.Family.{trees, tree_level, tree_offspring, coefficient_of, level_same, offspring_same, trees_rename, tree_offspring_some}
-use Rattle.trees.specs.Lawful.{trees_lawful}
-use Rattle.trees.specs.Sound.{tree_node}
+use Rattle.rules.proofs.Laws.Offspring.Kin.{offspring_level}
+use Rattle.rules.proofs.Laws.Offspring.Sets.{in_level_b, members_b_some, members_b_none}
+use Rattle.rules.specs.Laws.Pass.Levels.{Met, node_of}
+use Rattle.rules.proofs.Laws.Pass.Levels.{met_settled, settled_offspring}
+use Rattle.trees.specs.Renamed.{name_entry}
+use Rattle.trees.proofs.Renamed.{map_length, members_renamed, in_level_renamed}
+use Rattle.trees.specs.Family.{trees, tree_level, tree_offspring, coefficient_of}
+use Rattle.trees.proofs.Family.{level_same, offspring_same, trees_rename, tree_offspring_some}
+use Rattle.trees.proofs.Lawful.{trees_lawful}
+use Rattle.trees.proofs.Sound.{tree_node}
 use Rattle.lists.specs.Lists.{four_from}
 
 none_length : {X : Type 0} (xs : List X) → length xs ≡ 0 → xs ≡ []

@@ -10,11 +10,14 @@ use lib.ListN.{length, length-append}
 use Rattle.rules.specs.Document.Pyramid.{Family}
 use Rattle.rules.specs.Document.Passes.{Entry, moves, in_level, Side, Course, listed, listing, done}
 use Rattle.rules.specs.Laws.Family.Lawful.{Lawful}
-use Rattle.rules.specs.Laws.Family.Sizes.{legal}
-use Rattle.rules.specs.Laws.Pass.Kept.{Kept, kept_visited_all}
-use Rattle.rules.specs.Laws.Pass.Steps.{sign_noted, bit_noted, visited_all, walk_moves}
-use Rattle.rules.specs.Laws.Pass.Slots.{Room, room_past}
-use Rattle.trees.specs.Lawful.{trees_lawful}
+use Rattle.rules.proofs.Laws.Family.Sizes.{legal}
+use Rattle.rules.specs.Laws.Pass.Kept.{Kept}
+use Rattle.rules.proofs.Laws.Pass.Kept.{kept_visited_all}
+use Rattle.rules.specs.Laws.Pass.Steps.{sign_noted, bit_noted, visited_all}
+use Rattle.rules.proofs.Laws.Pass.Steps.{walk_moves}
+use Rattle.rules.specs.Laws.Pass.Slots.{Room}
+use Rattle.rules.proofs.Laws.Pass.Slots.{room_past}
+use Rattle.trees.proofs.Lawful.{trees_lawful}
 use Rattle.stretches.specs.Cut.{values_in}
 use Rattle.lists.specs.declared.Fill.{Fill}
 use Rattle.lists.specs.Lists.{held, past, Fits, NextSet, SetMoved, moved_length}

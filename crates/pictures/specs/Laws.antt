@@ -1,4 +1,4 @@
--- What follows from the definitions of Document.
+-- The words in which the laws of proofs/Laws are said.
 pub mod PictureCases
 pub mod Reversible
 pub mod Grids
@@ -9,9 +9,7 @@ pub mod Turns
 pub mod Range
 pub mod Behind
 pub mod GreyReturns
-pub mod GreyDetermined
 pub mod GreyCauses
-pub mod GreyCases
 pub mod GreyFiles
 pub mod GreyRefusals
 pub mod GreyMemory
@@ -23,4 +21,3 @@ pub mod NearBlocks
 pub mod Error
 pub mod Printed
 pub mod PixelNear
-pub mod DecodedPrints

@@ -12,13 +12,17 @@ use borrow.Author.Tests.{ne_eqb, lt-leb}
 use Rattle.rules.specs.declared.Size.{Size}
 use Rattle.rules.specs.Document.Pyramid.{legal_size, area, odd, index, row, column, levels, level_of}
 use Rattle.rules.specs.Promises.Vocabulary.{Legal}
-use Rattle.rules.specs.Laws.Family.Sizes.{span, legal}
-use Rattle.rules.specs.Laws.Offspring.Level.{level_area}
-use Rattle.rules.specs.Laws.Offspring.Block.{apart, row_index, column_index, half_rows, half_columns}
-use Rattle.rules.specs.Laws.Offspring.Kin.{rows_2, columns_2}
-use Rattle.trees.specs.Places.{tree_at, root_of_band, raster_of, band_width, in_band_lem}
+use Rattle.rules.specs.Laws.Family.Sizes.{span}
+use Rattle.rules.proofs.Laws.Family.Sizes.{legal}
+use Rattle.rules.proofs.Laws.Offspring.Level.{level_area}
+use Rattle.rules.specs.Laws.Offspring.Block.{apart, half_rows, half_columns}
+use Rattle.rules.proofs.Laws.Offspring.Block.{row_index, column_index}
+use Rattle.rules.proofs.Laws.Offspring.Kin.{rows_2, columns_2}
+use Rattle.trees.specs.Places.{tree_at, root_of_band, raster_of, band_width}
+use Rattle.trees.proofs.Places.{in_band_lem}
 use Rattle.trees.specs.Family.{coefficient_of}
-use Rattle.trees.specs.Run.{number_of, band_number, number_band, number_area, coefficient_number}
+use Rattle.trees.specs.Run.{number_of, band_number}
+use Rattle.trees.proofs.Run.{number_band, number_area, coefficient_number}
 use Rattle.placing.specs.Stores.{Apart}
 
 halved : (m i : ℕ) → i / 2 < m → ((i / 2 + i % 2 * m) / m ≡ i % 2) × ((i / 2 + i % 2 * m) % m ≡ i / 2)

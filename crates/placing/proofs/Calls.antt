@@ -12,7 +12,8 @@ use Rattle.rules.specs.declared.Size.{Size}
 use mathlib.Core.Bool.{true}
 use Rattle.rules.specs.Document.Pyramid.{legal_size, area, levels, index}
 use Rattle.rules.specs.Promises.Vocabulary.{Legal}
-use Rattle.rules.specs.Laws.Family.Sizes.{legal, span, level_start, level_size, level_size_top, level_size_fine, span_quarter}
+use Rattle.rules.specs.Laws.Family.Sizes.{span, level_start, level_size}
+use Rattle.rules.proofs.Laws.Family.Sizes.{legal, level_size_top, level_size_fine, span_quarter}
 use Rattle.rules.specs.Laws.Offspring.Block.{half_rows, half_columns}
 use Rattle.trees.specs.Places.{band_width, raster_of}
 use Rattle.trees.specs.Run.{number_of}

@@ -5,7 +5,8 @@ use native.Mathlib.Omega.{arith}
 use Rattle.rules.specs.declared.Size.{Size}
 use Rattle.rules.specs.Document.Pyramid.{index}
 use Rattle.rules.specs.Laws.Offspring.Block.{half_rows, half_columns}
-use Rattle.trees.specs.Places.{tree_row, tree_column, raster_of, tree_four, raster_fine}
+use Rattle.trees.specs.Places.{tree_row, tree_column, raster_of}
+use Rattle.trees.proofs.Places.{tree_four, raster_fine}
 use Rattle.placing.specs.Stores.{corner_of, rank_of}
 
 module _ (z : Size) where

@@ -10,11 +10,15 @@ use lib.IntN.{ℤ, pos}
 use Rattle.rules.specs.declared.Size.{Size}
 use Rattle.rules.specs.Document.Pyramid.{area, levels, level_of}
 use Rattle.rules.specs.Promises.Vocabulary.{Legal}
-use Rattle.rules.specs.Laws.Family.Sizes.{level_start, level_size, level_start_fine, level_start_top}
-use Rattle.rules.specs.Laws.Offspring.Level.{level_area}
-use Rattle.trees.specs.Places.{raster_of, tree_of, raster_level, raster_one, band_level_tree, raster_tree, tree_raster}
-use Rattle.trees.specs.Family.{tree_level, coefficient_of, coefficient_fine, level_same}
-use Rattle.trees.specs.Run.{number_of, number_fine, number_coefficient, coefficient_number, coefficient_under, number_level, number_area}
+use Rattle.rules.specs.Laws.Family.Sizes.{level_start, level_size}
+use Rattle.rules.proofs.Laws.Family.Sizes.{level_start_fine, level_start_top}
+use Rattle.rules.proofs.Laws.Offspring.Level.{level_area}
+use Rattle.trees.specs.Places.{raster_of, tree_of}
+use Rattle.trees.proofs.Places.{raster_level, raster_one, band_level_tree, raster_tree, tree_raster}
+use Rattle.trees.specs.Family.{tree_level, coefficient_of}
+use Rattle.trees.proofs.Family.{coefficient_fine, level_same}
+use Rattle.trees.specs.Run.{number_of}
+use Rattle.trees.proofs.Run.{number_fine, number_coefficient, coefficient_number, coefficient_under, number_level, number_area}
 use Rattle.coefficients.specs.Words.{worded, value_of}
 use Rattle.stretches.specs.Cut.{maxima_from}
 use Rattle.stretches.specs.Workspace.{word_in}

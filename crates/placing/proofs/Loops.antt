@@ -12,11 +12,13 @@ use Rattle.rules.specs.declared.Size.{Size}
 use Rattle.rules.specs.Document.Pyramid.{area, levels, level_of, magnitude, most_magnitude}
 use Rattle.rules.specs.Document.Calls.{work_for}
 use Rattle.rules.specs.Promises.Vocabulary.{Legal}
-use Rattle.rules.specs.Laws.Family.Sizes.{legal, level_start, level_size}
-use Rattle.rules.specs.Laws.Offspring.Level.{level_most, level_least}
-use Rattle.rules.specs.Laws.Rounding.Planes.{magnitude_most, range_greatest}
+use Rattle.rules.specs.Laws.Family.Sizes.{level_start, level_size}
+use Rattle.rules.proofs.Laws.Family.Sizes.{legal}
+use Rattle.rules.proofs.Laws.Offspring.Level.{level_most, level_least}
+use Rattle.rules.proofs.Laws.Rounding.Planes.{magnitude_most, range_greatest}
 use Rattle.trees.specs.Family.{tree_level, coefficient_of}
-use Rattle.trees.specs.Run.{number_of, number_area}
+use Rattle.trees.specs.Run.{number_of}
+use Rattle.trees.proofs.Run.{number_area}
 use Rattle.coefficients.specs.Words.{worded, value_of}
 use Rattle.stretches.specs.Workspace.{word_in, drawn_at}
 use Rattle.stretches.specs.Levels.{words_from, level_before, stretch_room, Numbered, numbered, word_level, word_numbered, put_inside, put_before, put_behind}

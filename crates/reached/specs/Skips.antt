@@ -12,8 +12,9 @@ use Rattle.rules.specs.Document.Numbers.{top_level}
 use Rattle.rules.specs.Document.Passes.{PartName, from}
 use Rattle.rules.specs.Document.Layout.{usable}
 use Rattle.rules.specs.Document.Calls.{level_places, skipped_parts, skipped_counts, count_in}
-use Rattle.rules.specs.Laws.Counting.Sums.{one, count_last, count_most}
-use Rattle.rules.specs.Laws.Rounding.Run.{map_from, map_length}
+use Rattle.rules.specs.Laws.Counting.Sums.{one}
+use Rattle.rules.proofs.Laws.Counting.Sums.{count_last, count_most}
+use Rattle.rules.proofs.Laws.Rounding.Run.{map_from, map_length}
 use Rattle.reached.specs.Planes.{from_same, from_set}
 
 module _ (h : Header) (there : List PartName) where

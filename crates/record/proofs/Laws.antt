@@ -32,9 +32,9 @@ use Rattle.rules.specs.Document.Layout.{read_number, version, bytes_for, pad_cle
 use Rattle.rules.specs.Document.Numbers.{head_number, judged_header, most_bits, part_number, follows, legal_head, judged_part, top_level, part_most}
 use Rattle.record.specs.declared.Name.{Name}
 use Rattle.record.specs.Named.{name_by, named, unread_header, unread, whole_part}
-use Rattle.rules.specs.Laws.Family.Sizes.{legal, area_bound}
-use Rattle.rules.specs.Laws.Counting.Booleans.{both_right}
-use Rattle.rules.specs.Laws.Reading.Stands.{read_number_stands}
+use Rattle.rules.proofs.Laws.Family.Sizes.{legal, area_bound}
+use Rattle.rules.proofs.Laws.Counting.Booleans.{both_right}
+use Rattle.rules.proofs.Laws.Reading.Stands.{read_number_stands}
 
 abbrev pub NoValue : Number → Type 0
 NoValue x = OneOf (1 ∷ 2 ∷ 3 ∷ []) (tag_of the_type x)

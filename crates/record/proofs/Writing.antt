@@ -14,9 +14,9 @@ use Rattle.rules.specs.declared.Level.{Level}
 use Rattle.rules.specs.Document.Notation.{flat}
 use Rattle.rules.specs.Document.Pyramid.{legal_size}
 use Rattle.rules.specs.Document.Layout.{number_bytes, bytes_for}
-use Rattle.rules.specs.Laws.Counting.Sums.{flat_append}
-use Rattle.rules.specs.Laws.Bytes.Numbers.{number_bytes_length}
-use Rattle.rules.specs.Laws.Family.Sizes.{legal}
+use Rattle.rules.proofs.Laws.Counting.Sums.{flat_append}
+use Rattle.rules.proofs.Laws.Bytes.Numbers.{number_bytes_length}
+use Rattle.rules.proofs.Laws.Family.Sizes.{legal}
 use Rattle.memory.specs.Stores.{sets_append}
 use Rattle.record.specs.Write.{place_most, Wrote, short_head, made_way, head_of, HeadFits, Headed, wrote_near}
 

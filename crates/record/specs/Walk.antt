@@ -17,9 +17,12 @@ use Rattle.rules.specs.declared.PartRead.TheVariants as part
 use Rattle.rules.specs.Document.Pyramid.{legal_size}
 use Rattle.rules.specs.Document.Layout.{name_of}
 use Rattle.rules.specs.Document.Numbers.{read_header, read_part, Ending, tail, fault, Reading, read_parts, behind_from, behind}
-use Rattle.rules.specs.Laws.Reading.Stands.{read_header_stands, header_legal, header_within, PartStands, read_part_stands, part_further}
-use Rattle.rules.specs.Laws.Reading.Walk.{parts_from, read_parts_from, parts_from_part, parts_from_tail, parts_from_cut, parts_from_fault}
-use Rattle.rules.specs.Laws.Reading.CutPart.{CutStands, read_part_cut}
+use Rattle.rules.specs.Laws.Reading.Stands.{PartStands}
+use Rattle.rules.proofs.Laws.Reading.Stands.{read_header_stands, header_legal, header_within, read_part_stands, part_further}
+use Rattle.rules.specs.Laws.Reading.Walk.{parts_from}
+use Rattle.rules.proofs.Laws.Reading.Walk.{read_parts_from, parts_from_part, parts_from_tail, parts_from_cut, parts_from_fault}
+use Rattle.rules.specs.Laws.Reading.CutPart.{CutStands}
+use Rattle.rules.proofs.Laws.Reading.CutPart.{read_part_cut}
 use Rattle.record.specs.declared.walk.Cursor.{Cursor}
 use Rattle.record.specs.Named.{named}
 

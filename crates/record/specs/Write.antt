@@ -6,7 +6,7 @@ use Rattle.rules.specs.declared.Plane.{Plane}
 use Rattle.rules.specs.declared.Level.{Level}
 use Rattle.rules.specs.Document.Notation.{flat}
 use Rattle.rules.specs.Document.Layout.{number_bytes, bytes_for}
-use Rattle.rules.specs.Laws.Bytes.Numbers.{number_bytes_last, number_bytes_length}
+use Rattle.rules.proofs.Laws.Bytes.Numbers.{number_bytes_last, number_bytes_length}
 
 -- No part begins behind this place.
 abbrev pub place_most : ℕ

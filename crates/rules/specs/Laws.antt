@@ -1,4 +1,4 @@
--- What follows from the definitions of Document, by subject. Promises says what of it is promised.
+-- The words in which the laws of proofs/Laws are said, by subject.
 pub mod Counting
 pub mod Family
 pub mod Offspring

@@ -26,9 +26,10 @@ use Rattle.rules.specs.Document.Layout.{whole_of}
 use Rattle.rules.specs.Document.Numbers.{Ending, tail, fault, Reading, read_header, read_parts, top_level}
 use Rattle.rules.specs.Document.Calls.{refused, accepted, unless, on_header, on_ending, legal_ask, kept_of, served_bytes, portioned}
 use Rattle.rules.specs.Document.Calls.{serving, serve_out, serve_answer, Serving}
-use Rattle.rules.specs.Laws.Counting.Sums.{flat_append}
-use Rattle.rules.specs.Laws.Bytes.Output.{clipped, clipped_nothing, clipped_length, clipped_append, clipped_fits}
-use Rattle.rules.specs.Laws.Serving.Selection.{whole_length}
+use Rattle.rules.proofs.Laws.Counting.Sums.{flat_append}
+use Rattle.rules.specs.Laws.Bytes.Output.{clipped}
+use Rattle.rules.proofs.Laws.Bytes.Output.{clipped_nothing, clipped_length, clipped_append, clipped_fits}
+use Rattle.rules.proofs.Laws.Serving.Selection.{whole_length}
 use Rattle.record.specs.declared.walk.Cursor.{Cursor}
 use Rattle.record.specs.Walk.{first_of, next_of, past_of, Stands, stands_first, stands_legal, next_stands, Short, stands_past, stands_short, stands_fault}
 use Rattle.server.specs.declared.Ended.{Ended}

@@ -10,7 +10,8 @@ use borrow.Author.Tests.{le-leb, lt-leb}
 use Rattle.rules.specs.declared.Size.{Size}
 use Rattle.rules.specs.Document.Pyramid.{area, least_side, greatest_side, most_area, most_decompositions, legal_side, legal_size}
 use Rattle.rules.specs.Document.Pyramid.{levels}
-use Rattle.rules.specs.Laws.Family.Sizes.{level_start, level_end, legal, area_bound, level_start_top, level_size_end}
+use Rattle.rules.specs.Laws.Family.Sizes.{level_start, level_end}
+use Rattle.rules.proofs.Laws.Family.Sizes.{legal, area_bound, level_start_top, level_size_end}
 
 -- a shift of 1 that stays under the width
 pub shifted : (k w : ℕ) → k < w → 1 * 2 ^ k % 2 ^ w ≡ 2 ^ k

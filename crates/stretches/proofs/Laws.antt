@@ -10,7 +10,8 @@ use lib.Seq.{get_or-set_other, set_out}
 use Rattle.rules.specs.declared.Size.{Size}
 use Rattle.rules.specs.Document.Pyramid.{legal_size, levels}
 use Rattle.rules.specs.Document.Calls.{work_for}
-use Rattle.rules.specs.Laws.Family.Sizes.{level_start, level_size, level_end, legal, area_bound, level_size_end}
+use Rattle.rules.specs.Laws.Family.Sizes.{level_start, level_size, level_end}
+use Rattle.rules.proofs.Laws.Family.Sizes.{legal, area_bound, level_size_end}
 use Rattle.stretches.specs.Seg.{seg, seg_set}
 use Rattle.stretches.specs.Levels.{level_ends}
 use Rattle.stretches.specs.Cut.{maxima_from, values_in, maxima_in, ValueSet, SetOr, MaximumSet, maxima_length, maxima_at}

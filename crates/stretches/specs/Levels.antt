@@ -14,9 +14,11 @@ use Rattle.rules.specs.declared.Size.{Size}
 use Rattle.rules.specs.Document.Pyramid.{area, levels}
 use Rattle.rules.specs.Document.Calls.{work_for}
 use Rattle.rules.specs.Promises.Vocabulary.{Legal}
-use Rattle.rules.specs.Laws.Family.Sizes.{span, level_start, level_end, level_size, level_size_end, level_end_next, level_end_start, level_start_fine}
-use Rattle.rules.specs.Laws.Family.Sizes.{level_start_top, span_some, span_most, level_size_fine, level_size_top, span_quarter}
-use Rattle.trees.specs.Family.{tree_level, Lies, lies, level_at_lem, span_falls}
+use Rattle.rules.specs.Laws.Family.Sizes.{span, level_start, level_end, level_size}
+use Rattle.rules.proofs.Laws.Family.Sizes.{level_size_end, level_end_next, level_end_start, level_start_fine}
+use Rattle.rules.proofs.Laws.Family.Sizes.{level_start_top, span_some, span_most, level_size_fine, level_size_top, span_quarter}
+use Rattle.trees.specs.Family.{tree_level}
+use Rattle.trees.proofs.Family.{Lies, lies, level_at_lem, span_falls}
 use Rattle.stretches.specs.Seg.{seg, seg_at, seg_length}
 use Rattle.stretches.specs.Cut.{maxima_from, stretch_of, maxima_at}
 use Rattle.stretches.specs.Workspace.{word_in, maximum_in}

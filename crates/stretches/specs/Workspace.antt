@@ -12,8 +12,8 @@ use Rattle.rules.specs.Document.Notation.{greatest}
 use Rattle.rules.specs.Document.Pyramid.{area, magnitude, planes_of}
 use Rattle.rules.specs.Document.Passes.{typeA, typeB, members, from}
 use Rattle.rules.specs.Laws.Family.Sizes.{span, level_start, level_size}
-use Rattle.rules.specs.Laws.Rounding.Run.{map_from}
-use Rattle.rules.specs.Laws.Counting.Sums.{from_length}
+use Rattle.rules.proofs.Laws.Rounding.Run.{map_from}
+use Rattle.rules.proofs.Laws.Counting.Sums.{from_length}
 use Rattle.trees.specs.Family.{tree_level, coefficient_of, trees}
 use Rattle.coefficients.specs.Words.{worded, value_of}
 use Rattle.stretches.specs.Cut.{maxima_in, largest_d, largest_l, stretch_of}

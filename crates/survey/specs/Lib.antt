@@ -1,3 +1,2 @@
 pub mod Surveyed
 pub mod AsServing
-pub mod Exported

@@ -8,7 +8,8 @@ use lib.ListN.{length, length-append}
 use Rattle.bits.specs.declared.BitPosition.{BitPosition}
 use Rattle.bits.specs.declared.BitRead.{BitRead}
 use Rattle.rules.specs.Document.Passes.{Event, significant?, negative?, to_lip, to_lsp, Side, listing}
-use Rattle.rules.specs.Laws.Pass.Steps.{sign_noted, tried, tried_all, tried_insignificant, tried_significant, tried_to_lip, tried_to_lsp, tried_all_append}
+use Rattle.rules.specs.Laws.Pass.Steps.{sign_noted, tried, tried_all}
+use Rattle.rules.proofs.Laws.Pass.Steps.{tried_insignificant, tried_significant, tried_to_lip, tried_to_lsp, tried_all_append}
 use Rattle.stretches.specs.Seg.{seg, seg_same}
 use Rattle.stretches.specs.Cut.{lip_from, lsp_from, lis_from, values_in}
 use Rattle.lists.specs.declared.Stretch.{Stretch}

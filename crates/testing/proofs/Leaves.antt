@@ -13,7 +13,7 @@ use lib.Seq.{set-get_or}
 use Rattle.bits.specs.declared.BitPosition.{BitPosition}
 use Rattle.rules.specs.Document.Pyramid.{planes_of, most_planes}
 use Rattle.rules.specs.Document.Passes.{Entry, significant?, negative?, bit?, set?, Event, to_lsp, refined}
-use Rattle.trees.specs.Measure.{planes_tell}
+use Rattle.trees.proofs.Measure.{planes_tell}
 use Rattle.coefficients.specs.Words.{word_of}
 use Rattle.stretches.specs.Cut.{lip_from, values_in, maxima_in, ValueSet, ButAt, SetOr, values_at}
 use Rattle.lists.specs.declared.Set.{Set}

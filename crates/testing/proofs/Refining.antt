@@ -9,8 +9,10 @@ use lib.ListN.{length-append}
 use Rattle.bits.specs.declared.BitPosition.{BitPosition}
 use Rattle.bits.specs.declared.BitRead.{BitRead}
 use Rattle.rules.specs.Document.Passes.{bit?, refined, Side}
-use Rattle.rules.specs.Laws.Pass.Steps.{bit_noted, sharpened, sharpened_all, sharpened_all_append}
-use Rattle.rules.specs.Laws.Counting.Sums.{sum, is, sum_append}
+use Rattle.rules.specs.Laws.Pass.Steps.{bit_noted, sharpened, sharpened_all}
+use Rattle.rules.proofs.Laws.Pass.Steps.{sharpened_all_append}
+use Rattle.rules.specs.Laws.Counting.Sums.{sum, is}
+use Rattle.rules.proofs.Laws.Counting.Sums.{sum_append}
 use Rattle.stretches.specs.Seg.{seg}
 use Rattle.stretches.specs.Cut.{lsp_from, maxima_from, values_in, values_same, maxima_same}
 use Rattle.lists.specs.Lists.{Inside, coefficient, known, lsp_at, known_add, known_more, known_none, known_length}

@@ -8,7 +8,8 @@ use Rattle.std.proofs.Math.Seq.{set_out}
 use Rattle.rules.specs.Document.Pyramid.{Family}
 use Rattle.rules.specs.Document.Passes.{to_lsp, refined, listed, listing}
 use Rattle.rules.specs.Laws.Pass.Steps.{sign_noted, bit_noted}
-use Rattle.rules.specs.Laws.Counting.Sums.{sum, is, is_same}
+use Rattle.rules.specs.Laws.Counting.Sums.{sum, is}
+use Rattle.rules.proofs.Laws.Counting.Sums.{is_same}
 use Rattle.rules.specs.Laws.Pass.Kept.{Kept}
 use Rattle.coefficients.specs.Words.{word_of}
 use Rattle.testing.specs.declared.Run.{Run}

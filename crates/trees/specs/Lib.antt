@@ -1,11 +1,9 @@
--- Tree order: where its nodes stand, one numbering of all coefficients, and that coding and decoding are the same by it; the lists in tree
--- numbers, what a pass speaks of, and the maxima of sets.
+-- Tree order: where its nodes stand, one numbering of all coefficients; the lists in tree numbers, what a pass speaks of, and the maxima of sets.
 pub mod Places
 pub mod Renamed
 pub mod Within
 pub mod Family
 pub mod Run
 pub mod Decoding
-pub mod Lawful
 pub mod Sound
 pub mod Measure

@@ -2,7 +2,7 @@
 use mathlib.Core.Path.{refl, ap, ◌∙◌}
 use native.Mathlib.Omega.{arith}
 use Rattle.rules.specs.Document.Notation.{zeros}
-use Rattle.rules.specs.Laws.Family.Sizes.{legal}
+use Rattle.rules.proofs.Laws.Family.Sizes.{legal}
 use Rattle.grey.proofs.Taking.{loaded_splitting, loaded_lifted}
 use borrow.Author.Rules.{rules}
 use Rattle.grey.proofs.lift.Statement.{statement}

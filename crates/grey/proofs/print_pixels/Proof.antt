@@ -3,7 +3,7 @@ use Rattle.grey.proofs.Printing.{joining, joined_numbers, pixels_printed}
 use mathlib.Core.Path.{ap, ◌∙◌}
 use native.Mathlib.Omega.{arith}
 use Rattle.rules.specs.Document.Notation.{zeros}
-use Rattle.rules.specs.Laws.Family.Sizes.{area_bound}
+use Rattle.rules.proofs.Laws.Family.Sizes.{area_bound}
 use borrow.Author.Rules.{rules}
 use Rattle.grey.proofs.print_pixels.Statement.{statement}
 use Rattle.grey.proofs.print_pixels.Tie as tie

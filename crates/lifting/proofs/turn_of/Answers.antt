@@ -1,6 +1,6 @@
 use native.Mathlib.Omega.{arith}
 use borrow.Author.Rules.{rules}
-use Rattle.rules.specs.Laws.Family.Sizes.{legal, area_bound}
+use Rattle.rules.proofs.Laws.Family.Sizes.{legal, area_bound}
 use Rattle.lifting.proofs.turn_of.Goals as goal
 
 pub overflow_shr-result : goal.overflow_shr-result

@@ -1,6 +1,6 @@
 use mathlib.Core.Path.{refl}
 use native.Mathlib.Omega.{arith}
-use Rattle.rules.specs.Laws.Bytes.Numbers.{group_below}
+use Rattle.rules.proofs.Laws.Bytes.Numbers.{group_below}
 use Rattle.numbers.proofs.with_group.Goals as goal
 
 pub overflow_mul-result : goal.overflow_mul-result

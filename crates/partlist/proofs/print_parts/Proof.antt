@@ -1,7 +1,7 @@
 -- `partlist::print_parts`: the cursor's place rises from part to part.
 use Prim.Native.Nat.{◌-◌}
 use lib.ListN.{length}
-use Rattle.survey.specs.AsServing.{part_ends}
+use Rattle.survey.proofs.AsServing.{part_ends}
 use borrow.Author.Rules.{rules}
 use Rattle.partlist.proofs.print_parts.Statement.{statement}
 use Rattle.partlist.proofs.print_parts.Tie as tie

@@ -4,7 +4,7 @@ use mathlib.Core.Path.{◌≡◌, refl, ◌∙◌}
 use Prim.Native.Nat.{◌-◌}
 use lib.ListN.{length}
 use Rattle.rules.specs.Document.Passes.{rows, band_ll}
-use Rattle.rules.specs.Laws.Family.Sizes.{legal}
+use Rattle.rules.proofs.Laws.Family.Sizes.{legal}
 use Rattle.parts.proofs.Begin.{Left, left_band, left_first, left_rest, left_none, rows_next, rows_none, side_under}
 use borrow.Author.Rules.{rules}
 use Rattle.parts.proofs.list_band.Statement.{statement}

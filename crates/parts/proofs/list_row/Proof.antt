@@ -4,7 +4,7 @@ use mathlib.Core.Path.{◌≡◌, refl, ◌∙◌}
 use Prim.Native.Nat.{◌+◌, ◌-◌, ◌*◌}
 use lib.ListN.{length}
 use Rattle.rules.specs.Document.Passes.{from}
-use Rattle.rules.specs.Laws.Family.Sizes.{legal}
+use Rattle.rules.proofs.Laws.Family.Sizes.{legal}
 use Rattle.parts.specs.Begin.{row_of}
 use Rattle.parts.proofs.Begin.{Left, left_row, left_first, left_rest, left_none, from_next, from_none, side_under}
 use borrow.Author.Rules.{rules}

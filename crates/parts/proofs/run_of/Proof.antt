@@ -1,6 +1,6 @@
 -- `parts::run_of` meets its contract.
 use native.Mathlib.Omega.{arith}
-use Rattle.rules.specs.Laws.Family.Sizes.{legal}
+use Rattle.rules.proofs.Laws.Family.Sizes.{legal}
 use Rattle.parts.proofs.Running.{run_is}
 use borrow.Author.Rules.{rules}
 use Rattle.parts.proofs.run_of.Statement.{statement}

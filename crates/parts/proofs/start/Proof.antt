@@ -1,6 +1,6 @@
 -- `parts::start` meets its contract.
 use native.Mathlib.Omega.{arith}
-use Rattle.rules.specs.Laws.Family.Sizes.{legal}
+use Rattle.rules.proofs.Laws.Family.Sizes.{legal}
 use Rattle.parts.proofs.Begin.{top_size, top_under, top_room, band_listing, started}
 use borrow.Author.Rules.{rules}
 use Rattle.parts.proofs.start.Statement.{statement}

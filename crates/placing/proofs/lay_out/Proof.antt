@@ -1,6 +1,6 @@
 -- `placing::lay_out` meets its contract.
 use borrow.Author.Rules.{rules}
-use Rattle.rules.specs.Laws.Family.Sizes.{legal}
+use Rattle.rules.proofs.Laws.Family.Sizes.{legal}
 use Rattle.placing.proofs.Loops.{laid_all}
 use Rattle.placing.proofs.lay_out.Statement.{statement}
 use Rattle.placing.proofs.lay_out.Tie as tie

@@ -1,7 +1,7 @@
 -- `placing::place_roots` meets its contract.
 use native.Mathlib.Omega.{arith}
 use borrow.Author.Rules.{rules}
-use Rattle.rules.specs.Laws.Family.Sizes.{legal}
+use Rattle.rules.proofs.Laws.Family.Sizes.{legal}
 use Rattle.placing.proofs.Band.{few}
 use Rattle.placing.proofs.Calls.{roots_asks, roots_placed}
 use Rattle.placing.proofs.place_roots.Statement.{statement}

@@ -3,9 +3,3 @@ pub mod Level
 pub mod Block
 pub mod Kin
 pub mod Parent
-pub mod Grid
-pub mod Lawful
-pub mod Once
-pub mod Start
-pub mod Counts
-pub mod Sets

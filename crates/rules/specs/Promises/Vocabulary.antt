@@ -62,7 +62,6 @@ use Rattle.rules.specs.Document.Numbers.{top_level, follows, most_bits, headed, 
 use Rattle.rules.specs.Document.Numbers.{read_header}
 use Rattle.rules.specs.Document.Calls.{first_over, work_for, Result, Picture, accepted, level_places, plane_in, refused, Portion, legal_ask, serving}
 use Rattle.rules.specs.Document.Calls.{portioned, Serving, serve_places, AfsServe, skipped_parts, count_in}
-use Rattle.rules.specs.Promises.Cases.{cases_hold}
 
 -- SIZES AND PARTS
 

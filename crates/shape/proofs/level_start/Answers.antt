@@ -1,6 +1,6 @@
 use mathlib.Core.Path.{sym, ◌∙◌}
 use borrow.Author.Rules.{rules}
-use Rattle.rules.specs.Laws.Family.Sizes.{level_start_fine}
+use Rattle.rules.proofs.Laws.Family.Sizes.{level_start_fine}
 use Rattle.shape.proofs.Sizes.{start_zero}
 use Rattle.shape.proofs.level_start.Goals as goal
 

@@ -1,6 +1,7 @@
 use mathlib.Core.Path.{refl}
 use native.Mathlib.Omega.{arith}
-use Rattle.rules.specs.Laws.Family.Sizes.{legal, span}
+use Rattle.rules.specs.Laws.Family.Sizes.{span}
+use Rattle.rules.proofs.Laws.Family.Sizes.{legal}
 use Rattle.shape.proofs.Sizes.{span_small}
 use Rattle.shape.proofs.span_of.Goals as goal
 

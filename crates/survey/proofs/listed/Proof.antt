@@ -1,6 +1,6 @@
 -- `survey::listed`: the length decides first.
 use mathlib.Core.Path.{sym, ◌∙◌}
-use Rattle.survey.specs.AsServing.{listed_short, listed_long}
+use Rattle.survey.proofs.AsServing.{listed_short, listed_long}
 use borrow.Author.Rules.{rules}
 use Rattle.survey.proofs.listed.Statement.{statement}
 use Rattle.survey.proofs.listed.Tie as tie

@@ -1,6 +1,5 @@
 -- What is known of a number, a header and a part that were read: their values are legal, and they stand whole within the bytes.
 use Rattle.std.specs.Prelude.{◌≡◌, List, [], ◌∷◌, true, ◌&&◌, ℕ, ◌+◌, ◌-◌, ◌≤◌, ◌<◌, leb, length}
-use Rattle.std.proofs.Common.{subst, arith, leb-true}
 use Rattle.rules.specs.declared.Number.TheVariants.{Value}
 use Rattle.rules.specs.declared.Header.{Header}
 use Rattle.rules.specs.declared.HeaderRead.TheVariants as header
@@ -9,12 +8,7 @@ use Rattle.rules.specs.declared.PartRead.TheVariants as part
 use Rattle.rules.specs.Document.Pyramid.{legal_size, most_planes}
 use Rattle.rules.specs.Document.Passes.{PartName}
 use Rattle.rules.specs.Document.Layout.{read_number, version, bytes_for, pad_clear, body_of, name_of}
-use Rattle.rules.specs.Document.Numbers.{read_header, read_part}
-use Rattle.rules.specs.Laws.Counting.Booleans.{both_left, both_right}
 use Rattle.rules.specs.Promises.Vocabulary.{LegalHead}
-use Rattle.rules.specs.Promises.Refusals.{NumberCase, VALUE, Numbers, none, next, HeaderCase, LEGAL, PartCase, WHOLE}
-use Rattle.rules.specs.Laws.Reading.NumberCases.{number_case}
-use Rattle.rules.specs.Laws.Reading.PartCases.{passed, legal_judged, header_case, pad_set_lem, part_case}
 
 -- A number that was read: it has a byte at least and ends within the bytes.
 pub record NumberStands (s : List ℕ) (at v end : ℕ) : Type 0 where
@@ -47,65 +41,3 @@ pub record PartStands (h : Header) (s : List ℕ) (before : PartName) (place : �
   pub end : p.end ≡ p.body + bytes_for p.bits
   pub within : p.end ≤ length s
   pub clear : pad_clear (body_of s p) p.bits ≡ true
-
-pub read_number_stands : (s : List ℕ) (at v end : ℕ) → read_number s at ≡ Value v end → NumberStands s at v end
-read_number_stands s at v end e = cases (subst (NumberCase s at) e (number_case s at))
-  where
-    cases : {v end : ℕ} → NumberCase s at (Value v end) → NumberStands s at v end
-    cases (VALUE i l g t k n) = record { after = omega arith; within = omega arith }
-
-pub read_header_stands : (s : List ℕ) (h : Header) → read_header s ≡ header.Header h → HeaderStands s h
-read_header_stands s h e = cases (subst (HeaderCase s) e (header_case s))
-  where
-    cases : {h : Header} → HeaderCase s (header.Header h) → HeaderStands s h
-    cases {h} (LEGAL (next {b = a} r0 (next {b = b} r1 (next {b = c} r2 (next {b = d} r3 (next r4 none))))) l) =
-        record {
-          width_at = a;
-          height_at = b;
-          depth_at = c;
-          planes_at = d;
-          version_read = r0;
-          width_read = r1;
-          height_read = r2;
-          depth_read = r3;
-          planes_read = r4;
-          judged = legal_judged h.size h.planes l;
-        }
-
--- The size is legal, the planes are not too many, and the header is whole.
-pub header_legal : {s : List ℕ} {h : Header} → HeaderStands s h → legal_size h.size ≡ true
-header_legal t = both_left _ _ t.judged
-
-pub header_planes : {s : List ℕ} {h : Header} → HeaderStands s h → h.planes ≤ most_planes
-header_planes {h = h} t = leb-true h.planes most_planes (both_right (legal_size h.size) _ t.judged)
-
-pub header_within : {s : List ℕ} {h : Header} → HeaderStands s h → h.end ≤ length s
-header_within {s} {h} t = (read_number_stands s t.planes_at h.planes h.end t.planes_read).within
-
-pub read_part_stands : (h : Header) (s : List ℕ) (before : PartName) (place : ℕ) (p : Part) → read_part h s before place ≡ part.Part p
-    → PartStands h s before place p
-read_part_stands h s before place p e = cases (subst (PartCase h s before place) e (part_case h s before place))
-  where
-    cases : {p : Part} → PartCase h s before place (part.Part p) → PartStands h s before place p
-    cases {p} (WHOLE r l w n) = numbers r.numbers
-      where
-        numbers : Numbers s place (p.plane.0 ∷ p.level.0 ∷ p.bits ∷ []) p.body → PartStands h s before place p
-        numbers (next {b = a} r0 (next {b = b} r1 (next r2 none))) =
-            record {
-              level_at = a;
-              bits_at = b;
-              plane_read = r0;
-              level_read = r1;
-              bits_read = r2;
-              placed = r.placed;
-              legal = l;
-              after = omega (arith, (read_number_stands s _ _ _ r0).after, (read_number_stands s _ _ _ r1).after, (read_number_stands s _ _ _ r2).after);
-              end = r.ends;
-              within = w;
-              clear = passed _ (λ e. n (pad_set_lem s p e));
-            }
-
--- Behind a part less is left to read.
-pub part_further : {h : Header} {s : List ℕ} {before : PartName} {place : ℕ} {p : Part} → PartStands h s before place p
-    → length s - p.end < length s - place
-part_further t = omega (arith, t.after, t.end, t.within)

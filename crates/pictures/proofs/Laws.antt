@@ -1,0 +1,24 @@
+-- What follows from the definitions of Document.
+pub mod Behind
+pub mod DecodedPrints
+pub mod DistanceCases
+pub mod Error
+pub mod GreyCases
+pub mod GreyDetermined
+pub mod GreyFiles
+pub mod GreyMemory
+pub mod GreyRefusals
+pub mod GreyReturns
+pub mod Grids
+pub mod Growth
+pub mod NearBlocks
+pub mod NearLines
+pub mod NetpbmCases
+pub mod PictureCases
+pub mod PixelNear
+pub mod Printed
+pub mod Range
+pub mod Reversible
+pub mod Room
+pub mod Tones
+pub mod Turns

@@ -1,0 +1,10 @@
+pub mod Block
+pub mod Counts
+pub mod Grid
+pub mod Kin
+pub mod Lawful
+pub mod Level
+pub mod Once
+pub mod Parent
+pub mod Sets
+pub mod Start

@@ -1,0 +1,9 @@
+pub mod Bounds
+pub mod Early
+pub mod Kept
+pub mod Levels
+pub mod Lists
+pub mod Simulation
+pub mod Slots
+pub mod Steps
+pub mod Turns

@@ -1,0 +1,11 @@
+pub mod CutPart
+pub mod Local
+pub mod NumberCases
+pub mod OneWalk
+pub mod PartCases
+pub mod Parts
+pub mod Skipped
+pub mod Stands
+pub mod Usable
+pub mod Walk
+pub mod WholeParts

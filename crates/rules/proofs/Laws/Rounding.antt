@@ -1,0 +1,13 @@
+pub mod Arrival
+pub mod CutPass
+pub mod CutRun
+pub mod CutTurn
+pub mod Followed
+pub mod Known
+pub mod KnownState
+pub mod Magnitudes
+pub mod MoreBytes
+pub mod Planes
+pub mod Rebuilt
+pub mod Run
+pub mod TowardZero
