@@ -1,0 +1,7 @@
+use Rattle.lists.proofs.Laws.{move_set_law}
+use native.Mathlib.Omega.{arith}
+use borrow.Author.Rules.{rules}
+use Rattle.lists.proofs.move_set.Goals as goal
+
+pub returns : goal.returns
+returns c = let p = c.requires in move_set_law _ _ _ p.0 _ _ c.number_of.ensures _ (omega arith) p.1

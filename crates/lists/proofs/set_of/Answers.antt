@@ -1,0 +1,11 @@
+use Rattle.lists.proofs.Laws.{entry_even, entry_odd}
+use mathlib.Core.Path.{sym}
+use native.Mathlib.Omega.{arith}
+use borrow.Author.Rules.{rules}
+use Rattle.lists.proofs.set_of.Goals as goal
+
+pub returns-then-m-eq0 : goal.returns-then-m-eq0
+returns-then-m-eq0 c = (sym (entry_even _ c.if-m-eq0.true), omega arith)
+
+pub returns : goal.returns
+returns c = (sym (entry_odd _ c.if-m-eq0.false), omega arith)
