@@ -1,0 +1,15 @@
+use borrow.Author.Rules.{rules}
+use Rattle.placing.proofs.Loops.{copied_none, copied_more, copied_end, CopiedTo, given_same, blocks_of}
+use Rattle.placing.proofs.copy_levels.Goals as goal
+
+pub loop-k-init : goal.loop-k-init
+loop-k-init c = search (rules, copied_none)
+
+pub copy_level-requires : goal.copy_level-requires
+copy_level-requires c = search (rules, given_same, blocks_of)
+
+pub loop-k-preserved : goal.loop-k-preserved
+loop-k-preserved c = search (rules, copied_more)
+
+pub returns : goal.returns
+returns c = search (rules, copied_end)

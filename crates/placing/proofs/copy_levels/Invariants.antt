@@ -1,0 +1,9 @@
+use borrow.Author.Rules.{rules}
+use Rattle.placing.proofs.Loops.{copied_none, copied_more, copied_end, CopiedTo, given_same, blocks_of}
+use Rattle.placing.proofs.copy_levels.Given as goal
+
+abbrev pub invariant-loop-k : goal.invariant-loop-k
+invariant-loop-k l = CopiedTo l.pyramid l.z l.k l.initial.work l.work
+
+abbrev pub decreases-loop-k : goal.decreases-loop-k
+decreases-loop-k l = l.k

@@ -1,0 +1,41 @@
+use Prim.Native.Nat.{◌-◌, ◌*◌}
+use native.Mathlib.Omega.{arith}
+use lib.ListN.{get_or}
+use lib.IntN.{pos}
+use borrow.Author.Rules.{rules}
+use Rattle.rules.specs.Document.Pyramid.{index, area}
+use Rattle.trees.specs.Places.{band_width}
+use Rattle.trees.specs.Run.{number_of}
+use Rattle.coefficients.specs.Words.{worded}
+use Rattle.placing.proofs.Band.{few, all, band_columns}
+use Rattle.placing.proofs.Calls.{row_numbers, number_inside, row_inside}
+use Rattle.placing.proofs.Blocks.{Rowing, rowing_none, rowing_more, rowing_all}
+use Rattle.placing.proofs.Loops.{given_small}
+use Rattle.placing.proofs.copy_row.Goals as goal
+
+pub overflow_shr-end : goal.overflow_shr-end
+overflow_shr-end c = omega (arith, few)
+
+pub loop-column-init : goal.loop-column-init
+loop-column-init c = let p = c.requires in rowing_none (row_inside p.0.roomy p.1) (row_numbers p.0.roomy p.1)
+
+pub overflow_add-column : goal.overflow_add-column
+overflow_add-column c = omega (arith, band_columns)
+
+pub overflow_mul-row : goal.overflow_mul-row
+overflow_mul-row c = omega (arith, all)
+
+pub overflow_add-row : goal.overflow_add-row
+overflow_add-row c = omega (arith, all)
+
+pub word_at-requires : goal.word_at-requires
+word_at-requires c = search (rules, given_small)
+
+pub bounds-work-x : goal.bounds-work-x
+bounds-work-x c = search (rules, number_inside)
+
+pub loop-column-preserved : goal.loop-column-preserved
+loop-column-preserved c = search (rules, rowing_more)
+
+pub returns : goal.returns
+returns c = search (rules, rowing_all)

@@ -1,0 +1,21 @@
+use Prim.Native.Nat.{◌-◌, ◌*◌}
+use native.Mathlib.Omega.{arith}
+use lib.ListN.{get_or}
+use lib.IntN.{pos}
+use borrow.Author.Rules.{rules}
+use Rattle.rules.specs.Document.Pyramid.{index, area}
+use Rattle.trees.specs.Places.{band_width}
+use Rattle.trees.specs.Run.{number_of}
+use Rattle.coefficients.specs.Words.{worded}
+use Rattle.placing.proofs.Band.{few, all, band_columns}
+use Rattle.placing.proofs.Calls.{row_numbers, number_inside, row_inside}
+use Rattle.placing.proofs.Blocks.{Rowing, rowing_none, rowing_more, rowing_all}
+use Rattle.placing.proofs.Loops.{given_small}
+use Rattle.placing.proofs.copy_row.Given as goal
+
+abbrev pub invariant-loop-column : goal.invariant-loop-column
+invariant-loop-column l =
+    Rowing 0 (λ j. number_of l.z (index l.z l.row j)) (l.row * l.z.w) (band_width l.z) (area l.z) (λ j. worded (get_or l.pyramid (index l.z l.row j) (pos 0))) l.initial.work l.column l.work
+
+abbrev pub decreases-loop-column : goal.decreases-loop-column
+decreases-loop-column l = band_width l.z - l.column

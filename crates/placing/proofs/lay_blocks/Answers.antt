@@ -1,0 +1,21 @@
+use Prim.Native.Nat.{◌-◌}
+use native.Mathlib.Omega.{arith}
+use borrow.Author.Rules.{rules}
+use Rattle.placing.proofs.Blocks.{Laying, laying_none, laying_inside, laying_more, laying_all}
+use Rattle.placing.proofs.Stores.{word_fits}
+use Rattle.placing.proofs.lay_blocks.Goals as goal
+
+pub loop-b-init : goal.loop-b-init
+loop-b-init c = laying_none
+
+pub overflow_cast-work : goal.overflow_cast-work
+overflow_cast-work c = search (rules, word_fits, c.type_inv.work)
+
+pub lay_block-requires : goal.lay_block-requires
+lay_block-requires c = (omega arith, search (rules, laying_inside), search rules)
+
+pub loop-b-preserved : goal.loop-b-preserved
+loop-b-preserved c = search (rules, laying_more)
+
+pub returns : goal.returns
+returns c = laying_all c.loop-b.invariant c.loop-b-test.false

@@ -1,0 +1,15 @@
+use borrow.Author.Rules.{rules}
+use Rattle.placing.proofs.Loops.{laid_none, laid_more, laid_end, LaidTo, blocks_of}
+use Rattle.placing.proofs.lay_levels.Goals as goal
+
+pub loop-k-init : goal.loop-k-init
+loop-k-init c = search (rules, laid_none)
+
+pub lay_level-requires : goal.lay_level-requires
+lay_level-requires c = search (rules, blocks_of)
+
+pub loop-k-preserved : goal.loop-k-preserved
+loop-k-preserved c = search (rules, laid_more)
+
+pub returns : goal.returns
+returns c = search (rules, laid_end)

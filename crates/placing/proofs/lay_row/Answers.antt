@@ -1,0 +1,44 @@
+use Prim.Native.Nat.{◌-◌, ◌*◌}
+use native.Mathlib.Omega.{arith}
+use lib.ListN.{get_or}
+use lib.IntN.{pos}
+use borrow.Author.Rules.{rules}
+use Rattle.rules.specs.Document.Pyramid.{index, area}
+use Rattle.trees.specs.Places.{band_width}
+use Rattle.trees.specs.Run.{number_of}
+use Rattle.coefficients.specs.Words.{value_of}
+use Rattle.placing.proofs.Band.{few, all, band_columns}
+use Rattle.placing.proofs.Blocks.{Rowing, rowing_none, rowing_all, rowing_more}
+use Rattle.placing.proofs.Calls.{number_inside, row_inside, row_places}
+use Rattle.placing.proofs.Signed.{value_read}
+use Rattle.placing.proofs.lay_row.Goals as goal
+
+pub overflow_shr-end : goal.overflow_shr-end
+overflow_shr-end c = omega (arith, few)
+
+pub loop-column-init : goal.loop-column-init
+loop-column-init c = let p = c.requires in rowing_none (row_inside p.0 p.2) (row_places p)
+
+pub overflow_add-column : goal.overflow_add-column
+overflow_add-column c = omega (arith, band_columns)
+
+pub overflow_mul-q : goal.overflow_mul-q
+overflow_mul-q c = omega (arith, all)
+
+pub overflow_add-q : goal.overflow_add-q
+overflow_add-q c = omega (arith, all)
+
+pub value_in-requires : goal.value_in-requires
+value_in-requires c = search (rules, number_inside)
+
+pub offset_bounds-out-q : goal.offset_bounds-out-q
+offset_bounds-out-q c = omega (arith, all)
+
+pub bounds-out-q : goal.bounds-out-q
+bounds-out-q c = omega arith
+
+pub loop-column-preserved : goal.loop-column-preserved
+loop-column-preserved c = search (rules, rowing_more, value_read)
+
+pub returns : goal.returns
+returns c = search (rules, rowing_all)

@@ -1,0 +1,21 @@
+use Prim.Native.Nat.{◌-◌, ◌*◌}
+use native.Mathlib.Omega.{arith}
+use lib.ListN.{get_or}
+use lib.IntN.{pos}
+use borrow.Author.Rules.{rules}
+use Rattle.rules.specs.Document.Pyramid.{index, area}
+use Rattle.trees.specs.Places.{band_width}
+use Rattle.trees.specs.Run.{number_of}
+use Rattle.coefficients.specs.Words.{value_of}
+use Rattle.placing.proofs.Band.{few, all, band_columns}
+use Rattle.placing.proofs.Blocks.{Rowing, rowing_none, rowing_all, rowing_more}
+use Rattle.placing.proofs.Calls.{number_inside, row_inside, row_places}
+use Rattle.placing.proofs.Signed.{value_read}
+use Rattle.placing.proofs.lay_row.Given as goal
+
+abbrev pub invariant-loop-column : goal.invariant-loop-column
+invariant-loop-column l =
+    Rowing (pos 0) (index l.z l.row) (l.row * l.z.w) (band_width l.z) (area l.z) (λ j. value_of (get_or l.work (number_of l.z (index l.z l.row j)) 0)) l.initial.out l.column l.out
+
+abbrev pub decreases-loop-column : goal.decreases-loop-column
+decreases-loop-column l = band_width l.z - l.column

@@ -1,0 +1,9 @@
+use borrow.Author.Rules.{rules}
+use Rattle.placing.proofs.Loops.{PlacedFrom, placed_first, placed_more, placed_all, placed_over}
+use Rattle.placing.proofs.place_blocks.Given as goal
+
+abbrev pub invariant-loop-k : goal.invariant-loop-k
+invariant-loop-k l = PlacedFrom l.z l.k l.initial.work l.work
+
+abbrev pub decreases-loop-k : goal.decreases-loop-k
+decreases-loop-k l = l.k

@@ -1,0 +1,13 @@
+use Rattle.placing.proofs.Blocks.{put_count}
+use Prim.Native.Nat.{ℕ, ◌+◌, ◌-◌, ◌*◌, ◌/◌, ◌%◌, ◌≤◌}
+use native.Mathlib.Omega.{arith}
+use Rattle.placing.specs.Stores.{Put, rank_of}
+use Rattle.placing.proofs.Stores.{put_none, group_stored}
+use borrow.Author.Rules.{rules}
+use Rattle.placing.proofs.place_row.Given as goal
+
+abbrev pub invariant-loop-j : goal.invariant-loop-j
+invariant-loop-j l = (l.j ≤ l.across) × Put 0 (λ t. l.to + t) (3 * l.j) (λ t. rank_of l.right l.below (l.p + 2 * (t / 3)) (t % 3)) l.initial.work l.work
+
+abbrev pub decreases-loop-j : goal.decreases-loop-j
+decreases-loop-j l = l.across - l.j

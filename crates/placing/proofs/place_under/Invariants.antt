@@ -1,0 +1,12 @@
+use Prim.Native.Nat.{ℕ, ◌-◌, ◌*◌}
+use native.Mathlib.Omega.{arith}
+use borrow.Author.Rules.{rules}
+use Rattle.placing.specs.Stores.{corner_of}
+use Rattle.placing.proofs.Blocks.{Storing, storing_none, storing_more, storing_all, before, storing_long, storing_under, storing_room}
+use Rattle.placing.proofs.place_under.Given as goal
+
+abbrev pub invariant-loop-b : goal.invariant-loop-b
+invariant-loop-b l = Storing (λ (p f : ℕ). 2 * corner_of l.w p f) l.from l.blocks l.to l.initial.work l.b l.work
+
+abbrev pub decreases-loop-b : goal.decreases-loop-b
+decreases-loop-b l = l.blocks - l.b

@@ -1,0 +1,16 @@
+use native.Mathlib.Omega.{arith}
+use lib.ListN.{length-set}
+use borrow.Author.Rules.{rules}
+use Rattle.placing.proofs.Stores.{put_three, apart_row}
+use Rattle.placing.specs.Stores.{rank_of}
+use Rattle.placing.proofs.set_roots.Goals as goal
+
+pub bounds-work-at-2 : goal.bounds-work-at-2
+bounds-work-at-2 c = simp length-set (omega arith)
+
+pub bounds-work-at-3 : goal.bounds-work-at-3
+bounds-work-at-3 c = simp length-set (omega arith)
+
+pub returns : goal.returns
+unfolding rank_of
+returns c = put_three (apart_row _ 3 _ c.requires.0) _ _ _ (omega arith) (omega arith) (omega arith) _ _ _ (omega arith) (omega arith) (omega arith)
