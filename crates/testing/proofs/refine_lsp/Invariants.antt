@@ -1,0 +1,16 @@
+use mathlib.Core.Path.{◌≡◌, refl}
+use native.Mathlib.Omega.{arith}
+use Prim.Native.Nat.{◌≤◌, ◌-◌}
+use lib.ListN.{length}
+use Rattle.lists.specs.Lists.{known}
+use Rattle.testing.specs.Finding.{Refined}
+use Rattle.testing.proofs.Refining.{refined_none, refining_inside, refining_next, refining_place, refining_small, refined_done}
+use borrow.Author.Rules.{rules}
+use Rattle.testing.proofs.refine_lsp.Given as goal
+
+abbrev pub invariant-loop-i : goal.invariant-loop-i
+invariant-loop-i l =
+    Refined l.run l.body (known l.run.stretch.n l.i l.initial.s) l.initial.s l.initial.out l.initial.next l.s l.out l.next × (l.i ≤ l.m) × (length l.s ≡ length l.initial.s) × (length l.out ≡ length l.initial.out)
+
+abbrev pub decreases-loop-i : goal.decreases-loop-i
+decreases-loop-i l = l.m - l.i

@@ -1,0 +1,12 @@
+use Rattle.lists.specs.Lists.{bit_small}
+use Rattle.testing.specs.Telling.{both_said}
+use borrow.Author.Rules.{rules}
+use Rattle.testing.proofs.say_found.Goals as goal
+
+pub overflow_add-result : goal.overflow_add-result
+overflow_add-result c =
+    let small = bit_small c.args.found in
+    search rules
+
+pub returns : goal.returns
+returns c = search (rules, both_said)

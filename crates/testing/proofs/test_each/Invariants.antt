@@ -1,0 +1,17 @@
+use mathlib.Core.Path.{◌≡◌, refl}
+use native.Mathlib.Omega.{arith}
+use Prim.Native.Nat.{◌≤◌, ◌-◌}
+use lib.ListN.{length}
+use Rattle.lists.specs.Lists.{waiting}
+use Rattle.testing.specs.Finding.{moved_to, Tested, stood}
+use Rattle.testing.proofs.Finding.{ends_moved, moved_from, each-length, each_there, each_inside, each_marked, each_next, each_none, each_done}
+use borrow.Author.Rules.{rules}
+use Rattle.testing.proofs.test_each.Given as goal
+
+abbrev pub invariant-loop-i : goal.invariant-loop-i
+invariant-loop-i l =
+    Tested l.run l.body (waiting l.run.stretch.n l.w.fill.lip l.i l.initial.s) l.initial.s l.initial.out l.w l.s l.out (moved_to l.w l.r) × (l.i ≤ l.m) × (length l.s ≡ length l.initial.s)
+    × (length l.out ≡ length l.initial.out)
+
+abbrev pub decreases-loop-i : goal.decreases-loop-i
+decreases-loop-i l = l.m - l.i
