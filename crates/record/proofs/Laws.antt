@@ -44,6 +44,13 @@ value_absurd v end (inl e) = omega arith
 value_absurd v end (inr (inl e)) = omega arith
 value_absurd v end (inr (inr e)) = omega arith
 
+-- a number that is no value
+pub no_value_of : (x : Number) → ((v end : ℕ) → x ≡ Value v end → ⊥) → NoValue x
+no_value_of (Value v end) n = absurd (n v end refl)
+no_value_of TooManyBytes n = inl refl
+no_value_of LongForm n = inr (inl refl)
+no_value_of CutOff n = inr (inr refl)
+
 -- A header's number: one that has no value decides, one that has leads on. x is what was read of y.
 pub header_told : (at : ℕ) (x y : Number) → x ≡ y → unread_header at y ≡ unread_header at x
 header_told at x y e = ap (unread_header at) (sym e)
