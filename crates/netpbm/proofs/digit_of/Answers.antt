@@ -1,7 +1,6 @@
 use Rattle.netpbm.proofs.Laws.{digit_least, digit_most}
 use native.Mathlib.Omega.{arith}
 use mathlib.Core.Path.{refl}
-use borrow.Author.Rules.{rules}
 use Rattle.netpbm.proofs.digit_of.Goals as goal
 
 pub overflow_sub-result : goal.overflow_sub-result

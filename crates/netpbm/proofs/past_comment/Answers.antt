@@ -1,7 +1,4 @@
-use Rattle.netpbm.proofs.Laws.{Still, still_begins, comment_on, comment_ends, comment_out}
-use Prim.Native.Nat.{◌-◌}
-use lib.ListN.{length}
-use Rattle.pictures.specs.Document.Netpbm.{after_comment}
+use Rattle.netpbm.proofs.Laws.{still_begins, comment_on, comment_ends, comment_out}
 use borrow.Author.Rules.{rules}
 use Rattle.netpbm.proofs.past_comment.Goals as goal
 

@@ -1,8 +1,7 @@
-use Rattle.netpbm.proofs.Laws.{Still, still_begins, comment_on, comment_ends, comment_out}
+use Rattle.netpbm.proofs.Laws.{Still}
 use Prim.Native.Nat.{◌-◌}
 use lib.ListN.{length}
 use Rattle.pictures.specs.Document.Netpbm.{after_comment}
-use borrow.Author.Rules.{rules}
 use Rattle.netpbm.proofs.past_comment.Given as goal
 
 abbrev pub invariant-loop-i : goal.invariant-loop-i

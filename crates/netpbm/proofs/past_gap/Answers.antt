@@ -1,8 +1,4 @@
-use Rattle.netpbm.proofs.Laws.{Still, still_begins, gap_ends, gap_out, gap_blank, gap_comment}
-use Prim.Native.Nat.{◌-◌}
-use lib.ListN.{length}
-use borrow.Author.Tests.{not-true, not-false}
-use Rattle.pictures.specs.Document.Netpbm.{after_gap}
+use Rattle.netpbm.proofs.Laws.{still_begins, gap_ends, gap_out, gap_blank, gap_comment}
 use borrow.Author.Rules.{rules}
 use Rattle.netpbm.proofs.past_gap.Goals as goal
 
@@ -10,13 +6,13 @@ pub loop-i-init : goal.loop-i-init
 loop-i-init c = search (rules, still_begins)
 
 pub returns-then-not-in_gap : goal.returns-then-not-in_gap
-returns-then-not-in_gap c = search (rules, gap_ends, not-true)
+returns-then-not-in_gap c = search (rules, gap_ends)
 
 pub loop-i-preserved-then-b-eq35 : goal.loop-i-preserved-then-b-eq35
-loop-i-preserved-then-b-eq35 c = search (rules, gap_comment, not-false)
+loop-i-preserved-then-b-eq35 c = search (rules, gap_comment)
 
 pub loop-i-preserved : goal.loop-i-preserved
-loop-i-preserved c = search (rules, gap_blank, not-false)
+loop-i-preserved c = search (rules, gap_blank)
 
 pub returns : goal.returns
 returns c = search (rules, gap_out)

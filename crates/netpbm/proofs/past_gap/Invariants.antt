@@ -1,9 +1,7 @@
-use Rattle.netpbm.proofs.Laws.{Still, still_begins, gap_ends, gap_out, gap_blank, gap_comment}
+use Rattle.netpbm.proofs.Laws.{Still}
 use Prim.Native.Nat.{◌-◌}
 use lib.ListN.{length}
-use borrow.Author.Tests.{not-true, not-false}
 use Rattle.pictures.specs.Document.Netpbm.{after_gap}
-use borrow.Author.Rules.{rules}
 use Rattle.netpbm.proofs.past_gap.Given as goal
 
 abbrev pub invariant-loop-i : goal.invariant-loop-i

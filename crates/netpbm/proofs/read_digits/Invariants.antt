@@ -1,9 +1,6 @@
-use borrow.Author.Tests.{not-true, not-false}
-use mathlib.Core.Path.{sym, ◌∙◌}
-use Rattle.netpbm.proofs.Laws.{Counting, counting_begins, counting_on, counting_ends, counting_out}
+use Rattle.netpbm.proofs.Laws.{Counting}
 use Prim.Native.Nat.{◌-◌}
 use lib.ListN.{length}
-use borrow.Author.Rules.{rules}
 use Rattle.netpbm.proofs.read_digits.Given as goal
 
 abbrev pub invariant-loop-i : goal.invariant-loop-i
