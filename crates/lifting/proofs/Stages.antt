@@ -22,7 +22,7 @@ use Rattle.pictures.specs.Laws.Tones.{bias, toned}
 use Rattle.pictures.proofs.Laws.Tones.{sub_below, sub_least, toned_high, toned_low}
 use Rattle.pictures.proofs.Laws.Reversible.{by_block, rows_outside, columns_outside}
 use Rattle.pictures.specs.Laws.Turns.{Most, most_pixel}
-use Rattle.pictures.proofs.Laws.Grids.{turn_at}
+use Rattle.pictures.proofs.Laws.Grids.{turn_at as turn_block}
 use Rattle.pictures.specs.Laws.Room.{shallow}
 use Rattle.pictures.proofs.Laws.Room.{room_in}
 use Rattle.lifting.specs.declared.Turn.{Turn}
@@ -268,7 +268,7 @@ module _ {z : Size} {work : List ℕ} {out₀ : List ℤ} where
               let hp : z.h / 2 ^ l / 2 ≡ p = omega (arith, rows_halve) in
               let hn : z.w / 2 ^ l / 2 ≡ n = omega (arith, columns_halve) in
               let e : turn z l (forward z l g) i j ≡ split n (λ c. split p (λ r. forward z l g r c) i) j =
-              rw (hp, hn) at (turn_at z Z l (omega arith) (forward z l g) i j (omega (arith, rows_halve)) (omega (arith, columns_halve))) in
+              rw (hp, hn) at (turn_block z Z l (omega arith) (forward z l g) i j (omega (arith, rows_halve)) (omega (arith, columns_halve))) in
               block_stands p n (picture (turn_at z l) s) shallow (omega arith) row_near (forward z l g)
               (λ r c q q'. rw (← columns_halve) (T.inside g t r c (omega (arith, rows_halve)) (omega (arith, columns_halve)))) i j b c
               ∙ sym e ∙ rw add-one refl

@@ -1,12 +1,8 @@
 use mathlib.Core.Path.{◌≡◌}
 use Prim.Native.Nat.{◌-◌, ◌≤◌, ◌+◌, ◌*◌}
-use native.Mathlib.Omega.{arith}
-use borrow.Author.Rules.{rules}
 use Rattle.lifting.specs.Fills.{Filled}
 use Rattle.lifting.specs.Lines.{line}
 use Rattle.lifting.specs.Joins.{even_t}
-use Rattle.lifting.proofs.Filling.{filled_none, filled_end}
-use Rattle.lifting.proofs.JoinLines.{first_before, even_asks, even_next, even_more}
 use Rattle.lifting.proofs.even_line.Given as goal
 
 abbrev pub invariant-loop-j : goal.invariant-loop-j

@@ -1,10 +1,6 @@
 use Prim.Native.Nat.{◌-◌, ◌≤◌}
-use native.Mathlib.Omega.{arith}
-use borrow.Author.Rules.{rules}
 use Rattle.lifting.specs.Fills.{along, Filled}
 use Rattle.lifting.specs.Joins.{row_even}
-use Rattle.lifting.proofs.Filling.{filled_none, filled_end}
-use Rattle.lifting.proofs.JoinRows.{even_row_asks, even_row_more}
 use Rattle.lifting.proofs.even_rows.Given as goal
 
 abbrev pub invariant-loop-j : goal.invariant-loop-j

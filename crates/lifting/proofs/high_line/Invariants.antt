@@ -1,10 +1,6 @@
 use Prim.Native.Nat.{◌-◌, ◌≤◌}
-use native.Mathlib.Omega.{arith}
-use borrow.Author.Rules.{rules}
 use Rattle.lifting.specs.Fills.{along, Filled}
 use Rattle.lifting.specs.Lines.{row_high}
-use Rattle.lifting.proofs.Filling.{filled_end, filled_none}
-use Rattle.lifting.proofs.SplitLines.{highs_ask, highs_more}
 use Rattle.lifting.proofs.high_line.Given as goal
 
 abbrev pub invariant-loop-j : goal.invariant-loop-j

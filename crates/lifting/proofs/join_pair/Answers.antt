@@ -1,5 +1,4 @@
 use native.Mathlib.Omega.{arith}
-use borrow.Author.Rules.{rules}
 use Rattle.lifting.proofs.JoinRows.{bands_count, cells_inside}
 use Rattle.lifting.proofs.JoinPairs.{pair_high_lem, pair_evens, pair_odds, pair_joined}
 use Rattle.lifting.proofs.join_pair.Goals as goal

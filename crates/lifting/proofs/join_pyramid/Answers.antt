@@ -1,9 +1,7 @@
-use Prim.Native.Nat.{◌≤◌}
 use native.Mathlib.Omega.{arith}
 use borrow.Author.Rules.{rules}
 use Rattle.rules.proofs.Laws.Family.Sizes.{legal}
-use Rattle.lifting.specs.Pictures.{Joining}
-use Rattle.lifting.proofs.BackStages.{BackStage, back_block, back_start, block_joining, turn_asks, turn_next, back_end}
+use Rattle.lifting.proofs.BackStages.{back_block, back_start, block_joining, turn_asks, turn_next, back_end}
 use Rattle.lifting.proofs.join_pyramid.Goals as goal
 
 pub overflow_shr-z : goal.overflow_shr-z

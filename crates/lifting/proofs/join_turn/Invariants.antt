@@ -1,8 +1,6 @@
 use Prim.Native.Nat.{◌≤◌}
-use native.Mathlib.Omega.{arith}
-use borrow.Author.Rules.{rules}
 use Rattle.lifting.specs.Joins.{ForJoinTurn}
-use Rattle.lifting.proofs.JoinTurns.{Rejoined, last_row, join_still, rejoined_none, rejoin_pair, rejoin_more, turn_joined}
+use Rattle.lifting.proofs.JoinTurns.{Rejoined}
 use Rattle.lifting.proofs.join_turn.Given as goal
 
 abbrev pub invariant-loop-i : goal.invariant-loop-i

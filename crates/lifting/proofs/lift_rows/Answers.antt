@@ -1,9 +1,6 @@
-use Prim.Native.Nat.{◌-◌, ◌≤◌}
 use native.Mathlib.Omega.{arith}
 use lib.ListN.{length-set}
 use borrow.Author.Rules.{rules}
-use Rattle.lifting.specs.Fills.{along, Both}
-use Rattle.lifting.specs.Lines.{row_high, row_low}
 use Rattle.lifting.proofs.Filling.{both_none, both_end}
 use Rattle.lifting.proofs.SplitLines.{rows_ask_high, rows_ask_low, rows_more}
 use Rattle.lifting.proofs.lift_rows.Goals as goal

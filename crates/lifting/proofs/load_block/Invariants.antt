@@ -1,8 +1,5 @@
 use Prim.Native.Nat.{◌-◌, ◌≤◌}
-use native.Mathlib.Omega.{arith}
-use borrow.Author.Rules.{rules}
 use Rattle.lifting.specs.Joins.{BlockLoaded}
-use Rattle.lifting.proofs.Blocks.{loads_none, loads_end, loads_row, loads_place, loads_asks, loads_more}
 use Rattle.lifting.proofs.load_block.Given as goal
 
 abbrev pub invariant-loop-i : goal.invariant-loop-i

@@ -1,8 +1,4 @@
-use Prim.Native.Nat.{◌-◌, ◌≤◌}
 use native.Mathlib.Omega.{arith}
-use borrow.Author.Rules.{rules}
-use Rattle.lifting.specs.Fills.{along, Filled}
-use Rattle.lifting.specs.Joins.{tones_at}
 use Rattle.lifting.proofs.Filling.{filled_none, filled_end}
 use Rattle.lifting.proofs.JoinLines.{load_asks, load_more}
 use Rattle.lifting.proofs.load_line.Goals as goal

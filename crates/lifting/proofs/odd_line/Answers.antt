@@ -1,8 +1,5 @@
-use Prim.Native.Nat.{◌-◌, ◌≤◌, ◌+◌, ◌*◌}
 use native.Mathlib.Omega.{arith}
 use borrow.Author.Rules.{rules}
-use Rattle.lifting.specs.Fills.{Filled}
-use Rattle.lifting.specs.Joins.{between}
 use Rattle.lifting.proofs.Filling.{filled_none, filled_end}
 use Rattle.lifting.proofs.JoinLines.{odd_asks, odd_more}
 use Rattle.lifting.proofs.odd_line.Goals as goal

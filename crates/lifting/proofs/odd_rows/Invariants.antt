@@ -1,12 +1,7 @@
 use Prim.Native.Nat.{◌-◌, ◌≤◌, ◌+◌}
-use native.Mathlib.Omega.{arith}
-use lib.ListN.{length-set}
-use borrow.Author.Rules.{rules}
 use Rattle.lifting.specs.Fills.{along, Both}
 use Rattle.lifting.specs.Lines.{line}
 use Rattle.lifting.specs.Joins.{row_odd}
-use Rattle.lifting.proofs.Filling.{both_none, both_end}
-use Rattle.lifting.proofs.JoinRows.{odd_row_asks, odd_row_more}
 use Rattle.lifting.proofs.odd_rows.Given as goal
 
 abbrev pub invariant-loop-j : goal.invariant-loop-j

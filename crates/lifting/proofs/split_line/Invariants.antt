@@ -1,12 +1,7 @@
 use mathlib.Core.Path.{◌≡◌}
 use Prim.Native.Nat.{◌-◌, ◌≤◌}
-use native.Mathlib.Omega.{arith}
-use lib.ListN.{length-set}
-use borrow.Author.Rules.{rules}
 use Rattle.lifting.specs.Fills.{along, Both}
 use Rattle.lifting.specs.Lines.{line, high_of, low_of}
-use Rattle.lifting.proofs.Filling.{both_none, both_end}
-use Rattle.lifting.proofs.SplitLines.{first_asks, first_high, split_ask_high, split_ask_low, split_next, split_more}
 use Rattle.lifting.proofs.split_line.Given as goal
 
 abbrev pub invariant-loop-j : goal.invariant-loop-j

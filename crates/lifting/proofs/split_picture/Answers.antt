@@ -1,8 +1,6 @@
-use Prim.Native.Nat.{◌-◌, ◌≤◌}
 use native.Mathlib.Omega.{arith}
 use borrow.Author.Rules.{rules}
-use Rattle.rules.specs.Document.Pyramid.{most_decompositions}
-use Rattle.lifting.proofs.Stages.{few_turns, Stage, stage_none, stage_asks, stage_next, last_block, last_end}
+use Rattle.lifting.proofs.Stages.{few_turns, stage_none, stage_asks, stage_next, last_block, last_end}
 use Rattle.lifting.proofs.split_picture.Goals as goal
 
 pub loop-l-init : goal.loop-l-init

@@ -1,8 +1,6 @@
 use Prim.Native.Nat.{◌-◌, ◌≤◌}
-use native.Mathlib.Omega.{arith}
-use borrow.Author.Rules.{rules}
 use Rattle.rules.specs.Document.Pyramid.{most_decompositions}
-use Rattle.lifting.proofs.Stages.{few_turns, Stage, stage_none, stage_asks, stage_next, last_block, last_end}
+use Rattle.lifting.proofs.Stages.{Stage}
 use Rattle.lifting.proofs.split_picture.Given as goal
 
 abbrev pub invariant-loop-l : goal.invariant-loop-l

@@ -1,9 +1,8 @@
-use Prim.Native.Nat.{◌-◌, ◌*◌, ◌≤◌}
+use Prim.Native.Nat.{◌*◌}
 use native.Mathlib.Omega.{arith}
 use borrow.Author.Rules.{rules}
-use Rattle.lifting.specs.Turns.{ForTurn}
 use Rattle.lifting.proofs.RowLaws.{pairs_there, row_there}
-use Rattle.lifting.proofs.TurnLaws.{Begun, first_line, turn_still, begun_none, begun_pair, begun_more, turn_done}
+use Rattle.lifting.proofs.TurnLaws.{first_line, turn_still, begun_none, begun_pair, begun_more, turn_done}
 use Rattle.lifting.proofs.split_turn.Goals as goal
 
 pub overflow_mul-c : goal.overflow_mul-c

@@ -1,9 +1,6 @@
-use Prim.Native.Nat.{◌-◌, ◌*◌, ◌≤◌}
-use native.Mathlib.Omega.{arith}
-use borrow.Author.Rules.{rules}
+use Prim.Native.Nat.{◌-◌, ◌≤◌}
 use Rattle.lifting.specs.Turns.{ForTurn}
-use Rattle.lifting.proofs.RowLaws.{pairs_there, row_there}
-use Rattle.lifting.proofs.TurnLaws.{Begun, first_line, turn_still, begun_none, begun_pair, begun_more, turn_done}
+use Rattle.lifting.proofs.TurnLaws.{Begun}
 use Rattle.lifting.proofs.split_turn.Given as goal
 
 abbrev pub invariant-loop-i : goal.invariant-loop-i

@@ -1,8 +1,5 @@
 use Prim.Native.Nat.{◌-◌, ◌≤◌}
-use native.Mathlib.Omega.{arith}
-use borrow.Author.Rules.{rules}
 use Rattle.lifting.specs.Turns.{BlockStored}
-use Rattle.lifting.proofs.Blocks.{block_none, block_end, block_row, block_place, block_asks, block_more}
 use Rattle.lifting.proofs.store_block.Given as goal
 
 abbrev pub invariant-loop-i : goal.invariant-loop-i

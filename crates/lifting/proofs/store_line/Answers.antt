@@ -1,10 +1,4 @@
-use Prim.Native.Nat.{◌-◌, ◌≤◌}
 use native.Mathlib.Omega.{arith}
-use lib.IntN.{pos}
-use borrow.Author.Rules.{rules}
-use Rattle.pictures.specs.Laws.Tones.{toned}
-use Rattle.lifting.specs.Fills.{along, Filled}
-use Rattle.lifting.specs.Lines.{line}
 use Rattle.lifting.proofs.Filling.{filled_none, filled_end}
 use Rattle.lifting.proofs.Stored.{store_asks, store_more}
 use Rattle.lifting.proofs.store_line.Goals as goal
@@ -18,7 +12,7 @@ coefficient_of-v-requires c = store_asks c.requires c.loop-j.invariant.1 (omega 
 pub loop-j-preserved : goal.loop-j-preserved
 loop-j-preserved c =
     let v = c.coefficient_of-v in
-    (omega arith, store_more c.requires c.loop-j.invariant.1 (omega arith) _ v.ensures v.type-inv)
+    (omega arith, store_more c.requires c.loop-j.invariant.1 (omega arith) _ v.ensures v.type_inv)
 
 pub returns : goal.returns
 returns c = filled_end c.loop-j.invariant.1 (omega arith)

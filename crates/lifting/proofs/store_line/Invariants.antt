@@ -1,12 +1,8 @@
 use Prim.Native.Nat.{◌-◌, ◌≤◌}
-use native.Mathlib.Omega.{arith}
 use lib.IntN.{pos}
-use borrow.Author.Rules.{rules}
 use Rattle.pictures.specs.Laws.Tones.{toned}
 use Rattle.lifting.specs.Fills.{along, Filled}
 use Rattle.lifting.specs.Lines.{line}
-use Rattle.lifting.proofs.Filling.{filled_none, filled_end}
-use Rattle.lifting.proofs.Stored.{store_asks, store_more}
 use Rattle.lifting.proofs.store_line.Given as goal
 
 abbrev pub invariant-loop-j : goal.invariant-loop-j

@@ -1,5 +1,4 @@
 use native.Mathlib.Omega.{arith}
-use borrow.Author.Rules.{rules}
 use Rattle.rules.proofs.Laws.Family.Sizes.{legal, area_bound}
 use Rattle.lifting.proofs.turn_of.Goals as goal
 
