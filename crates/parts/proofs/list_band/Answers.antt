@@ -1,0 +1,30 @@
+use native.Mathlib.Omega.{arith}
+use mathlib.Core.Path.{◌≡◌, refl, ◌∙◌}
+use Prim.Native.Nat.{◌-◌}
+use lib.ListN.{length}
+use Rattle.rules.specs.Document.Passes.{rows, band_ll}
+use Rattle.rules.proofs.Laws.Family.Sizes.{legal}
+use Rattle.parts.proofs.Begin.{Left, left_band, left_first, left_rest, left_none, rows_next, rows_none, side_under}
+use borrow.Author.Rules.{rules}
+use Rattle.parts.proofs.list_band.Goals as goal
+
+pub overflow_shr-end : goal.overflow_shr-end
+overflow_shr-end c = omega (arith, (legal _ c.requires.legal).few)
+
+pub loop-row-init : goal.loop-row-init
+loop-row-init c = (left_band c.requires, refl)
+
+pub overflow_add-row : goal.overflow_add-row
+overflow_add-row c = let Z = legal _ c.requires.legal in omega (arith, side_under _ _ _ Z.height.most c.loop-row-test.true)
+
+pub list_row-r-requires : goal.list_row-r-requires
+list_row-r-requires c = let more = c.loop-row-test.true in
+    (left_first _ (rows_next _ _ _ more) c.loop-row.invariant.0, more)
+
+pub loop-row-preserved : goal.loop-row-preserved
+loop-row-preserved c = let listed = c.list_row-r.ensures in
+    let before = c.loop-row.invariant in
+    (left_rest (rows_next _ _ _ c.loop-row-test.true) before.0 listed, listed.beside.long ∙ before.1)
+
+pub returns : goal.returns
+returns c = left_none (rows_none _ _ _ (omega arith)) c.loop-row.invariant.0
