@@ -4,7 +4,7 @@ use Rattle.std.proofs.Common.{sym, ◌∙◌, arith, length-take, le-leb}
 use Rattle.std.proofs.lemmas.Bool.{lt-leb}
 use Rattle.rules.specs.declared.Refusal.{Refusal}
 use Rattle.rules.specs.declared.Refusal.TheVariants as refusal
-use Rattle.rules.specs.declared.Verdict.TheVariants.{Accepted, Refused}
+use Rattle.rules.specs.declared.Verdict.TheVariants.{Accepted}
 use Rattle.rules.specs.declared.Served.{Served}
 use Rattle.rules.specs.declared.Header.{Header}
 use Rattle.rules.specs.declared.HeaderRead.{HeaderRead}
@@ -13,7 +13,7 @@ use Rattle.rules.specs.declared.Part.{Part}
 use Rattle.rules.specs.declared.PartRead.{PartRead}
 use Rattle.rules.specs.declared.PartRead.TheVariants as part
 use Rattle.rules.specs.Document.Numbers.{Ending, tail, fault, read_header, read_parts}
-use Rattle.rules.specs.Document.Calls.{refused, unless, on_header, on_ending, portioned, serving, serve_answer, Serving}
+use Rattle.rules.specs.Document.Calls.{unless, on_header, on_ending, portioned, serving, serve_answer, Serving}
 use Rattle.rules.proofs.Laws.Serving.Served.{asks_all, serving_all}
 use Rattle.record.specs.declared.walk.Cursor.{Cursor}
 use Rattle.record.specs.Walk.{past_of, next_falls}
