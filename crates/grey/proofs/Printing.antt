@@ -21,7 +21,6 @@ use Rattle.rules.specs.Document.Calls.{Result, refused, accepted, unless, filled
 use Rattle.rules.proofs.Laws.Family.Sizes.{legal}
 use Rattle.rules.specs.Promises.Vocabulary.{Legal}
 use Rattle.rules.proofs.Laws.Rounding.Planes.{under_first}
-use Rattle.rules.specs.Laws.Bytes.Output.{clipped}
 use Rattle.rules.proofs.Laws.Bytes.Output.{clipped_nothing, clipped_append, clipped_fits}
 use Rattle.rules.proofs.Laws.Offspring.Level.{column_lt, row_lt}
 use Rattle.rules.proofs.Laws.Offspring.Block.{index_place}
