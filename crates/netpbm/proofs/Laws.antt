@@ -14,7 +14,8 @@ use borrow.Author.Tests.{leb-true, leb-false, le-leb, lt-leb, eq-eqb, ne_eqb}
 use Rattle.rules.proofs.Laws.Counting.Booleans.{clash, both_left, both_right, same_test}
 use Rattle.pictures.specs.declared.Grey.{Grey}
 use Rattle.pictures.specs.declared.Grey.TheVariants.{Picture, NotGrey}
-use Rattle.pictures.specs.Document.Netpbm.{line_end, blank, hash, gap_byte, digit, begins, after_comment, after_blanks, after_gap, number, GreyHeader, no_header}
+use Rattle.pictures.specs.Document.Netpbm.{line_end, blank, hash, gap_byte, digit, begins, after_comment, after_blanks, after_gap}
+use Rattle.pictures.specs.Document.Netpbm.{number, GreyHeader, no_header}
 use Rattle.pictures.specs.Document.Netpbm.{header, is_p5, on_magic, on_number, last_blank, on_end, greatest_pixel, read_grey, greatest_told, told}
 use Rattle.pictures.specs.Laws.GreyCauses.{no_more}
 use Rattle.pictures.specs.Laws.GreyCauses.Gap.{a_blank}
@@ -166,7 +167,8 @@ module _ {s : List ℕ} {at i : ℕ} (x : Still after_gap s at i) where
     pub gap_comment : {j : ℕ} → get_or s i 0 ≡ hash → Moved s (i + 1) j (after_comment (drop (i + 1) s)) → Still after_gap s at j
     gap_comment {j} h m =
         still_further x (omega (arith, m.onward)) m.within
-        (gap_byte_lem ∙ ap (λ z. after_blanks z (drop (i + 1) s)) (eq-eqb (get_or s i 0) hash h) ∙ comment_in_gap (drop (i + 1) s) ∙ ap after_gap (sym m.leaves))
+        (gap_byte_lem ∙ ap (λ z. after_blanks z (drop (i + 1) s)) (eq-eqb (get_or s i 0) hash h) ∙ comment_in_gap (drop (i + 1) s)
+        ∙ ap after_gap (sym m.leaves))
 
 -- Digits: what those passed are worth, which may be more than can be told.
 pub with_told : (value d : ℕ) → value ≤ (greatest_told - d) / 10 → d < 10 → 10 * value + d ≡ told (10 * value + d)

@@ -2,7 +2,8 @@
 #![tactic(auto)]
 
 ghost use Rattle.std.specs.Prelude.{◌≡◌, true, ◌+◌, ◌-◌, ◌*◌, ◌^◌, ◌≤◌, ◌<◌, leb, length, get_or, set, drop};
-ghost use Rattle.pictures.specs.Document.Netpbm.{line_end, blank, gap_byte, digit, after_comment, after_gap, is_p5, last_blank, read_grey, told, decimal, grey_lines};
+ghost use Rattle.pictures.specs.Document.Netpbm.{line_end, blank, gap_byte, digit, after_comment, after_gap, is_p5};
+ghost use Rattle.pictures.specs.Document.Netpbm.{last_blank, read_grey, told, decimal, grey_lines};
 ghost use Rattle.netpbm.specs.Places.{Moved, DigitsAt, FieldAt, EndTold, GreatestTold};
 ghost use Rattle.netpbm.specs.Told.{Tells};
 ghost use Rattle.netpbm.specs.Wrote.{Wrote, width_line, side_lines};
