@@ -47,7 +47,8 @@ use Rattle.joins.specs.Laws.ByName.{Among, none, this, other, all_names, first}
 use Rattle.joins.proofs.Laws.ByName.{after_other, among_all, named_none, all_in_order, parts_among}
 use Rattle.joins.proofs.Laws.Gathered.{or_first}
 use Rattle.joins.specs.Laws.Joined.{Agrees}
-use Rattle.joins.proofs.Laws.Joined.{Readable, readable_within, agrees_clear, same_bytes_lem, bytes_same, same_header, on_record_readable, joining_read}
+use Rattle.joins.specs.Laws.Joined.{Readable}
+use Rattle.joins.proofs.Laws.Joined.{readable_within, agrees_clear, same_bytes_lem, bytes_same, same_header, on_record_readable, joining_read}
 use Rattle.joins.proofs.Laws.JoinRefusals.{clash_behind}
 use Rattle.survey.specs.declared.Survey.{Survey}
 use Rattle.survey.specs.Surveyed.{survey_of}

@@ -23,7 +23,7 @@ use Rattle.rules.specs.Laws.Bytes.Output.{clipped}
 use Rattle.record.specs.Named.{named}
 use Rattle.joins.specs.Document.Joining.{joined_part, unless_clash, joining}
 use Rattle.joins.specs.Laws.ByName.{Among}
-use Rattle.joins.proofs.Laws.Joined.{Readable}
+use Rattle.joins.specs.Laws.Joined.{Readable}
 use Rattle.record.specs.declared.walk.Cursor.{Cursor}
 use Rattle.record.specs.Walk.{past_of}
 use Rattle.joiner.specs.declared.Offer.{Offer}

@@ -15,7 +15,8 @@ use Rattle.joins.specs.Document.Joining.{or_else, joined_part, joined_bytes, joi
 use Rattle.joins.specs.Laws.ByName.{all_names}
 use Rattle.joins.proofs.Laws.ByName.{record_by_name}
 use Rattle.joins.specs.Laws.Joined.{part_of, either_of, join_of}
-use Rattle.joins.proofs.Laws.Joined.{Readable, Joinable, one_header, joining_joinable, joining_joined, joined_record}
+use Rattle.joins.specs.Laws.Joined.{Readable, Joinable}
+use Rattle.joins.proofs.Laws.Joined.{one_header, joining_joinable, joining_joined, joined_record}
 
 -- Records put together: by the same header bytes and the same part under each name they are the same bytes.
 join_same : (h : Header) (a b c d : List ℕ) → take h.end a ≡ take h.end c → ((x : PartName) → either_of h a b x ≡ either_of h c d x)

@@ -19,7 +19,8 @@ use Rattle.joins.specs.Document.Joining.{or_else, joined_part, joined_bytes, joi
 use Rattle.joins.specs.Laws.ByName.{all_names}
 use Rattle.joins.proofs.Laws.ByName.{record_by_name}
 use Rattle.joins.specs.Laws.Joined.{part_of, join_of}
-use Rattle.joins.proofs.Laws.Joined.{Readable, same_header}
+use Rattle.joins.specs.Laws.Joined.{Readable}
+use Rattle.joins.proofs.Laws.Joined.{same_header}
 use Rattle.joins.specs.Laws.JoinCauses.{ReadingCase, HEADER, PARTS, Reads, JoiningCase, FIRST, SECOND, ROOM}
 use Rattle.joins.proofs.Laws.JoinRefusals.{joining_case}
 

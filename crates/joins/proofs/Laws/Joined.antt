@@ -37,34 +37,7 @@ use Rattle.joins.specs.Laws.ByName.{found, all_names, first}
 use Rattle.joins.proofs.Laws.ByName.{named_found, after_other, all_in_order, parts_present}
 use Rattle.joins.specs.Laws.Gathered.{Gathered}
 use Rattle.joins.proofs.Laws.Gathered.{gathered, under_named, under_either, or_first, piece_some}
-use Rattle.joins.specs.Laws.Joined.{part_of, either_of, join_of, Own, Agrees}
-
--- A record that reading accepts: its header, and how long its tail is.
-pub record Readable (s : List ℕ) (h : Header) : Type 0 where
-  pub read : read_header s ≡ header.Header h
-  pub cut : ℕ
-  pub ending : (read_parts h s).ending ≡ tail cut
-
--- Two records that can be joined: both have this header, and under each name it is the same which of them comes first.
-pub record Joinable (a b : List ℕ) (h : Header) : Type 0 where
-  pub one : Readable a h
-  pub two : Readable b h
-  pub front : take h.end a ≡ take h.end b
-  pub agree : (x : PartName) → either_of h a b x ≡ either_of h b a x
-
--- What joining two records gave: they can be joined, and it is what has all their parts.
-pub record IsJoined (a b j : List ℕ) : Type 0 where
-  pub head : Header
-  pub joinable : Joinable a b head
-  pub bytes : j ≡ join_of head a b
-
--- And what is known of it: it is a record with that header, without a tail; its parts; serving it whole gives it back.
-pub record JoinedRecord (a b : List ℕ) (h : Header) (j : List ℕ) : Type 0 where
-  pub read : read_header j ≡ header.Header h
-  pub ending : (read_parts h j).ending ≡ tail 0
-  pub front : take h.end j ≡ take h.end a
-  pub part : (x : PartName) → part_of h j x ≡ either_of h a b x
-  pub served : serving j 1 0 (length j) ≡ accepted (record { bytes = j; tail = 0 })
+use Rattle.joins.specs.Laws.Joined.{part_of, either_of, join_of, Readable, Joinable, IsJoined, JoinedRecord, Own, Agrees}
 
 -- The same bytes.
 pub same_bytes_lem : (xs ys : List ℕ) → same_bytes xs ys ≡ true → xs ≡ ys

@@ -34,7 +34,8 @@ use Rattle.joins.specs.Document.Joining.{or_else, joined_part, joined_bytes, joi
 use Rattle.joins.specs.Laws.ByName.{found, held_names, held_bytes, Among, none, this, other, all_names, first}
 use Rattle.joins.proofs.Laws.ByName.{by_name, named_found, all_in_order}
 use Rattle.joins.specs.Laws.Joined.{part_of, either_of, join_of}
-use Rattle.joins.proofs.Laws.Joined.{Readable, joining_joinable}
+use Rattle.joins.specs.Laws.Joined.{Readable}
+use Rattle.joins.proofs.Laws.Joined.{joining_joinable}
 use Rattle.joins.specs.Laws.JoinedSelections.{whole_there, in_either}
 
 -- what the coder wrote of a part

@@ -1,6 +1,6 @@
 -- What is joined: two records with one header that agree on the parts they share; and it is a record again, without a tail, that has under each name
 -- the part of the first, else that of the second.
-use Rattle.std.specs.Prelude.{◌≡◌, ◌&&◌, ◌||◌, ◌⊎◌, ℕ, ◌≤◌, length}
+use Rattle.std.specs.Prelude.{◌≡◌, ◌&&◌, ◌||◌, ◌⊎◌, ℕ, ◌≤◌, length, take}
 use Rattle.std.proofs.Common.{◌∙◌, true≢false}
 use mathlib.Core.List.{List, [], ◌∷◌, ◌++◌}
 use Rattle.std.proofs.Math.Bool.{true}
@@ -10,7 +10,8 @@ use Rattle.rules.specs.declared.HeaderRead.TheVariants as header
 use Rattle.rules.specs.declared.Part.{Part}
 use Rattle.rules.specs.Document.Passes.{PartName}
 use Rattle.rules.specs.Document.Layout.{whole_of, name_of, same_name}
-use Rattle.rules.specs.Document.Numbers.{read_parts}
+use Rattle.rules.specs.Document.Numbers.{tail, read_header, read_parts}
+use Rattle.rules.specs.Document.Calls.{accepted, serving}
 use Rattle.rules.specs.Laws.Counting.Sums.{All}
 use Rattle.joins.specs.Document.Joining.{part_named, joined_part, joined_bytes}
 use Rattle.joins.specs.Laws.ByName.{found, first}
@@ -24,6 +25,33 @@ either_of h a b x = joined_part a (read_parts h a).parts b (read_parts h b).part
 
 abbrev pub join_of : Header → List ℕ → List ℕ → List ℕ
 join_of h a b = joined_bytes h a (read_parts h a).parts b (read_parts h b).parts
+
+-- A record that reading accepts: its header, and how long its tail is.
+pub record Readable (s : List ℕ) (h : Header) : Type 0 where
+  pub read : read_header s ≡ header.Header h
+  pub cut : ℕ
+  pub ending : (read_parts h s).ending ≡ tail cut
+
+-- Two records that can be joined: both have this header, and under each name it is the same which of them comes first.
+pub record Joinable (a b : List ℕ) (h : Header) : Type 0 where
+  pub one : Readable a h
+  pub two : Readable b h
+  pub front : take h.end a ≡ take h.end b
+  pub agree : (x : PartName) → either_of h a b x ≡ either_of h b a x
+
+-- What joining two records gave: they can be joined, and it is what has all their parts.
+pub record IsJoined (a b j : List ℕ) : Type 0 where
+  pub head : Header
+  pub joinable : Joinable a b head
+  pub bytes : j ≡ join_of head a b
+
+-- And what is known of it: it is a record with that header, without a tail; its parts; serving it whole gives it back.
+pub record JoinedRecord (a b : List ℕ) (h : Header) (j : List ℕ) : Type 0 where
+  pub read : read_header j ≡ header.Header h
+  pub ending : (read_parts h j).ending ≡ tail 0
+  pub front : take h.end j ≡ take h.end a
+  pub part : (x : PartName) → part_of h j x ≡ either_of h a b x
+  pub served : serving j 1 0 (length j) ≡ accepted (record { bytes = j; tail = 0 })
 
 -- Each part of a record is what is found under its name, and has some bytes.
 pub record Own (s : List ℕ) (ps : List Part) (p : Part) : Type 0 where
