@@ -507,6 +507,7 @@ copied_long lent zeroed copied own z w = ap length w ∙ length-sets zeroed 0 ow
 -- The end: no name is left.
 among_end : (xs : List PartName) → Among xs [] → xs ≡ []
 among_end [] none = refl
+among_end (_ ∷ _) some = elim some [ ]
 
 nothing_left : (ps : List Part) → map name_of ps ≡ [] → ps ≡ []
 nothing_left [] e = refl
@@ -566,7 +567,8 @@ surveyed_refused : {X : Type 0} (s : List ℕ) (go : Header → List Part → Re
     → on_record s go ≡ refused r
 unfolding on_record on_header on_ending
 surveyed_refused s go r =
-    survey_of_case (λ v. v.verdict ≡ Refused r → on_record s go ≡ refused r) s (λ q f e. rw f (ap refused (one e))) (λ h q f g e. rw (f, g) (ap refused (one e)))
+    survey_of_case (λ v. v.verdict ≡ Refused r → on_record s go ≡ refused r) s (λ q f e. rw f (ap refused (one e)))
+    (λ h q f g e. rw (f, g) (ap refused (one e)))
     (λ h t f g e. absurd (accepted_refused e))
   where
     one : {q : Refusal} → Refused q ≡ Refused r → q ≡ r

@@ -1,0 +1,10 @@
+use lib.ListN.{length}
+use Rattle.rules.specs.Document.Numbers.{top_level}
+use Rattle.joiner.specs.Ahead.{names_from, Ahead}
+use Rattle.joiner.proofs.one_plane.Given as goal
+
+abbrev pub invariant-loop-level : goal.invariant-loop-level
+invariant-loop-level l = Ahead l.first l.second l.h (length l.initial.out) (names_from (top_level l.h) l.plane.0 l.level) l.now l.out
+
+abbrev pub decreases-loop-level : goal.decreases-loop-level
+decreases-loop-level l = l.level
