@@ -5,7 +5,8 @@ ghost use Rattle.std.specs.Prelude.{◌≡◌, map, ◌+◌, ◌*◌, ◌≤◌,
 ghost use Rattle.std.proofs.lemmas.List.Edits.{sets};
 ghost use Rattle.rules.specs.Document.Passes.{from};
 ghost use Rattle.rules.specs.Document.Numbers.{refusal_number, refusal_place, verdict_number, verdict_place};
-ghost use Rattle.rules.specs.Document.Calls.{level_places, code_places, serve_places, decode_places, code_numbers, serve_numbers, plane_in, count_in, decode_numbers};
+ghost use Rattle.rules.specs.Document.Calls.{level_places, code_places, serve_places, decode_places};
+ghost use Rattle.rules.specs.Document.Calls.{code_numbers, serve_numbers, plane_in, count_in, decode_numbers};
 ghost use Rattle.survey.specs.Surveyed.{survey_places, survey_numbers};
 ghost use Rattle.pictures.specs.Document.Calls.{grey_read_numbers, grey_written_numbers, grey_places};
 ghost use Rattle.answers.specs.Report.{verdict_numbers, level_numbers, Reported};
