@@ -1,3 +1,4 @@
+-- `coder::code_fitted`: the length decides.
 use borrow.Author.Rules.{rules}
 use Rattle.coder.proofs.Outcomes.{fitted_refused, fitted_accepted}
 use Rattle.coder.proofs.code_fitted.Goals as goal

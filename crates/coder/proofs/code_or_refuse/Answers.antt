@@ -1,3 +1,4 @@
+-- `coder::code_or_refuse`: the input's verdict decides, or leaves it to the room.
 use borrow.Author.Rules.{rules}
 use Rattle.coder.proofs.Outcomes.{accepted_given, accepted_answered, refusal_answered}
 use Rattle.coder.proofs.code_or_refuse.Goals as goal

@@ -1,3 +1,4 @@
+-- `coder::judged`: the tests of the input, in document 01's order.
 use mathlib.Core.Path.{sym, ◌∙◌}
 use borrow.Author.Rules.{rules}
 use borrow.Author.Tests.{not-true, not-false}

@@ -1,3 +1,4 @@
+-- `coder::write_part`: the pass writes the body, the head comes before it.
 use borrow.Author.Rules.{rules}
 use Rattle.coder.proofs.Parts.{part_ready, part_forward, part_bits, part_written}
 use Rattle.coder.proofs.write_part.Goals as goal

@@ -1,3 +1,4 @@
+-- `coder::write_parts`: the pyramid held, the lists at their start, then all parts.
 use borrow.Author.Rules.{rules}
 use Rattle.coder.proofs.Records.{copied_fillable, filled_room, parts_holding, parts_going, parts_stored}
 use Rattle.coder.proofs.write_parts.Goals as goal

@@ -1,3 +1,4 @@
+-- `coder::write_plane`: the levels from the coarsest down to 1.
 use native.Mathlib.Numerals.{add-one}
 use native.Mathlib.Omega.{arith}
 use borrow.Author.Rules.{rules}

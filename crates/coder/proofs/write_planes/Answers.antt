@@ -1,3 +1,4 @@
+-- `coder::write_planes`: the planes from the highest down to 0.
 use Prim.Native.Nat.{◌-◌}
 use borrow.Author.Rules.{rules}
 use Rattle.coder.specs.Writing.{stage_of}

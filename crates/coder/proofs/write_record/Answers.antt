@@ -1,3 +1,4 @@
+-- `coder::write_record`: header, then all parts.
 use borrow.Author.Rules.{rules}
 use Rattle.coder.proofs.Outcomes.{stored_room}
 use Rattle.coder.proofs.Records.{planes_few, header_clear, header_short, record_stored}

@@ -1,3 +1,4 @@
+-- `coefficients::first_over`: no index passed is over, so the first found is the lowest.
 use Prim.Native.Nat.{◌≤◌, ◌-◌}
 use native.Mathlib.Omega.{arith}
 use lib.ListN.{length}

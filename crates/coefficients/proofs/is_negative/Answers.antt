@@ -1,3 +1,4 @@
+-- `coefficients::is_negative`: the test of the sign.
 use Rattle.coefficients.proofs.Signed.{negative_read}
 use Rattle.coefficients.proofs.is_negative.Goals as goal
 

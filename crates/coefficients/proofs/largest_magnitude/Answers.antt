@@ -1,3 +1,4 @@
+-- `coefficients::largest_magnitude`: the largest so far and the rest give the largest of all.
 use Prim.Native.Nat.{◌≤◌, ◌-◌}
 use native.Mathlib.Omega.{arith}
 use lib.ListN.{length}

@@ -1,3 +1,4 @@
+-- `coefficients::magnitude_at`: the magnitude of what is read.
 use mathlib.Core.Path.{◌∙◌}
 use borrow.Author.Rules.{rules}
 use Rattle.coefficients.proofs.Signed.{magnitude_read}

@@ -1,3 +1,4 @@
+-- `coefficients::magnitude_of`: in 64 bits the opposite of every 32 bit number fits.
 use mathlib.Core.Path.{sym, ap, ◌∙◌}
 use native.Mathlib.Omega.{arith}
 use lib.IntN.{nat_abs}

@@ -1,3 +1,4 @@
+-- `coefficients::threshold_of`: the shift stays under the width.
 use mathlib.Core.Path.{◌∙◌}
 use native.Mathlib.Nat.{one-mul}
 use native.Mathlib.Omega.{arith}

@@ -1,3 +1,4 @@
+-- `decoder::decode`: header, pyramid, workspace, parts.
 use Rattle.decoder.proofs.LawsAnswer.{area_fits, size_legal, least_known, header_lent}
 use Rattle.decoder.proofs.LawsAnswer.{decoding_refused, decoding_length, decoding_work, decoding_parts}
 use Rattle.decoder.proofs.LawsAnswer.{answered_decoding, refusing_decoding}

@@ -1,3 +1,4 @@
+-- `decoder::decode_parts`: the walk begins, and goes on to its end.
 use Rattle.decoder.proofs.LawsWalk.{lent_roomy, walking_first, begun_answered}
 use borrow.Author.Rules.{rules}
 use Rattle.decoder.proofs.decode_parts.Goals as goal

@@ -1,3 +1,4 @@
+-- `decoder::decode_usable`: the bits asked for decide.
 use Rattle.decoder.proofs.LawsPart.{part_fits, part_unfit}
 use Rattle.decoder.proofs.LawsPart.{level_within}
 use borrow.Author.Rules.{rules}

@@ -1,3 +1,4 @@
+-- `decoder::take_part`: decoded if it is usable, else walked over.
 use Rattle.rules.specs.Document.Layout.{name_of}
 use Rattle.decoder.proofs.LawsPart.{part_decoded, part_over}
 use Rattle.decoder.proofs.LawsPart.{level_within}

@@ -1,3 +1,4 @@
+-- `decoder::walk_all`: turn by turn; the lengths of what was lent stay.
 use mathlib.Core.Path.{◌≡◌}
 use Prim.Native.Nat.{◌-◌}
 use lib.ListN.{length}

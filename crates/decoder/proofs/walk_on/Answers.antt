@@ -1,3 +1,4 @@
+-- `decoder::walk_on`: one turn, by what `next` gives.
 use Rattle.decoder.proofs.LawsPart.{read_taking, cut_taking, turned_part, turned_cut, turned_tail, turned_refused}
 use borrow.Author.Rules.{rules}
 use Rattle.decoder.proofs.walk_on.Goals as goal

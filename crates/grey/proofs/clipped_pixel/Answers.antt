@@ -1,3 +1,4 @@
+-- `grey::clipped_pixel`: a tone under the bias, over 255, or between.
 use Rattle.grey.proofs.Laws.{clip_under, clip_over, clip_between}
 use Rattle.grey.proofs.clipped_pixel.Goals as goal
 

@@ -1,3 +1,4 @@
+-- `grey::grey_in`: what was read and judged decides, or the pixels are lifted.
 use Rattle.grey.proofs.Taking.{in_none, in_refused, in_lifting, in_lifted}
 use borrow.Author.Rules.{rules}
 use Rattle.grey.proofs.grey_in.Goals as goal

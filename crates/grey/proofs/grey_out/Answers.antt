@@ -1,3 +1,4 @@
+-- `grey::grey_out`: what was judged decides, or the picture is printed.
 use Rattle.grey.proofs.Printing.{out_printing, out_refused, out_printed}
 use borrow.Author.Rules.{rules}
 use Rattle.grey.proofs.grey_out.Goals as goal

@@ -1,3 +1,4 @@
+-- `grey::grey_size`: what is told of the file.
 use Rattle.grey.proofs.Taking.{size_none, size_told_lem}
 use borrow.Author.Rules.{rules}
 use Rattle.grey.proofs.grey_size.Goals as goal

@@ -1,3 +1,4 @@
+-- `grey::has_room`: by what is left behind the place.
 use Rattle.grey.proofs.Printing.{room_none, room_left}
 use Rattle.grey.proofs.has_room.Goals as goal
 

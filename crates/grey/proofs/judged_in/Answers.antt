@@ -1,3 +1,4 @@
+-- `grey::judged_in`: the tests in document 02's order.
 use mathlib.Core.Path.{sym, ◌∙◌}
 use Rattle.grey.proofs.Judged.{area_small, judged_size, judged_length, judged_work, judged_fits}
 use borrow.Author.Rules.{rules}

@@ -1,3 +1,4 @@
+-- `grey::judged_out`: what is left to judge of a pyramid is its range.
 use Rattle.grey.proofs.Judged.{over_range, over_refused, over_none}
 use Rattle.grey.proofs.judged_out.Goals as goal
 

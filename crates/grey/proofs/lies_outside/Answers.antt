@@ -1,3 +1,4 @@
+-- `grey::lies_outside`: under the bias, or by how much it is over.
 use Rattle.grey.proofs.Laws.{outside_under, outside_over}
 use Rattle.grey.proofs.lies_outside.Goals as goal
 

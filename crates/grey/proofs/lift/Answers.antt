@@ -1,3 +1,4 @@
+-- `grey::lift`: the pixels are loaded, and their tones split.
 use mathlib.Core.Path.{refl, ap, ◌∙◌}
 use native.Mathlib.Omega.{arith}
 use Rattle.rules.specs.Document.Notation.{zeros}

@@ -1,3 +1,4 @@
+-- `grey::load_pixels`: the pixels passed stand as tones.
 use mathlib.Core.Path.{refl, ◌∙◌}
 use Prim.Native.Nat.{◌<◌}
 use native.Mathlib.Omega.{arith}

@@ -1,3 +1,4 @@
+-- `grey::one_more`: one is added where the tone lies outside.
 use Rattle.grey.proofs.Laws.{counted_outside, counted_inside}
 use Rattle.grey.proofs.one_more.Goals as goal
 

@@ -1,3 +1,4 @@
+-- `grey::print`: the lines, and with room the pixels behind them.
 use mathlib.Core.Path.{sym, ◌∙◌}
 use borrow.Author.Tests.{leb-true}
 use Rattle.grey.proofs.Printing.{prints_short, prints_whole}

@@ -1,3 +1,4 @@
+-- `grey::print_pixels`: the tones of the picture, stored and counted.
 use Rattle.grey.proofs.Printing.{joining, joined_numbers, pixels_printed}
 use mathlib.Core.Path.{ap, ◌∙◌}
 use native.Mathlib.Omega.{arith}

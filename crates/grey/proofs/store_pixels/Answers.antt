@@ -1,3 +1,4 @@
+-- `grey::store_pixels`: the tones passed are stored and counted.
 use mathlib.Core.Path.{refl, ◌∙◌}
 use native.Mathlib.Omega.{arith}
 use lib.ListN.{length-set}

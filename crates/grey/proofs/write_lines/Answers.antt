@@ -1,3 +1,4 @@
+-- `grey::write_lines`: the lines, in zeros.
 use Rattle.grey.proofs.Printing.{sides_short}
 use mathlib.Core.Path.{ap, ◌∙◌}
 use native.Mathlib.Nat.{zero-add}

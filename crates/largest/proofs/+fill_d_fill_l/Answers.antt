@@ -1,3 +1,4 @@
+-- `fill_d` and `fill_l`, which call each other: 2 x level + 1 falls for D, 2 x level for L.
 use Rattle.std.proofs.Common.{rules}
 use Rattle.largest.proofs.Steps.{first_d, next_d, next_l}
 use Rattle.largest.proofs.+fill_d_fill_l.Goals as goal

@@ -1,3 +1,4 @@
+-- `lifting::coefficient_of`: a tone less the bias fits, and is the number.
 use borrow.Author.Rules.{rules}
 use Rattle.lifting.proofs.Signs.{coefficient_fits, coefficient_is}
 use Rattle.lifting.proofs.coefficient_of.Goals as goal

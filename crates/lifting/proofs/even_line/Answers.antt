@@ -1,3 +1,4 @@
+-- `lifting::even_line`: one more even number each turn; the high before is carried along.
 use native.Mathlib.Omega.{arith}
 use borrow.Author.Rules.{rules}
 use Rattle.lifting.proofs.Filling.{filled_none, filled_end}

@@ -1,3 +1,4 @@
+-- `lifting::high_line`: one more high each turn; the three rows stand as they stood.
 use native.Mathlib.Omega.{arith}
 use borrow.Author.Rules.{rules}
 use Rattle.lifting.proofs.Filling.{filled_end, filled_none}

@@ -1,3 +1,4 @@
+-- `lifting::join_high_row`: loaded, then joined.
 use native.Mathlib.Omega.{arith}
 use borrow.Author.Rules.{rules}
 use Rattle.lifting.proofs.JoinRows.{bands_there, bands_count, high_loads, high_joins, high_row_joined}

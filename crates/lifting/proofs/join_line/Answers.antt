@@ -1,3 +1,4 @@
+-- `lifting::join_line`: the even numbers, mirrored, then the odd ones.
 use borrow.Author.Rules.{rules}
 use Rattle.lifting.proofs.JoinLines.{join_odds, line_joined}
 use Rattle.lifting.proofs.join_line.Goals as goal

@@ -1,3 +1,4 @@
+-- `lifting::join_low_row`: its highs loaded, then joined.
 use native.Mathlib.Omega.{arith}
 use borrow.Author.Rules.{rules}
 use Rattle.lifting.proofs.JoinRows.{low_inside, bands_there, low_loads, low_joins, low_row_joined}

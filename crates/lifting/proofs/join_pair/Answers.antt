@@ -1,3 +1,4 @@
+-- `lifting::join_pair`: rows of lows and highs joined, then columns.
 use native.Mathlib.Omega.{arith}
 use Rattle.lifting.proofs.JoinRows.{bands_count, cells_inside}
 use Rattle.lifting.proofs.JoinPairs.{pair_high_lem, pair_evens, pair_odds, pair_joined}

@@ -1,3 +1,4 @@
+-- `lifting::join_pyramid`: what was turned back stands in the workspace.
 use native.Mathlib.Omega.{arith}
 use borrow.Author.Rules.{rules}
 use Rattle.rules.proofs.Laws.Family.Sizes.{legal}

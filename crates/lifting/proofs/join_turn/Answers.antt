@@ -1,3 +1,4 @@
+-- `lifting::join_turn`: rows from 2i on are the picture; what is before them is as it was.
 use native.Mathlib.Omega.{arith}
 use borrow.Author.Rules.{rules}
 use Rattle.lifting.proofs.JoinTurns.{last_row, join_still, rejoined_none, rejoin_pair, rejoin_more, turn_joined}

@@ -1,3 +1,4 @@
+-- `lifting::lift_rows`: one more low and one more high each turn; the highs before are read where the new ones are stored.
 use native.Mathlib.Omega.{arith}
 use lib.ListN.{length-set}
 use borrow.Author.Rules.{rules}

@@ -1,3 +1,4 @@
+-- `lifting::load_block`: one more row each turn.
 use native.Mathlib.Omega.{arith}
 use borrow.Author.Rules.{rules}
 use Rattle.lifting.proofs.Blocks.{loads_none, loads_end, loads_row, loads_place, loads_asks, loads_more}

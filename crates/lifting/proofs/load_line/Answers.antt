@@ -1,3 +1,4 @@
+-- `lifting::load_line`: one more tone each turn.
 use native.Mathlib.Omega.{arith}
 use Rattle.lifting.proofs.Filling.{filled_none, filled_end}
 use Rattle.lifting.proofs.JoinLines.{load_asks, load_more}

@@ -1,3 +1,4 @@
+-- `lifting::odd_line`: one more odd number each turn.
 use native.Mathlib.Omega.{arith}
 use borrow.Author.Rules.{rules}
 use Rattle.lifting.proofs.Filling.{filled_none, filled_end}

@@ -1,3 +1,4 @@
+-- `lifting::odd_rows`: one more odd number each turn, and the highs before moved.
 use native.Mathlib.Omega.{arith}
 use lib.ListN.{length-set}
 use borrow.Author.Rules.{rules}

@@ -1,3 +1,4 @@
+-- `lifting::split_high_row`: mirrored, split, and all of it stored.
 use native.Mathlib.Omega.{arith}
 use borrow.Author.Rules.{rules}
 use Rattle.lifting.proofs.RowLaws.{rows_there, pairs_there, high_row_splits, high_row_stores, high_row_lem}

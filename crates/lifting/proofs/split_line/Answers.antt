@@ -1,3 +1,4 @@
+-- `lifting::split_line`: one more low and one more high each turn; the high before is carried along.
 use native.Mathlib.Omega.{arith}
 use lib.ListN.{length-set}
 use Rattle.lifting.proofs.Filling.{both_none, both_end}

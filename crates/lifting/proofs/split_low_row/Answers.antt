@@ -1,3 +1,4 @@
+-- `lifting::split_low_row`: mirrored, split, and its highs stored.
 use native.Mathlib.Omega.{arith}
 use borrow.Author.Rules.{rules}
 use Rattle.lifting.proofs.RowLaws.{row_inside, rows_there, low_row_splits, low_row_stores, low_row_lem}

@@ -1,3 +1,4 @@
+-- `lifting::split_pair`: the rows of lows and highs, made of three rows of the picture and the highs before.
 use Prim.Native.Nat.{◌*◌}
 use native.Mathlib.Omega.{arith}
 use borrow.Author.Rules.{rules}

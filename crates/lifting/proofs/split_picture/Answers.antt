@@ -1,3 +1,4 @@
+-- `lifting::split_picture`: what is still to be turned stands in the workspace, all else in the pyramid.
 use native.Mathlib.Omega.{arith}
 use borrow.Author.Rules.{rules}
 use Rattle.lifting.proofs.Stages.{few_turns, stage_none, stage_asks, stage_next, last_block, last_end}

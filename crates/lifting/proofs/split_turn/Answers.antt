@@ -1,3 +1,4 @@
+-- `lifting::split_turn`: rows before i are done, the picture from row i of the next one on is as it was, the last row of highs stands in its line.
 use Prim.Native.Nat.{◌*◌}
 use native.Mathlib.Omega.{arith}
 use borrow.Author.Rules.{rules}

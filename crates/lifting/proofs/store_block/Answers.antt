@@ -1,3 +1,4 @@
+-- `lifting::store_block`: one more row each turn.
 use native.Mathlib.Omega.{arith}
 use borrow.Author.Rules.{rules}
 use Rattle.lifting.proofs.Blocks.{block_none, block_end, block_row, block_place, block_asks, block_more}

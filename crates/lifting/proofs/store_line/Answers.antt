@@ -1,3 +1,4 @@
+-- `lifting::store_line`: one more coefficient each turn.
 use native.Mathlib.Omega.{arith}
 use Rattle.lifting.proofs.Filling.{filled_none, filled_end}
 use Rattle.lifting.proofs.Stored.{store_asks, store_more}

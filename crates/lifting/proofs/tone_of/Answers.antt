@@ -1,3 +1,4 @@
+-- `lifting::tone_of`:
 use mathlib.Core.Path.{ap}
 use native.Mathlib.Omega.{arith}
 use lib.IntN.{nat_abs}

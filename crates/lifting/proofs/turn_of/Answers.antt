@@ -1,3 +1,4 @@
+-- `lifting::turn_of`: the sides are small enough.
 use native.Mathlib.Omega.{arith}
 use Rattle.rules.proofs.Laws.Family.Sizes.{legal, area_bound}
 use Rattle.lifting.proofs.turn_of.Goals as goal

@@ -1,3 +1,4 @@
+-- `netpbm::write_decimal`, which calls itself: the number falls.
 use native.Mathlib.Omega.{arith}
 use Rattle.netpbm.proofs.Written.{wrote_last, wrote_next}
 use Rattle.netpbm.proofs.+write_decimal.Goals as goal

@@ -1,3 +1,4 @@
+-- `server::keep`: a part that is asked for is copied, any other is not.
 use Rattle.server.proofs.Laws.{kept_coarse, kept_low, kept_whole}
 use borrow.Author.Rules.{rules}
 use Rattle.server.proofs.keep.Goals as goal

@@ -1,3 +1,4 @@
+-- `server::legal_ask`: level, then plane.
 use Rattle.server.proofs.Laws.{ask_low, ask_high, ask_plane}
 use borrow.Author.Rules.{rules}
 use Rattle.server.proofs.legal_ask.Goals as goal

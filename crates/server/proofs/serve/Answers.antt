@@ -1,3 +1,4 @@
+-- `server::serve`: by what was read of the header.
 use Rattle.record.specs.Walk.{header_found}
 use Rattle.server.proofs.Laws.{unheaded}
 use borrow.Author.Rules.{rules}

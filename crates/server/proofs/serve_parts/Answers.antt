@@ -1,3 +1,4 @@
+-- `server::serve_parts`: the request, the walk, at the very end the room.
 use borrow.Author.Tests.{not-true, not-false}
 use Rattle.server.proofs.Laws.{unasked, begun, faulted, roomless, served}
 use borrow.Author.Rules.{rules}

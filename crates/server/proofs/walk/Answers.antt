@@ -1,3 +1,4 @@
+-- `server::walk`: what `next` gives goes on, ends or refuses the walk; the cursor's place rises.
 use Rattle.record.specs.Walk.{next_falls}
 use Rattle.server.proofs.Laws.{walking_first, walking_legal, walking_copies, walking_past, walking_same, walking_whole, walking_fault}
 use borrow.Author.Rules.{rules}

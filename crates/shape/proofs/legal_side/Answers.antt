@@ -1,3 +1,4 @@
+-- `shape::legal_side`: the bounds first, then the power of two, which fits.
 use native.Mathlib.Omega.{arith}
 use borrow.Author.Rules.{rules}
 use Rattle.shape.proofs.Sizes.{shifted_some, side_short, side_long, side_multiple}

@@ -1,3 +1,4 @@
+-- `shape::level_size`: the end is never before the start.
 use mathlib.Core.Path.{ap₂}
 use Prim.Native.Nat.{ℕ, ◌-◌}
 use native.Mathlib.Omega.{arith}

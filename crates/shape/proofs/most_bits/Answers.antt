@@ -1,3 +1,4 @@
+-- `shape::most_bits`: products that stay small.
 use borrow.Author.Rules.{rules}
 use Rattle.shape.proofs.Sizes.{area_small, fourfold_small}
 use Rattle.shape.proofs.most_bits.Goals as goal

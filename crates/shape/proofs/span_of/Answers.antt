@@ -1,3 +1,4 @@
+-- `shape::span_of`: the product of the halved sides is at most the area.
 use mathlib.Core.Path.{refl}
 use native.Mathlib.Omega.{arith}
 use Rattle.rules.specs.Laws.Family.Sizes.{span}

@@ -1,3 +1,4 @@
+-- `survey::listed`: the length decides first.
 use mathlib.Core.Path.{sym, ◌∙◌}
 use Rattle.survey.proofs.AsServing.{listed_short, listed_long}
 use Rattle.survey.proofs.listed.Goals as goal

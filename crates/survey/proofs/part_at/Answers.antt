@@ -1,3 +1,4 @@
+-- `survey::part_at`: by what was read of the header.
 use Rattle.record.specs.Walk.{found_legal}
 use Rattle.survey.proofs.Laws.{found_at}
 use borrow.Author.Rules.{rules}

@@ -1,3 +1,4 @@
+-- `survey::walk`: what `next` gives goes on, ends or refuses the survey; the cursor's place rises.
 use Rattle.record.specs.Walk.{next_falls}
 use Rattle.survey.proofs.Laws.{surveying_first, surveying_legal, surveying_past, surveying_whole, surveying_fault}
 use borrow.Author.Rules.{rules}

@@ -1,3 +1,4 @@
+-- `record::read::comes_after`: the order of parts, by the plane first.
 use Rattle.record.proofs.Laws.{after_in_plane, after_by_plane}
 use borrow.Author.Rules.{rules}
 use Rattle.record.proofs.read.comes_after.Goals as goal

@@ -1,3 +1,4 @@
+-- `record::read::header`: the version, then the four other numbers.
 use Rattle.rules.specs.Document.Numbers.{read_header}
 use Rattle.record.proofs.Laws.{head_stop, head_step, version_right, version_wrong}
 use borrow.Author.Rules.{rules}

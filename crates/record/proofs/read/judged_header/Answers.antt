@@ -1,3 +1,4 @@
+-- `record::read::judged_header`: size and planes, cause by cause.
 use Rattle.record.proofs.Laws.{judged_legal, judged_planes, judged_size}
 use borrow.Author.Rules.{rules}
 use Rattle.record.proofs.read.judged_header.Goals as goal

@@ -1,3 +1,4 @@
+-- `record::read::legal_head`: a head's tests, one after the other.
 use Rattle.record.proofs.Laws.{head_plane, head_low, head_high, head_bits, head_order, depth_small}
 use borrow.Author.Rules.{rules}
 use Rattle.record.proofs.read.legal_head.Goals as goal

@@ -1,3 +1,4 @@
+-- `record::read::no_header_value`: by what the number was.
 use Rattle.rules.specs.Document.Numbers.{head_number}
 use Rattle.record.specs.Named.{unread_header}
 use Rattle.record.proofs.Laws.{header_told}

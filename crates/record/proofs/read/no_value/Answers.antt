@@ -1,3 +1,4 @@
+-- `record::read::no_value`: by what the number was.
 use Rattle.rules.specs.Document.Numbers.{part_number}
 use Rattle.record.specs.Named.{unread}
 use Rattle.record.proofs.Laws.{part_told}

@@ -1,3 +1,4 @@
+-- `record::read::part`: three numbers, each of which may end it, then the head and the body judged.
 use mathlib.Core.Path.{refl}
 use Rattle.rules.specs.Document.Layout.{name_of}
 use Rattle.rules.specs.Document.Numbers.{headed, read_part}

@@ -1,3 +1,4 @@
+-- `record::read::sizes`: four numbers, each of which may end it, then all judged.
 use Rattle.rules.specs.Document.Numbers.{read_sizes}
 use Rattle.record.proofs.Laws.{head_stop, head_step, no_value_of}
 use borrow.Author.Rules.{rules}

@@ -1,3 +1,4 @@
+-- `record::read::whole_part`: whole, cut short, or with a padding bit set.
 use Rattle.record.proofs.Laws.{whole_cut, whole_clear, whole_padded}
 use borrow.Author.Rules.{rules}
 use Rattle.record.proofs.read.whole_part.Goals as goal

@@ -1,3 +1,4 @@
+-- `record::write::dimensions`: three numbers, one after the other.
 use native.Mathlib.Omega.{arith}
 use Rattle.record.proofs.Writing.{wrote_three, after_one, after_two, width_small, height_small, count_small}
 use borrow.Author.Rules.{rules}

@@ -1,3 +1,4 @@
+-- `record::write::head`: three numbers, one after the other.
 use native.Mathlib.Omega.{arith}
 use Rattle.record.proofs.Writing.{wrote_three, after_one, after_two}
 use borrow.Author.Rules.{rules}

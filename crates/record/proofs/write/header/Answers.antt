@@ -1,3 +1,4 @@
+-- `record::write::header`: the version, three numbers, the planes.
 use native.Mathlib.Omega.{arith}
 use Rattle.record.proofs.Writing.{wrote_header, after_version, after_three}
 use borrow.Author.Rules.{rules}

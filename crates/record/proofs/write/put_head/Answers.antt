@@ -1,3 +1,4 @@
+-- `record::write::put_head`: the body makes way, then the head is written.
 use Rattle.record.proofs.Writing.{number_some, headed_fits, headed_of}
 use borrow.Author.Rules.{rules}
 use Rattle.record.proofs.write.put_head.Goals as goal
