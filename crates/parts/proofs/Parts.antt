@@ -34,7 +34,7 @@ use Rattle.stretches.specs.Levels.{size_some, stretch_room, next_start, stretch_
 use Rattle.stretches.specs.Workspace.{Words}
 use Rattle.lists.specs.declared.Stretch.{Stretch}
 use Rattle.lists.specs.declared.Fill.{Fill}
-use Rattle.lists.specs.Lists.{Marked, lip_at, sets, lists_in, Held, held, Fits, lists_fit, sets_fit, sets_few, known_length, todo_length}
+use Rattle.lists.specs.Lists.{Marked, lip_at, lists_in, Held, held, Fits, lists_fit, sets_fit, sets_few, known_length, todo_length}
 use Rattle.lists.specs.Lists.{held_begins, held_known}
 use Rattle.lists.specs.Besides.{marked_none, marked_lent}
 use Rattle.lists.specs.declared.Role.{Role}

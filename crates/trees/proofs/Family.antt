@@ -13,7 +13,7 @@
 --   trees z              the family on tree numbers
 --   coefficient_of z x    the coefficient that has tree number x; outside the pyramid x itself
 --   Lies z k x           x is where the tree numbers of level k are
-use Rattle.std.specs.Prelude.{◌≡◌, false, ◌&&◌, ◌||◌, leb, ltb}
+use Rattle.std.specs.Prelude.{◌≡◌, false, ◌||◌, leb, ltb}
 use Rattle.std.proofs.Math.Path.{refl, ap, ap₂, sym}
 use Rattle.std.proofs.Common.{◌∙◌, arith}
 use mathlib.Core.List.{[], ◌∷◌, ◌++◌, map}

@@ -13,7 +13,7 @@ use mathlib.Core.List.{List, [], ◌∷◌, ◌++◌}
 use Rattle.std.proofs.Math.Bool.{true, false}
 use Prim.Native.Nat.{ℕ, zero, suc}
 use Rattle.rules.specs.Document.Pyramid.{Family}
-use Rattle.rules.specs.Document.Passes.{Entry, Question, significant?, negative?, bit?, set?, Event, to_lip, to_lsp, stays, moves, refined}
+use Rattle.rules.specs.Document.Passes.{Entry, Question, Event, to_lip, to_lsp, stays, moves, refined}
 use Rattle.rules.specs.Document.Passes.{Talk, done, ask, tell, Lists, in_level, tested, tests, opened, added, weighed, visited, visits, turns, sets}
 use Rattle.rules.specs.Document.Passes.{refines, pass, Side, walk, Course, listed, listing, passed, State, after}
 use Rattle.rules.specs.Laws.Counting.Sums.{All}

@@ -5,14 +5,13 @@
 --   onward_of F h s there p g         document 01's next part, and
 --   decode_parts_of F h s there ps g   its walk over the parts, over any family
 --   Same f a b                       the same progress: the lists renamed, the values laid; or the same misfit
-use Rattle.std.specs.Prelude.{◌≡◌, cond, ℕ, ◌^◌, ◌≤◌, ◌<◌, length, get_or, ℤ, pos}
-use Rattle.std.proofs.Common.{◌∙◌}
+use Rattle.std.specs.Prelude.{◌≡◌, cond, ℕ, ◌<◌, length, get_or, ℤ, pos}
 use mathlib.Core.List.{List, [], ◌∷◌, ◌++◌}
 use Rattle.rules.specs.declared.Header.{Header}
 use Rattle.rules.specs.declared.Part.{Part}
 use Rattle.rules.specs.declared.PartRead.{PartRead}
 use Rattle.rules.specs.declared.PartRead.TheVariants as part
-use Rattle.rules.specs.Document.Pyramid.{Family, family, levels}
+use Rattle.rules.specs.Document.Pyramid.{Family, levels}
 use Rattle.rules.specs.Document.Passes.{Course}
 use Rattle.rules.specs.Document.Passes.{State, after, PartName, Reader, decoded}
 use Rattle.rules.specs.Document.Layout.{bit_at, body_of, bits_there, name_of, usable}

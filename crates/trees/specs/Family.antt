@@ -13,11 +13,10 @@
 --   trees z              the family on tree numbers
 --   coefficient_of z x    the coefficient that has tree number x; outside the pyramid x itself
 --   Lies z k x           x is where the tree numbers of level k are
-use Rattle.std.specs.Prelude.{◌≡◌, ◌&&◌, ◌||◌, leb, ltb}
-use Rattle.std.proofs.Common.{◌∙◌}
-use mathlib.Core.List.{List, [], ◌∷◌, ◌++◌}
+use Rattle.std.specs.Prelude.{◌&&◌, leb, ltb}
+use mathlib.Core.List.{List, [], ◌++◌}
 use Rattle.std.proofs.Math.Bool.{cond}
-use Prim.Native.Nat.{ℕ, zero, suc, ◌+◌, ◌-◌, ◌*◌, ◌/◌, ◌%◌, ◌^◌, ◌≤◌, ◌<◌, max}
+use Prim.Native.Nat.{ℕ, zero, suc, ◌-◌, ◌*◌, ◌/◌, ◌%◌, max}
 use Rattle.rules.specs.declared.Size.{Size}
 use Rattle.rules.specs.Document.Notation.{flat, greatest}
 use Rattle.rules.specs.Document.Pyramid.{Family, index, levels}

@@ -5,13 +5,11 @@
 --   four_most f x      the largest that f gives for the four under x
 --   largest_d z m x    the largest of the measure m in D of tree number x
 --   largest_l z m x    and in L
-use Rattle.std.specs.Prelude.{◌≡◌, [], ◌∷◌, ◌||◌}
-use Rattle.std.proofs.Common.{◌∙◌}
-use Prim.Native.Nat.{ℕ, ◌+◌, ◌*◌, ◌≤◌, ◌<◌, ◌^◌, max}
+use Prim.Native.Nat.{ℕ, ◌+◌, ◌*◌, max}
 use Rattle.rules.specs.declared.Size.{Size}
 use Rattle.rules.specs.Document.Notation.{greatest}
 use Rattle.rules.specs.Document.Pyramid.{planes_of}
-use Rattle.rules.specs.Document.Passes.{typeA, typeB, set?, members}
+use Rattle.rules.specs.Document.Passes.{typeA, typeB, members}
 use Rattle.trees.specs.Family.{trees}
 
 unfoldable pub kept_of : ℕ → ℕ

@@ -12,11 +12,9 @@
 --   band_width z          columns of the LL band
 --   raster_of z k t       the coefficient that is node t of level k
 --   tree_of z q           and back
-use Rattle.std.specs.Prelude.{◌≡◌, cond, leb}
-use Rattle.std.proofs.Common.{◌∙◌}
+use Rattle.std.specs.Prelude.{cond, leb}
 use mathlib.Core.List.{List, [], ◌∷◌}
-use Rattle.std.proofs.Math.Bool.{◌||◌, true≢false}
-use Prim.Native.Nat.{ℕ, zero, suc, ◌+◌, ◌-◌, ◌*◌, ◌/◌, ◌%◌, ◌^◌, ◌≤◌, ◌<◌}
+use Prim.Native.Nat.{ℕ, zero, suc, ◌+◌, ◌-◌, ◌*◌, ◌/◌, ◌%◌, ◌^◌}
 use Rattle.rules.specs.declared.Size.{Size}
 use Rattle.rules.specs.Document.Pyramid.{index, row, column, levels, level_of}
 use Rattle.rules.specs.Laws.Offspring.Block.{apart, together}

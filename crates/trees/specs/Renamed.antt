@@ -7,10 +7,8 @@
 --   name_side f C         the side that is asked about t, and told of it, as C is of f t
 --   Renames f F G        F on renamed coefficients is G
 use Rattle.std.specs.Prelude.{◌≡◌}
-use Rattle.std.proofs.Common.{◌∙◌}
-use mathlib.Core.List.{[], ◌∷◌, ◌++◌, map}
-use Rattle.std.proofs.Math.Bool.{◌||◌}
-use Prim.Native.Nat.{ℕ, ◌+◌, ◌*◌, ◌^◌}
+use mathlib.Core.List.{map}
+use Prim.Native.Nat.{ℕ}
 use Rattle.rules.specs.Document.Pyramid.{Family}
 use Rattle.rules.specs.Document.Passes.{Entry, typeA, typeB, Question, significant?, negative?, bit?, set?, Event, to_lip, to_lsp, stays, moves, refined, Talk}
 use Rattle.rules.specs.Document.Passes.{done, ask, tell, Lists}

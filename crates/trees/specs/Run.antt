@@ -5,11 +5,10 @@
 --   tree_band z         the LL band row by row, in tree numbers
 --   tree_root z x       x as a set of type A, if it has offspring
 --   tree_start z        what the passes start with, in tree numbers
-use Rattle.std.specs.Prelude.{◌≡◌, Bool, ◌||◌, leb, eqb}
-use Rattle.std.proofs.Common.{◌∙◌, true≢false}
+use Rattle.std.specs.Prelude.{Bool, ◌||◌, leb, eqb}
 use mathlib.Core.List.{List, [], ◌∷◌, map}
 use Rattle.std.proofs.Math.Bool.{true, false, cond}
-use Prim.Native.Nat.{ℕ, ◌+◌, ◌-◌, ◌*◌, ◌/◌, ◌%◌, ◌≤◌, ◌<◌}
+use Prim.Native.Nat.{ℕ, ◌+◌, ◌*◌, ◌/◌}
 use Rattle.rules.specs.declared.Size.{Size}
 use Rattle.rules.specs.Document.Notation.{flat, if_any}
 use Rattle.rules.specs.Document.Pyramid.{odd, row, column, levels, level_of}

@@ -2,9 +2,6 @@
 --
 --   TreeSound z s       what holds of the lists s of all levels between parts
 --   TreeProgress z g    and while a record is decoded
-use Rattle.std.specs.Prelude.{◌≡◌, []}
-use Rattle.std.proofs.Common.{◌∙◌}
-use Prim.Native.Nat.{◌+◌, ◌*◌, ◌≤◌, ◌<◌}
 use Rattle.rules.specs.declared.Size.{Size}
 use Rattle.rules.specs.Document.Pyramid.{area, levels}
 use Rattle.rules.specs.Document.Passes.{State, from}

@@ -7,7 +7,6 @@
 --   Agreeing Q E C D Rel     where Rel relates two states, sides C and D reply to the questions of Q alike, and Rel goes on
 --   Related Rel c d          two courses with the same lists, their sides related
 use Rattle.std.specs.Prelude.{◌≡◌, Bool}
-use mathlib.Core.List.{[], ◌∷◌, ◌++◌}
 use Prim.Native.Nat.{ℕ}
 use Rattle.rules.specs.Document.Pyramid.{Family}
 use Rattle.rules.specs.Document.Passes.{Question, significant?, negative?, bit?, set?, Event, to_lip, to_lsp, stays, moves, refined}

@@ -1,4 +1,3 @@
-use borrow.Author.Rules.{rules}
 use Rattle.bits.proofs.Laws.{masked}
 use Rattle.bits.proofs.bit_of.Goals as goal
 

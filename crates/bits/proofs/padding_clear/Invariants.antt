@@ -1,7 +1,5 @@
 use Prim.Native.Nat.{◌*◌, ◌-◌}
-use native.Mathlib.Omega.{arith}
-use borrow.Author.Rules.{rules}
-use Rattle.bits.proofs.Laws.{Clear, clear_begins, clear_all, clear_next, not_clear}
+use Rattle.bits.proofs.Laws.{Clear}
 use Rattle.rules.specs.Document.Layout.{bytes_for}
 use Rattle.bits.proofs.padding_clear.Given as goal
 

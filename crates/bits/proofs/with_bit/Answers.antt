@@ -1,4 +1,3 @@
-use borrow.Author.Rules.{rules}
 use Rattle.bits.proofs.Laws.{shifted}
 use Rattle.bits.proofs.with_bit.Goals as goal
 

@@ -1,5 +1,4 @@
 use mathlib.Core.Path.{ap, ◌∙◌}
-use borrow.Author.Rules.{rules}
 use Rattle.rules.specs.Document.Pyramid.{planes_of}
 use Rattle.coder.proofs.planes_in.Goals as goal
 

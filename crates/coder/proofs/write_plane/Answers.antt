@@ -1,10 +1,8 @@
 -- `coder::write_plane`: the levels from the coarsest down to 1.
 use native.Mathlib.Numerals.{add-one}
 use native.Mathlib.Omega.{arith}
-use borrow.Author.Rules.{rules}
 use Rattle.rules.proofs.Laws.Family.Sizes.{legal}
-use Rattle.coder.specs.Writing.{stage_of}
-use Rattle.coder.proofs.Turns.{LevelsLeft, levels_begin, levels_due, levels_turn, levels_end}
+use Rattle.coder.proofs.Turns.{levels_begin, levels_due, levels_turn, levels_end}
 use Rattle.coder.proofs.write_plane.Goals as goal
 
 pub overflow_add-left : goal.overflow_add-left

@@ -1,9 +1,5 @@
-use native.Mathlib.Numerals.{add-one}
-use native.Mathlib.Omega.{arith}
-use borrow.Author.Rules.{rules}
-use Rattle.rules.proofs.Laws.Family.Sizes.{legal}
 use Rattle.coder.specs.Writing.{stage_of}
-use Rattle.coder.proofs.Turns.{LevelsLeft, levels_begin, levels_due, levels_turn, levels_end}
+use Rattle.coder.proofs.Turns.{LevelsLeft}
 use Rattle.coder.proofs.write_plane.Given as goal
 
 abbrev pub invariant-loop-left : goal.invariant-loop-left

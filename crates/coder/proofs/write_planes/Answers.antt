@@ -1,8 +1,6 @@
 -- `coder::write_planes`: the planes from the highest down to 0.
-use Prim.Native.Nat.{◌-◌}
 use borrow.Author.Rules.{rules}
-use Rattle.coder.specs.Writing.{stage_of}
-use Rattle.coder.proofs.Turns.{PlanesDone, planes_begin, planes_due, planes_turn, planes_end}
+use Rattle.coder.proofs.Turns.{planes_begin, planes_due, planes_turn, planes_end}
 use Rattle.coder.proofs.write_planes.Goals as goal
 
 pub loop-done-init : goal.loop-done-init

@@ -1,7 +1,6 @@
 use Prim.Native.Nat.{◌-◌}
-use borrow.Author.Rules.{rules}
 use Rattle.coder.specs.Writing.{stage_of}
-use Rattle.coder.proofs.Turns.{PlanesDone, planes_begin, planes_due, planes_turn, planes_end}
+use Rattle.coder.proofs.Turns.{PlanesDone}
 use Rattle.coder.proofs.write_planes.Given as goal
 
 abbrev pub invariant-loop-done : goal.invariant-loop-done

@@ -1,5 +1,4 @@
 -- `coefficients::coefficient_at`: a read that is total: 0 past the end.
-use borrow.Author.Rules.{rules}
 use Rattle.coefficients.proofs.Signed.{past_end}
 use Rattle.coefficients.proofs.coefficient_at.Goals as goal
 

@@ -1,9 +1,6 @@
 -- `coefficients::first_over`: no index passed is over, so the first found is the lowest.
-use Prim.Native.Nat.{◌≤◌, ◌-◌}
 use native.Mathlib.Omega.{arith}
-use lib.ListN.{length}
-use borrow.Author.Rules.{rules}
-use Rattle.coefficients.proofs.Searches.{NoneOver, over_found, over_nowhere, over_onward}
+use Rattle.coefficients.proofs.Searches.{over_found, over_nowhere, over_onward}
 use Rattle.coefficients.proofs.first_over.Goals as goal
 
 pub loop-q-init : goal.loop-q-init

@@ -1,8 +1,6 @@
 use Prim.Native.Nat.{◌≤◌, ◌-◌}
-use native.Mathlib.Omega.{arith}
 use lib.ListN.{length}
-use borrow.Author.Rules.{rules}
-use Rattle.coefficients.proofs.Searches.{NoneOver, over_found, over_nowhere, over_onward}
+use Rattle.coefficients.proofs.Searches.{NoneOver}
 use Rattle.coefficients.proofs.first_over.Given as goal
 
 abbrev pub invariant-loop-q : goal.invariant-loop-q

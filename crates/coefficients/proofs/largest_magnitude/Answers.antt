@@ -1,9 +1,6 @@
 -- `coefficients::largest_magnitude`: the largest so far and the rest give the largest of all.
-use Prim.Native.Nat.{◌≤◌, ◌-◌}
 use native.Mathlib.Omega.{arith}
-use lib.ListN.{length}
-use borrow.Author.Rules.{rules}
-use Rattle.coefficients.proofs.Searches.{Seen, seen_nothing, seen_onward, seen_all}
+use Rattle.coefficients.proofs.Searches.{seen_nothing, seen_onward, seen_all}
 use Rattle.coefficients.proofs.largest_magnitude.Goals as goal
 
 pub loop-q-init : goal.loop-q-init

@@ -1,8 +1,6 @@
 use Prim.Native.Nat.{◌≤◌, ◌-◌}
-use native.Mathlib.Omega.{arith}
 use lib.ListN.{length}
-use borrow.Author.Rules.{rules}
-use Rattle.coefficients.proofs.Searches.{Seen, seen_nothing, seen_onward, seen_all}
+use Rattle.coefficients.proofs.Searches.{Seen}
 use Rattle.coefficients.proofs.largest_magnitude.Given as goal
 
 abbrev pub invariant-loop-q : goal.invariant-loop-q

@@ -1,6 +1,5 @@
 -- `coefficients::magnitude_at`: the magnitude of what is read.
 use mathlib.Core.Path.{◌∙◌}
-use borrow.Author.Rules.{rules}
 use Rattle.coefficients.proofs.Signed.{magnitude_read}
 use Rattle.coefficients.proofs.magnitude_at.Goals as goal
 

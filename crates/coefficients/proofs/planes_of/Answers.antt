@@ -1,6 +1,5 @@
 -- `coefficients::planes_of`: the bits of a number are those without the zeros in front.
 use native.Mathlib.Omega.{arith}
-use borrow.Author.Rules.{rules}
 use Rattle.coefficients.proofs.Searches.{leading_few, planes_left}
 use Rattle.coefficients.proofs.planes_of.Goals as goal
 

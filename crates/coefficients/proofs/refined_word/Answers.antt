@@ -2,7 +2,6 @@ use Rattle.coefficients.proofs.Worded.{bit_placed, bit_fits}
 use native.Mathlib.Omega.{arith}
 use mathlib.Core.Path.{ap}
 use Prim.Native.Nat.{ℕ, ◌+◌}
-use borrow.Author.Rules.{rules}
 use Rattle.coefficients.proofs.refined_word.Goals as goal
 
 pub overflow_add-result : goal.overflow_add-result

@@ -1,5 +1,4 @@
 -- `coefficients::signed_of`: a magnitude under 2^31 and its opposite fit.
-use borrow.Author.Rules.{rules}
 use Rattle.coefficients.proofs.Signed.{minus_fits, signed_minus, signed_plus}
 use Rattle.coefficients.proofs.signed_of.Goals as goal
 

@@ -1,7 +1,6 @@
 use Rattle.coefficients.proofs.Signed.{handed}
 use mathlib.Core.Path.{◌∙◌}
 use Rattle.coefficients.specs.Words.{value_of, negative_word, magnitude_word}
-use borrow.Author.Rules.{rules}
 use Rattle.coefficients.proofs.value_of.Goals as goal
 
 pub returns : goal.returns

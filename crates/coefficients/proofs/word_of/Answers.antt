@@ -1,5 +1,4 @@
 use Rattle.coefficients.proofs.Worded.{read_small, word_read}
-use borrow.Author.Rules.{rules}
 use Rattle.coefficients.proofs.word_of.Goals as goal
 
 pub word_with-requires : goal.word_with-requires

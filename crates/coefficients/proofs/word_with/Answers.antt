@@ -1,6 +1,5 @@
 use Rattle.coefficients.proofs.Worded.{word_made, bit_small}
 use native.Mathlib.Omega.{arith}
-use borrow.Author.Rules.{rules}
 use Rattle.coefficients.proofs.word_with.Goals as goal
 
 pub overflow_add-result : goal.overflow_add-result

@@ -1,9 +1,4 @@
 -- `decoder::walk_all`: turn by turn; the lengths of what was lent stay.
-use mathlib.Core.Path.{◌≡◌}
-use Prim.Native.Nat.{◌-◌}
-use lib.ListN.{length}
-use Rattle.rules.specs.Document.Pyramid.{area}
-use Rattle.decoder.specs.Walking.{Walking}
 use Rattle.decoder.proofs.LawsWalk.{walking_roomy, walking_standing, turn_on, turn_falls, turn_within, turn_accepts, turn_refuses, cleared}
 use borrow.Author.Rules.{rules}
 use Rattle.decoder.proofs.walk_all.Goals as goal

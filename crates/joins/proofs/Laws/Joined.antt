@@ -14,7 +14,7 @@ use Rattle.rules.specs.Document.Notation.{any, flat}
 use Rattle.rules.specs.Document.Passes.{PartName}
 use Rattle.rules.specs.Document.Layout.{whole_of, name_of, same_name}
 use Rattle.rules.specs.Document.Numbers.{tail, read_header, read_parts}
-use Rattle.rules.specs.Document.Calls.{Result, accepted, unless, on_header, on_ending, fitted, serving}
+use Rattle.rules.specs.Document.Calls.{Result, accepted, unless, on_header, on_ending, fitted}
 use Rattle.rules.proofs.Laws.Counting.Booleans.{both, both_left, both_right}
 use Rattle.rules.specs.Laws.Counting.Sums.{All}
 use Rattle.rules.proofs.Laws.Counting.Sums.{all_then, all_both, map_all}

@@ -1,12 +1,10 @@
 -- A record is its parts by name: parts in order, one behind the other, are the part of each name that there is, in order of the names.
-use Rattle.std.specs.Prelude.{◌≡◌, List, [], ◌∷◌, ◌++◌, map, cond, ◌||◌, ℕ}
-use Rattle.std.proofs.Common.{◌∙◌, true≢false}
+use Rattle.std.specs.Prelude.{List, [], ◌∷◌, map, cond, ℕ}
 use Rattle.rules.specs.declared.Header.{Header}
 use Rattle.rules.specs.Document.Notation.{flat}
 use Rattle.rules.specs.Document.Passes.{PartName, part_names}
 use Rattle.rules.specs.Document.Layout.{same_name}
 use Rattle.rules.specs.Document.Numbers.{top_level}
-use Rattle.rules.specs.Laws.Counting.Sums.{All}
 use Rattle.rules.specs.Laws.Serving.Selection.{Held}
 
 -- what is held under a name, nothing if there is none

@@ -1,8 +1,7 @@
 -- Pieces gathered by name: where under each name there is nothing, or what a piece of that name holds, then what is there, put together in order of the
 -- names behind a header, is a record, and under each name it has just that.
-use Rattle.std.specs.Prelude.{◌≡◌, ◌||◌, ℕ, ◌-◌, ◌≤◌}
-use Rattle.std.proofs.Common.{◌∙◌}
-use mathlib.Core.List.{List, [], ◌∷◌, ◌++◌, map}
+use Rattle.std.specs.Prelude.{◌≡◌, ℕ}
+use mathlib.Core.List.{List, [], map}
 use Rattle.std.proofs.Math.Bool.{cond}
 use Rattle.rules.specs.declared.Header.{Header}
 use Rattle.rules.specs.Document.Notation.{flat}

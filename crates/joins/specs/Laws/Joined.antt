@@ -1,10 +1,8 @@
 -- What is joined: two records with one header that agree on the parts they share; and it is a record again, without a tail, that has under each name
 -- the part of the first, else that of the second.
-use Rattle.std.specs.Prelude.{◌≡◌, ◌&&◌, ◌||◌, ◌⊎◌, ℕ, ◌≤◌, length, take}
-use Rattle.std.proofs.Common.{◌∙◌, true≢false}
-use mathlib.Core.List.{List, [], ◌∷◌, ◌++◌}
+use Rattle.std.specs.Prelude.{◌≡◌, ℕ, ◌≤◌, length, take}
+use mathlib.Core.List.{List}
 use Rattle.std.proofs.Math.Bool.{true}
-use Rattle.rules.specs.declared.Refusal.TheVariants as refusal
 use Rattle.rules.specs.declared.Header.{Header}
 use Rattle.rules.specs.declared.HeaderRead.TheVariants as header
 use Rattle.rules.specs.declared.Part.{Part}
@@ -14,7 +12,6 @@ use Rattle.rules.specs.Document.Numbers.{tail, read_header, read_parts}
 use Rattle.rules.specs.Document.Calls.{accepted, serving}
 use Rattle.rules.specs.Laws.Counting.Sums.{All}
 use Rattle.joins.specs.Document.Joining.{part_named, joined_part, joined_bytes}
-use Rattle.joins.specs.Laws.ByName.{found, first}
 
 -- the part of a name in a record; in the join of two
 abbrev pub part_of : Header → List ℕ → PartName → List ℕ

@@ -1,14 +1,11 @@
 -- "For two selections of one coder's record the join never refuses with room enough, and demand 3 speaks of it." The record may have the coder's number
 -- of planes or the earlier one, and each selection may be cut anywhere behind its header.
-use Rattle.std.specs.Prelude.{◌≡◌, Bool, ◌&&◌, ◌||◌}
-use Rattle.std.proofs.Common.{◌∙◌}
-use mathlib.Core.List.{List, [], ◌∷◌, ◌++◌}
-use Prim.Native.Nat.{ℕ, ◌≤◌}
-use Rattle.rules.specs.declared.Refusal.TheVariants as refusal
+use Rattle.std.specs.Prelude.{Bool, ◌||◌}
+use mathlib.Core.List.{List}
+use Prim.Native.Nat.{ℕ}
 use Rattle.rules.specs.Document.Passes.{PartName}
 use Rattle.rules.specs.Document.Layout.{CodedPart}
-use Rattle.rules.specs.Promises.Vocabulary.{selection, present, names, kept, whole_in}
-use Rattle.joins.specs.Laws.ByName.{other, first}
+use Rattle.rules.specs.Promises.Vocabulary.{present, names, kept, whole_in}
 
 -- the parts that are whole in the first n bytes behind the header of a selection
 abbrev pub whole_there : List CodedPart → (PartName → Bool) → ℕ → PartName → Bool

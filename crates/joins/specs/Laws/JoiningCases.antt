@@ -1,6 +1,6 @@
 -- Joins of what is left of document 01's record where a request or a link leaves some parts out, and each refusal: one table, and one claim about all
 -- its rows, by computation. Of a join the answer that its export writes and the output are stated; the records are those of rules' Cases.
-use Rattle.std.specs.Prelude.{◌≡◌, List, [], ◌∷◌, ◌++◌, ℕ, take, set}
+use Rattle.std.specs.Prelude.{List, [], ◌∷◌, ◌++◌, ℕ, take, set}
 use Rattle.rules.specs.Document.Notation.{zeros}
 use Rattle.rules.specs.Promises.Cases.{thirty, served_at_two, served_to_plane_one, without12, without11, pad_set, five_bytes, five_before, Shown, Row, ◌is◌, coded_as}
 use Rattle.rules.specs.Promises.Cases.{bytes, opens_example, opens_others, opens_five}

@@ -1,7 +1,6 @@
 use native.Mathlib.Omega.{arith}
 use Rattle.rules.proofs.Laws.Family.Sizes.{legal}
 use Rattle.largest.proofs.Steps.{filled_all}
-use borrow.Author.Rules.{rules}
 use Rattle.largest.proofs.fill.Goals as goal
 
 pub overflow_add-z : goal.overflow_add-z

@@ -1,7 +1,5 @@
 use Rattle.largest.proofs.Blocks.{all_d}
-use Prim.Native.Nat.{◌-◌, ◌≤◌}
 use native.Mathlib.Omega.{arith}
-use Rattle.largest.specs.Blocks.{SomeD}
 use Rattle.largest.proofs.Blocks.{none_d, next_d}
 use borrow.Author.Rules.{rules}
 use Rattle.largest.proofs.fill_blocks_d.Goals as goal

@@ -1,7 +1,5 @@
 use Rattle.largest.proofs.Blocks.{all_l}
-use Prim.Native.Nat.{◌-◌, ◌≤◌}
 use native.Mathlib.Omega.{arith}
-use Rattle.largest.specs.Blocks.{SomeL}
 use Rattle.largest.proofs.Blocks.{none_l, next_l}
 use borrow.Author.Rules.{rules}
 use Rattle.largest.proofs.fill_blocks_l.Goals as goal

@@ -1,6 +1,5 @@
 use native.Mathlib.Omega.{arith}
 use Rattle.largest.proofs.Lent.{level_d}
-use borrow.Author.Rules.{rules}
 use Rattle.largest.proofs.fill_level_d.Goals as goal
 
 pub returns : goal.returns

@@ -1,6 +1,5 @@
 use native.Mathlib.Omega.{arith}
 use Rattle.largest.proofs.Lent.{level_l}
-use borrow.Author.Rules.{rules}
 use Rattle.largest.proofs.fill_level_l.Goals as goal
 
 pub returns : goal.returns

@@ -3,7 +3,6 @@ use Prim.Native.Nat.{ℕ, ◌+◌, ◌*◌}
 use lib.ListN.{get_or}
 use Rattle.largest.specs.Blocks.{word_measure, near}
 use Rattle.largest.proofs.Measures.{measure_largest}
-use borrow.Author.Rules.{rules}
 use Rattle.largest.proofs.near_at.Goals as goal
 
 pub returns : goal.returns

@@ -1,5 +1,4 @@
 use Rattle.lists.proofs.Laws.{unmarked_made, marked_made}
-use borrow.Author.Rules.{rules}
 use Rattle.lists.proofs.marked.Goals as goal
 
 pub returns-in-Reads : goal.returns-in-Reads

@@ -1,6 +1,5 @@
 use Rattle.lists.proofs.Laws.{move_set_law}
 use native.Mathlib.Omega.{arith}
-use borrow.Author.Rules.{rules}
 use Rattle.lists.proofs.move_set.Goals as goal
 
 pub returns : goal.returns

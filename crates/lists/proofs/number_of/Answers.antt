@@ -2,7 +2,6 @@ use Rattle.lists.proofs.Laws.{entry_a, entry_b}
 use mathlib.Core.Path.{ap, sym, ◌∙◌}
 use native.Mathlib.Omega.{arith}
 use Rattle.lists.specs.Lists.{entry_of, index_of}
-use borrow.Author.Rules.{rules}
 use Rattle.lists.proofs.number_of.Goals as goal
 
 pub overflow_mul-result : goal.overflow_mul-result

@@ -1,7 +1,6 @@
 use Rattle.lists.proofs.Laws.{entry_even, entry_odd}
 use mathlib.Core.Path.{sym}
 use native.Mathlib.Omega.{arith}
-use borrow.Author.Rules.{rules}
 use Rattle.lists.proofs.set_of.Goals as goal
 
 pub returns-then-m-eq0 : goal.returns-then-m-eq0

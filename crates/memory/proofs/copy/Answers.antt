@@ -1,7 +1,5 @@
-use Prim.Native.Nat.{◌-◌, ◌≤◌}
 use native.Mathlib.Omega.{arith}
-use borrow.Author.Rules.{rules}
-use Rattle.memory.proofs.Laws.{Copied, copied_none, copied_more, copied_all}
+use Rattle.memory.proofs.Laws.{copied_none, copied_more, copied_all}
 use Rattle.memory.proofs.copy.Goals as goal
 
 pub loop-i-init : goal.loop-i-init

@@ -1,7 +1,5 @@
-use Prim.Native.Nat.{◌≤◌}
 use native.Mathlib.Omega.{arith}
-use borrow.Author.Rules.{rules}
-use Rattle.memory.proofs.Laws.{Moved, moved_none, moved_more, moved_all}
+use Rattle.memory.proofs.Laws.{moved_none, moved_more, moved_all}
 use Rattle.memory.proofs.move_right.Goals as goal
 
 pub loop-i-init : goal.loop-i-init

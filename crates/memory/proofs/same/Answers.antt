@@ -1,6 +1,5 @@
-use Prim.Native.Nat.{◌-◌}
 use borrow.Author.Rules.{rules}
-use Rattle.memory.proofs.Laws.{Alike, unlike_length, alike_none, alike_more, unlike_byte, alike_all, fewer}
+use Rattle.memory.proofs.Laws.{unlike_length, alike_none, alike_more, unlike_byte, alike_all, fewer}
 use Rattle.memory.proofs.same.Goals as goal
 
 pub returns-then-there-others : goal.returns-then-there-others

@@ -1,9 +1,5 @@
-use Prim.Native.Nat.{◌-◌}
 use native.Mathlib.Omega.{arith}
-use lib.ListN.{length}
-use lib.IntN.{pos}
-use borrow.Author.Rules.{rules}
-use Rattle.memory.proofs.Laws.{Filled, filled_none, filled_more, filled_all}
+use Rattle.memory.proofs.Laws.{filled_none, filled_more, filled_all}
 use Rattle.memory.proofs.zero_i32.Goals as goal
 
 pub loop-i-init : goal.loop-i-init

@@ -1,7 +1,5 @@
-use Prim.Native.Nat.{◌-◌}
 use native.Mathlib.Omega.{arith}
-use lib.ListN.{length}
-use Rattle.memory.proofs.Laws.{Filled, filled_none, filled_more, filled_all}
+use Rattle.memory.proofs.Laws.{filled_none, filled_more, filled_all}
 use Rattle.memory.proofs.zero_u8.Goals as goal
 
 pub loop-i-init : goal.loop-i-init

@@ -1,7 +1,6 @@
 use mathlib.Core.Path.{◌∙◌}
 use native.Mathlib.Omega.{arith}
-use borrow.Author.Rules.{rules}
-use Rattle.numbers.proofs.Laws.{Reading, reading_begins, reading_cut, reading_worth, reading_last, reading_next, reading_none}
+use Rattle.numbers.proofs.Laws.{reading_begins, reading_cut, reading_worth, reading_last, reading_next, reading_none}
 use Rattle.numbers.proofs.read_number.Goals as goal
 
 pub loop-bytes_left-init : goal.loop-bytes_left-init

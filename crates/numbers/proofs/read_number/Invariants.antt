@@ -1,7 +1,4 @@
-use mathlib.Core.Path.{◌∙◌}
-use native.Mathlib.Omega.{arith}
-use borrow.Author.Rules.{rules}
-use Rattle.numbers.proofs.Laws.{Reading, reading_begins, reading_cut, reading_worth, reading_last, reading_next, reading_none}
+use Rattle.numbers.proofs.Laws.{Reading}
 use Rattle.numbers.proofs.read_number.Given as goal
 
 abbrev pub invariant-loop-bytes_left : goal.invariant-loop-bytes_left

@@ -1,6 +1,5 @@
 use native.Mathlib.Omega.{arith}
-use borrow.Author.Rules.{rules}
-use Rattle.numbers.proofs.Laws.{writing_same, Writing, writing_begins, writing_place, writing_next, writing_last}
+use Rattle.numbers.proofs.Laws.{writing_same, writing_begins, writing_place, writing_next, writing_last}
 use Rattle.numbers.proofs.write_number.Goals as goal
 
 pub loop-rest-init : goal.loop-rest-init

@@ -1,6 +1,4 @@
-use native.Mathlib.Omega.{arith}
-use borrow.Author.Rules.{rules}
-use Rattle.numbers.proofs.Laws.{writing_same, Writing, writing_begins, writing_place, writing_next, writing_last}
+use Rattle.numbers.proofs.Laws.{Writing}
 use Rattle.numbers.proofs.write_number.Given as goal
 
 abbrev pub invariant-loop-rest : goal.invariant-loop-rest

@@ -1,6 +1,5 @@
 use mathlib.Core.Path.{sym, ◌∙◌}
 use Rattle.parts.proofs.Workspace.{lent_first, lent_next}
-use borrow.Author.Rules.{rules}
 use Rattle.parts.proofs.lent_to.Goals as goal
 
 pub returns-then-k-lt2 : goal.returns-then-k-lt2

@@ -1,11 +1,8 @@
-use native.Mathlib.Omega.{arith}
-use mathlib.Core.Path.{◌≡◌, refl, ◌∙◌}
+use mathlib.Core.Path.{◌≡◌}
 use Prim.Native.Nat.{◌-◌}
 use lib.ListN.{length}
 use Rattle.rules.specs.Document.Passes.{rows, band_ll}
-use Rattle.rules.proofs.Laws.Family.Sizes.{legal}
-use Rattle.parts.proofs.Begin.{Left, left_band, left_first, left_rest, left_none, rows_next, rows_none, side_under}
-use borrow.Author.Rules.{rules}
+use Rattle.parts.proofs.Begin.{Left}
 use Rattle.parts.proofs.list_band.Given as goal
 
 abbrev pub invariant-loop-row : goal.invariant-loop-row

@@ -1,12 +1,9 @@
-use native.Mathlib.Omega.{arith}
-use mathlib.Core.Path.{◌≡◌, refl, ◌∙◌}
+use mathlib.Core.Path.{◌≡◌}
 use Prim.Native.Nat.{◌+◌, ◌-◌, ◌*◌}
 use lib.ListN.{length}
 use Rattle.rules.specs.Document.Passes.{from}
-use Rattle.rules.proofs.Laws.Family.Sizes.{legal}
 use Rattle.parts.specs.Begin.{row_of}
-use Rattle.parts.proofs.Begin.{Left, left_row, left_first, left_rest, left_none, from_next, from_none, side_under}
-use borrow.Author.Rules.{rules}
+use Rattle.parts.proofs.Begin.{Left}
 use Rattle.parts.proofs.list_row.Given as goal
 
 abbrev pub invariant-loop-column : goal.invariant-loop-column

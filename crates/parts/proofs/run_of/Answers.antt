@@ -1,7 +1,6 @@
 use native.Mathlib.Omega.{arith}
 use Rattle.rules.proofs.Laws.Family.Sizes.{legal}
 use Rattle.parts.proofs.Running.{run_is}
-use borrow.Author.Rules.{rules}
 use Rattle.parts.proofs.run_of.Goals as goal
 
 pub fill_of-fill-requires : goal.fill_of-fill-requires

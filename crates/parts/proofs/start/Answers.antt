@@ -1,7 +1,6 @@
 use native.Mathlib.Omega.{arith}
 use Rattle.rules.proofs.Laws.Family.Sizes.{legal}
 use Rattle.parts.proofs.Begin.{top_size, top_under, top_room, band_listing, started}
-use borrow.Author.Rules.{rules}
 use Rattle.parts.proofs.start.Goals as goal
 
 pub overflow_add-top : goal.overflow_add-top

@@ -2,7 +2,6 @@ use native.Mathlib.Omega.{arith}
 use mathlib.Core.Path.{ap}
 use Rattle.rules.proofs.Laws.Family.Sizes.{legal}
 use Rattle.parts.proofs.Running.{cut_under, next_under, stretch_first, stretch_next}
-use borrow.Author.Rules.{rules}
 use Rattle.parts.proofs.stretch_of.Goals as goal
 
 pub overflow_mul-result : goal.overflow_mul-result

@@ -1,6 +1,5 @@
 use native.Mathlib.Omega.{arith}
 use Rattle.parts.proofs.States.{moved_first, moved_next, moved_under}
-use borrow.Author.Rules.{rules}
 use Rattle.parts.proofs.with_moved.Goals as goal
 
 pub returns-then-k-lt2 : goal.returns-then-k-lt2

@@ -1,8 +1,3 @@
-use mathlib.Core.Path.{◌≡◌}
-use Prim.Native.Nat.{◌-◌}
-use lib.ListN.{length}
-use Rattle.stretches.specs.Cut.{set_room}
-use Rattle.passes.specs.Steps.{Visited}
 use Rattle.passes.proofs.Visits.{visited_none, visited_on}
 use borrow.Author.Rules.{rules}
 use Rattle.passes.proofs.visit_lis.Goals as goal

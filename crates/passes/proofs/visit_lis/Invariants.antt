@@ -3,8 +3,6 @@ use Prim.Native.Nat.{◌-◌}
 use lib.ListN.{length}
 use Rattle.stretches.specs.Cut.{set_room}
 use Rattle.passes.specs.Steps.{Visited}
-use Rattle.passes.proofs.Visits.{visited_none, visited_on}
-use borrow.Author.Rules.{rules}
 use Rattle.passes.proofs.visit_lis.Given as goal
 
 abbrev pub invariant-loop-r : goal.invariant-loop-r

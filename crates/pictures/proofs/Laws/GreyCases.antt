@@ -1,5 +1,5 @@
 -- Reading a grey file has the Outcome that its case says, and no other.
-use Rattle.std.specs.Prelude.{◌≡◌, refl, Bool, cond, not, ◌≢◌, eqb, length, take, drop}
+use Rattle.std.specs.Prelude.{◌≡◌, refl, Bool, cond, not, eqb, length, take, drop}
 use Rattle.std.proofs.Math.Path.{ap, subst}
 use Rattle.std.proofs.Common.{ap₂, sym, ◌∙◌, true≢false, arith, leb-true, leb-false, le-leb, eqb-true, ne_eqb}
 use mathlib.Core.List.{List, [], ◌∷◌, ◌++◌, append_assoc}

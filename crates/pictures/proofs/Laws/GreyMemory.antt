@@ -1,6 +1,6 @@
 -- From a picture's file to a picture's file: the theorem of W3, said of what the calls leave in the memory lent to them. The pyramid is what stands
 -- in the output of the way in, the record what stands in the coder's, and what is promised is said of the output and the answer of the way back.
-use Rattle.std.specs.Prelude.{◌≡◌, refl, List, ◌++◌, ℕ, ◌-◌, ◌≤◌, length, ℤ}
+use Rattle.std.specs.Prelude.{◌≡◌, refl, List, ℕ, ◌≤◌, length, ℤ}
 use Rattle.std.proofs.Math.Path.{ap, subst}
 use Rattle.std.proofs.Common.{sym, ◌∙◌, arith}
 use Rattle.std.proofs.Math.Decide.{dec_le}

@@ -1,7 +1,7 @@
 -- Document 02's order of refusals for grey pictures, as statements: the way in and the way back come back with a number and place exactly where
 -- the case of that refusal holds, with 0 exactly where they accept, and leave in memory what document 01 says. A case asks for its cause, and
 -- that no cause before it in the order holds. GreyCase, in GreyCauses, has the causes of 13.
-use Rattle.std.specs.Prelude.{◌≡◌, List, [], ◌∷◌, ◌++◌, ◌≢◌, ◌↔◌, ℕ, ◌-◌, ◌≤◌, ◌<◌, replicate, ℤ, pos}
+use Rattle.std.specs.Prelude.{◌≡◌, List, ◌++◌, ◌≢◌, ◌↔◌, ℕ, ◌-◌, ◌≤◌, ◌<◌, replicate, ℤ, pos}
 use Rattle.std.proofs.Math.Path.{refl, ap, subst}
 use Rattle.std.proofs.Common.{sym, ◌∙◌, arith}
 use Rattle.std.proofs.Math.Bool.{true, false}

@@ -1,6 +1,5 @@
 -- Grey files as they are met, read and written: one table, and one claim about all its rows, by computation.
-use Rattle.std.specs.Prelude.{◌≡◌, refl, [], ◌∷◌, ◌++◌, map}
-use Prim.Native.String as string
+use Rattle.std.specs.Prelude.{◌≡◌, refl, map}
 use Rattle.rules.specs.Document.Passes.{from}
 use Rattle.rules.specs.Promises.Cases.{four}
 use Rattle.pictures.specs.Laws.PictureCases.{pixels}

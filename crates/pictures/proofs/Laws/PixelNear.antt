@@ -1,5 +1,5 @@
 -- W3's question: of a picture's record, whatever arrives of it, how far is a printed pixel from the recorded one?
-use Rattle.std.specs.Prelude.{◌≡◌, Bool, true, ℕ, zero, suc, ◌-◌, ◌≤◌, ◌<◌, length, get_or, pos, negsuc}
+use Rattle.std.specs.Prelude.{◌≡◌, Bool, true, ℕ, zero, suc, ◌≤◌, ◌<◌, length, get_or, pos, negsuc}
 use Rattle.std.proofs.Common.{ap, sym, subst, ◌∙◌, arith, length-append, le-leb, eq-eqb}
 use mathlib.Core.List.{List, map}
 use Rattle.std.proofs.Math.Nat.{min-eq_left}

@@ -1,5 +1,5 @@
 -- What is split comes back when it is joined, and what is joined when it is split: lines, blocks, turns, pictures. For any integers.
-use Rattle.std.specs.Prelude.{◌≡◌, false, cond, ◌&&◌, ltb, eqb, ◌+ℤ◌, ◌-ℤ◌}
+use Rattle.std.specs.Prelude.{◌≡◌, false, cond, ◌&&◌, ltb, eqb, ◌+ℤ◌}
 use Rattle.std.proofs.Math.Path.{refl, ap, ap₂, fun_ext}
 use Rattle.std.proofs.Common.{sym, ◌∙◌}
 use Rattle.std.proofs.Math.Bool.{and_comm}

@@ -1,6 +1,6 @@
 -- Document 02, W3: what the way in, from a grey file to a pyramid, and the way back answer and leave in the memory lent to them, for every
 -- input. `Result`, `unless`, `fitted` and `filled` are document 01's (rules, Calls).
-use Rattle.std.specs.Prelude.{◌≡◌, List, [], ◌∷◌, map, Bool, true, false, cond, ℕ, zero, suc, min, leb, ltb, eqb, length, replicate, ℤ, pos, negsuc}
+use Rattle.std.specs.Prelude.{◌≡◌, List, [], ◌∷◌, map, Bool, true, cond, ℕ, suc, min, leb, ltb, eqb, length, replicate, ℤ, pos, negsuc}
 use Rattle.rules.specs.declared.Size.{Size}
 use Rattle.rules.specs.declared.Refusal.TheVariants as refusal
 use Rattle.rules.specs.declared.Verdict.TheVariants.{Accepted, Refused}

@@ -1,7 +1,5 @@
 -- What is read of a file is a part of it: the bytes behind a header are the file less its front, and pixels are W x H bytes of these.
-use Rattle.std.specs.Prelude.{◌≡◌, List, [], ◌∷◌, ◌&&◌, ℕ, ◌+◌, ◌-◌, ◌*◌, ◌<◌, length, get_or}
-use Rattle.std.proofs.Common.{◌∙◌}
-use Rattle.pictures.specs.Document.Netpbm.{picture}
+use Rattle.std.specs.Prelude.{◌≡◌, List, ℕ, ◌*◌, ◌<◌, length, get_or}
 
 -- bytes: what a slice of 8-bit numbers holds
 abbrev pub Bytes : List ℕ → Type 0

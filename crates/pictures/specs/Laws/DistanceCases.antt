@@ -1,5 +1,5 @@
 -- Distances worked out: one table, and one claim about all its rows, by computation.
-use Rattle.std.specs.Prelude.{◌≡◌, List, [], ◌∷◌, map, ℕ}
+use Rattle.std.specs.Prelude.{List, [], ◌∷◌, map, ℕ}
 use Rattle.rules.specs.declared.Size.{Size}
 use Rattle.rules.specs.declared.Plane.{Plane}
 use Rattle.pictures.specs.Laws.Distance.{pixel_most}
@@ -18,8 +18,8 @@ planes ms = map (λ m. record { 0 = m }) ms
 pub record Row : Type 0 where
   pub given : ℕ
   pub stated : ℕ
-infixl 5 ◌is◌
 
+infixl 5 ◌is◌
 abbrev pub ◌is◌ : ℕ → ℕ → Row
 ◌is◌ x y = record { given = x; stated = y }
 

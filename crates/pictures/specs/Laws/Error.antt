@@ -1,11 +1,10 @@
 -- How far a printed pixel may be from the recorded one: the theorems of Distance.
-use Rattle.std.specs.Prelude.{◌≡◌, List, get_or, ℤ, pos}
-use Rattle.std.proofs.Common.{◌∙◌}
-use Prim.Native.Nat.{ℕ, ◌+◌, ◌-◌, ◌*◌, ◌/◌, ◌%◌, ◌^◌, ◌≤◌, ◌<◌}
+use Rattle.std.specs.Prelude.{List, get_or, ℤ, pos}
+use Prim.Native.Nat.{ℕ, ◌-◌, ◌^◌, ◌≤◌, ◌<◌}
 use Rattle.rules.specs.declared.Size.{Size}
-use Rattle.rules.specs.Document.Pyramid.{area, index, magnitude, level_of}
+use Rattle.rules.specs.Document.Pyramid.{area, magnitude, level_of}
 use Rattle.pictures.specs.Laws.Room.{most_back}
-use Rattle.pictures.specs.Laws.Distance.{Nearby, Pyramids}
+use Rattle.pictures.specs.Laws.Distance.{Nearby}
 
 -- Pyramids and pictures as lists: the same, by index.
 pub record NearPyramids (z : Size) (plane : ℕ → ℕ) (p p' : List ℤ) : Type 0 where

@@ -1,9 +1,7 @@
 -- Files written are read back, whatever stands behind their pixels; and what stands behind the pixels of any file makes no difference.
-use Rattle.std.specs.Prelude.{◌≡◌, List, [], ◌∷◌, ◌++◌, ℕ, ◌+◌, ◌-◌, ◌*◌, ◌/◌, ◌%◌, ◌≤◌, ◌<◌, length}
-use Rattle.std.proofs.Common.{◌∙◌}
+use Rattle.std.specs.Prelude.{◌≡◌, List, ◌++◌, ℕ, ◌*◌, length}
 use Rattle.pictures.specs.Document.Netpbm.{picture}
 use Rattle.pictures.specs.Document.Netpbm.{read_file}
-use Rattle.pictures.specs.Laws.GreyCauses as causes
 
 -- A file that is a picture.
 pub record IsPicture (s : List ℕ) (w h : ℕ) (pixels : List ℕ) : Type 0 where

@@ -1,7 +1,6 @@
 -- From a picture's file to a picture's file: the theorem of W3, said of what the calls leave in the memory lent to them. The pyramid is what stands
 -- in the output of the way in, the record what stands in the coder's, and what is promised is said of the output and the answer of the way back.
 use Rattle.std.specs.Prelude.{◌≡◌, List, ◌++◌, ℕ, ◌-◌, ◌≤◌, length, take, ℤ}
-use Rattle.std.proofs.Common.{◌∙◌}
 use Rattle.std.proofs.Math.ListN.{get_or}
 use Rattle.rules.specs.declared.Size.{Size}
 use Rattle.rules.specs.Document.Notation.{zeros}
@@ -13,7 +12,6 @@ use Rattle.pictures.specs.Document.Netpbm.{picture, read_file, grey_file}
 use Rattle.pictures.specs.Document.Calls.{grey_places, AfsGreyIn, AfsGreyOut}
 use Rattle.pictures.specs.Laws.Behind.{Bytes}
 use Rattle.pictures.specs.Laws.GreyRefusals.{sized}
-use Rattle.pictures.specs.Laws.GreyReturns.{Taken}
 
 -- Of the way in, where it came back with number 0: the file is a picture of the size that is told, W x H bytes are its pixels, and the output is the
 -- pyramid of these; coding takes it.

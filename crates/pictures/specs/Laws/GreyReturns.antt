@@ -1,8 +1,6 @@
 -- The theorem of W3: what the way in takes of a file comes back, every pixel, by the way back; coded, decoded whole and printed too.
-use Rattle.std.specs.Prelude.{◌≡◌, true, ℕ, ◌≤◌, length}
-use Rattle.std.proofs.Common.{◌∙◌}
-use mathlib.Core.List.{List, [], ◌∷◌}
-use Rattle.rules.specs.declared.Refusal.TheVariants as refusal
+use Rattle.std.specs.Prelude.{◌≡◌, true, ℕ, length}
+use mathlib.Core.List.{List}
 use Rattle.rules.specs.Document.Pyramid.{legal_size, area}
 use Rattle.pictures.specs.Document.Lifting.{pyramid_of}
 use Rattle.pictures.specs.Document.Netpbm.{picture, read_file}

@@ -1,7 +1,6 @@
 -- A picture written out and read back is the picture: list_of and grid_of, and what of a picture a turn looks at.
 use Rattle.std.specs.Prelude.{◌≡◌}
-use Rattle.std.proofs.Common.{◌∙◌}
-use Prim.Native.Nat.{ℕ, ◌+◌, ◌*◌, ◌/◌, ◌^◌, ◌≤◌, ◌<◌}
+use Prim.Native.Nat.{ℕ, ◌<◌}
 use Rattle.pictures.specs.Document.Lifting.{Grid}
 
 -- Two pictures of h rows and w columns that are the same in them.

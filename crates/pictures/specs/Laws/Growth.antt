@@ -1,6 +1,5 @@
 -- How much greater than the numbers of a line its highs, lows, even and odd numbers can be, and so those of a turn.
-use Rattle.std.specs.Prelude.{◌≡◌, ℕ, ◌+◌, ◌-◌, ◌*◌, ◌/◌, ◌%◌, ◌≤◌, ◌<◌}
-use Rattle.pictures.specs.Document.Lifting.{split, joined}
+use Rattle.std.specs.Prelude.{ℕ, ◌+◌, ◌*◌, ◌/◌}
 
 -- The greatest magnitude that this speaks of: far more than a picture's, and little enough for its tones to be natural numbers.
 abbrev pub roomy : ℕ

@@ -1,6 +1,6 @@
 -- Two pyramids that are near each other, and what a turn back makes of them.
-use Rattle.std.specs.Prelude.{◌≡◌, cond, ltb}
-use Prim.Native.Nat.{ℕ, ◌+◌, ◌*◌, ◌/◌, ◌^◌, ◌≤◌, ◌<◌}
+use Rattle.std.specs.Prelude.{cond, ltb}
+use Prim.Native.Nat.{ℕ, ◌+◌, ◌*◌, ◌/◌, ◌<◌}
 use Rattle.pictures.specs.Document.Lifting.{Grid}
 use Rattle.pictures.specs.Laws.Turns.{Bands}
 use Rattle.pictures.specs.Laws.Distance.{Nearby}

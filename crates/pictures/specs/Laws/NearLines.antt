@@ -1,5 +1,5 @@
 -- Two lines that are near each other, joined: how far apart what comes of them may be.
-use Rattle.std.specs.Prelude.{◌≡◌, cond, ℕ, ◌+◌, ◌-◌, ◌*◌, ◌/◌, ◌%◌, ◌≤◌, ◌<◌, ltb, ◌-ℤ◌}
+use Rattle.std.specs.Prelude.{cond, ℕ, ◌+◌, ◌≤◌, ltb}
 
 -- The same of natural numbers: tones, and pixels.
 abbrev pub Close : ℕ → ℕ → ℕ → Type 0

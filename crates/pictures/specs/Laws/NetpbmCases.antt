@@ -1,5 +1,5 @@
 -- Grey files as they are met, read and written: one table, and one claim about all its rows, by computation.
-use Rattle.std.specs.Prelude.{◌≡◌, List, [], ◌∷◌, ◌++◌, map, ℕ, take, replicate}
+use Rattle.std.specs.Prelude.{List, [], ◌∷◌, ◌++◌, map, ℕ, take, replicate}
 use Prim.Native.Char.{code}
 use Prim.Native.String as string
 use Rattle.rules.specs.Document.Passes.{from}
@@ -35,8 +35,8 @@ pub data Shown : Type 0 where
 pub record Row : Type 0 where
   pub given : Shown
   pub stated : Shown
-infixl 5 ◌is◌
 
+infixl 5 ◌is◌
 abbrev pub ◌is◌ : Shown → Shown → Row
 ◌is◌ x y = record { given = x; stated = y }
 

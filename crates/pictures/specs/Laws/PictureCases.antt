@@ -1,5 +1,5 @@
 -- A picture of 4 x 4, N = 1, and its pyramid, both ways: one table, and one claim about all its rows, by computation.
-use Rattle.std.specs.Prelude.{◌≡◌, List, [], ◌∷◌, map, ℤ, pos, negsuc, ℕ}
+use Rattle.std.specs.Prelude.{List, [], ◌∷◌, map, ℤ, pos, negsuc, ℕ}
 use Rattle.rules.specs.declared.Size.{Size}
 use Rattle.rules.specs.Document.Passes.{from}
 use Rattle.pictures.specs.Document.Lifting.{high, low, split, even, odd, joined, along_rows, along_columns}
@@ -42,8 +42,8 @@ coefficients =
 pub record Row : Type 0 where
   pub given : List ℤ
   pub stated : List ℤ
-infixl 5 ◌is◌
 
+infixl 5 ◌is◌
 abbrev pub ◌is◌ : List ℤ → List ℤ → Row
 ◌is◌ x y = record { given = x; stated = y }
 

@@ -1,14 +1,13 @@
 -- W3's question: of a picture's record, whatever arrives of it, how far is a printed pixel from the recorded one?
 use Rattle.std.specs.Prelude.{◌≡◌, ℕ, ◌-◌, ◌≤◌, ◌<◌, length, get_or}
-use Rattle.std.proofs.Common.{◌∙◌}
 use mathlib.Core.List.{List, map}
 use Rattle.std.proofs.Math.IntN.{ℤ}
 use Rattle.rules.specs.declared.Size.{Size}
 use Rattle.rules.specs.Document.Pyramid.{area, levels}
 use Rattle.rules.specs.Document.Calls.{Result, accepted, work_for, Picture, plane_in}
 use Rattle.pictures.specs.Document.Lifting.{pyramid_of, picture_of}
-use Rattle.pictures.specs.Document.Netpbm.{picture, grey_file}
-use Rattle.pictures.specs.Document.Calls.{clip, print_of, printed, grey_out}
+use Rattle.pictures.specs.Document.Netpbm.{grey_file}
+use Rattle.pictures.specs.Document.Calls.{clip, print_of, grey_out}
 use Rattle.pictures.specs.Laws.Distance.{pixel_most, halved, top_left, small_picture}
 use Rattle.pictures.specs.Laws.NearLines.{Close}
 

@@ -1,11 +1,9 @@
 -- Of the record of a picture, whatever arrives: how far what is printed is from what was recorded.
-use Rattle.std.specs.Prelude.{◌≡◌, List, map, length, get_or, pos, ◌+ℤ◌, ◌-ℤ◌}
-use Rattle.std.proofs.Common.{◌∙◌}
-use Prim.Native.Nat.{ℕ, ◌+◌, ◌-◌, ◌≤◌, ◌<◌}
-use Rattle.std.proofs.Math.IntN.{+ℤ_idl, -ℤ-+ℤ_cancel}
+use Rattle.std.specs.Prelude.{◌≡◌, List, map, length, get_or, pos}
+use Prim.Native.Nat.{ℕ, ◌-◌, ◌≤◌, ◌<◌}
 use Rattle.rules.specs.declared.Size.{Size}
 use Rattle.rules.specs.Document.Pyramid.{area, levels, magnitude}
-use Rattle.rules.specs.Document.Calls.{Result, accepted, Picture, plane_in, decoding}
+use Rattle.rules.specs.Document.Calls.{Result, accepted, Picture, plane_in}
 use Rattle.pictures.specs.Document.Lifting.{pyramid_of, picture_of}
 use Rattle.pictures.specs.Laws.Room.{most_back}
 use Rattle.pictures.specs.Laws.Distance.{Nearby, pixel_most, halved, small_picture}

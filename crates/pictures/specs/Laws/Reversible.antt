@@ -1,8 +1,6 @@
 -- What is split comes back when it is joined, and what is joined when it is split: lines, blocks, turns, pictures. For any integers.
-use Rattle.std.specs.Prelude.{◌≡◌, ◌&&◌, ◌+ℤ◌, ◌-ℤ◌}
-use Rattle.std.proofs.Common.{◌∙◌}
-use Prim.Native.Nat.{ℕ, ◌+◌, ◌-◌, ◌*◌, ◌/◌, ◌%◌, ◌^◌, ◌≤◌, ◌<◌}
-use Rattle.std.proofs.Math.IntN.{+ℤ-neg_ℤ_cancel, -ℤ-+ℤ_cancel}
+use Rattle.std.specs.Prelude.{◌≡◌}
+use Prim.Native.Nat.{ℕ, ◌*◌, ◌<◌}
 use Rattle.pictures.specs.Document.Lifting.{Line}
 
 -- Blocks: a change of lines that looks at their first 2m numbers alone, and one that such a change undoes.

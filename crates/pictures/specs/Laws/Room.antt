@@ -1,8 +1,8 @@
 -- Room: for N up to 8, every number that a turn takes, leaves in between or gives is within 2^24 of 0, so every tone within 2^24 of the bias:
 -- on the way in of pixels up to 255, and on the way back of a pyramid with magnitudes up to 131,071.
-use Rattle.std.specs.Prelude.{◌≡◌, ℕ, ◌+◌, ◌*◌, ◌/◌, ◌^◌, ◌≤◌}
+use Rattle.std.specs.Prelude.{ℕ, ◌/◌, ◌^◌}
 use Rattle.rules.specs.declared.Size.{Size}
-use Rattle.pictures.specs.Document.Lifting.{Grid, columns_split, rows_joined, forward, back}
+use Rattle.pictures.specs.Document.Lifting.{Grid, columns_split, rows_joined, forward}
 use Rattle.pictures.specs.Laws.Turns.{Most}
 
 abbrev pub most_turns : ℕ

@@ -1,9 +1,7 @@
 -- Tones: the code never holds a number below 0. A number v stands in the workspace as its tone, v + 2^28, so that sums, halves and quarters
 -- are of natural numbers, and each of a high, a low, an even and an odd number is one line of them.
-use Rattle.std.specs.Prelude.{◌≡◌, ℕ, suc, ◌+◌, ◌-◌, ◌*◌, ◌/◌, ◌≤◌, ◌<◌, ℤ, pos, negsuc, ◌+ℤ◌, ◌-ℤ◌}
-use Rattle.std.proofs.Common.{◌∙◌}
+use Rattle.std.specs.Prelude.{ℕ, suc, ◌+◌, ◌-◌, ◌/◌, ◌≤◌, ℤ, pos, negsuc}
 use Rattle.std.proofs.Math.IntN.{sub_ℕ}
-use Rattle.pictures.specs.Document.Lifting.{high, low, even, odd}
 
 abbrev pub bias : ℕ
 bias = 268435456

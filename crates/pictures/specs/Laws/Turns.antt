@@ -1,10 +1,9 @@
 -- How great numbers can become, turn by turn, on the way in and on the way back.
-use Rattle.std.specs.Prelude.{◌≡◌, List, get_or, nat_abs}
-use Rattle.std.proofs.Common.{◌∙◌}
+use Rattle.std.specs.Prelude.{List, get_or, nat_abs}
 use Prim.Native.Nat.{ℕ, zero, suc, ◌+◌, ◌-◌, ◌*◌, ◌/◌, ◌^◌, ◌≤◌, ◌<◌}
 use Rattle.rules.specs.declared.Size.{Size}
 use Rattle.rules.specs.Document.Pyramid.{area}
-use Rattle.pictures.specs.Document.Lifting.{Grid, turn, turn_back, back}
+use Rattle.pictures.specs.Document.Lifting.{Grid, turn_back}
 use Rattle.pictures.specs.Laws.Growth.{low_most}
 
 -- In the first h rows and w columns no magnitude is over r.

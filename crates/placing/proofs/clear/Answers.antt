@@ -1,7 +1,7 @@
 use native.Mathlib.Omega.{arith}
 use borrow.Author.Rules.{rules}
 use Rattle.placing.proofs.Band.{few}
-use Rattle.placing.proofs.Loops.{ClearedOver, cleared_none, cleared_more, cleared_all, roomy_same}
+use Rattle.placing.proofs.Loops.{cleared_none, cleared_more, cleared_all, roomy_same}
 use Rattle.placing.proofs.clear.Goals as goal
 
 pub overflow_add-k : goal.overflow_add-k

@@ -1,7 +1,4 @@
-use native.Mathlib.Omega.{arith}
-use borrow.Author.Rules.{rules}
-use Rattle.placing.proofs.Band.{few}
-use Rattle.placing.proofs.Loops.{ClearedOver, cleared_none, cleared_more, cleared_all, roomy_same}
+use Rattle.placing.proofs.Loops.{ClearedOver}
 use Rattle.placing.proofs.clear.Given as goal
 
 abbrev pub invariant-loop-k : goal.invariant-loop-k

@@ -1,9 +1,5 @@
 use Prim.Native.Nat.{◌-◌}
-use native.Mathlib.Omega.{arith}
-use borrow.Author.Rules.{rules}
-use Rattle.placing.proofs.Band.{few, band_rows_lem}
-use Rattle.placing.proofs.Loops.{given_same}
-use Rattle.placing.proofs.Calls.{band_rows, CopyingBand, banding_none, band_row_copied, band_rows_copied}
+use Rattle.placing.proofs.Calls.{band_rows, CopyingBand}
 use Rattle.placing.proofs.copy_band.Given as goal
 
 abbrev pub invariant-loop-row : goal.invariant-loop-row

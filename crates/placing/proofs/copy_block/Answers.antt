@@ -1,6 +1,5 @@
 use native.Mathlib.Omega.{arith}
 use lib.ListN.{length-set}
-use borrow.Author.Rules.{rules}
 use Rattle.placing.proofs.Stores.{four_copied}
 use Rattle.placing.proofs.copy_block.Goals as goal
 

@@ -1,11 +1,6 @@
-use Prim.Native.Nat.{ℕ, ◌-◌}
 use native.Mathlib.Omega.{arith}
-use lib.ListN.{get_or}
-use lib.IntN.{pos}
 use borrow.Author.Rules.{rules}
-use Rattle.coefficients.specs.Words.{worded}
-use Rattle.placing.specs.Stores.{corner_of}
-use Rattle.placing.proofs.Blocks.{Storing, storing_none, storing_more, storing_all, behind, storing_long, storing_under, storing_room}
+use Rattle.placing.proofs.Blocks.{storing_none, storing_more, storing_all, behind, storing_long, storing_under, storing_room}
 use Rattle.placing.proofs.Stores.{word_fits}
 use Rattle.placing.proofs.copy_blocks.Goals as goal
 

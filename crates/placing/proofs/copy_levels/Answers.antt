@@ -1,5 +1,5 @@
 use borrow.Author.Rules.{rules}
-use Rattle.placing.proofs.Loops.{copied_none, copied_more, copied_end, CopiedTo, given_same, blocks_of}
+use Rattle.placing.proofs.Loops.{copied_none, copied_more, copied_end, given_same, blocks_of}
 use Rattle.placing.proofs.copy_levels.Goals as goal
 
 pub loop-k-init : goal.loop-k-init

@@ -1,5 +1,4 @@
-use borrow.Author.Rules.{rules}
-use Rattle.placing.proofs.Loops.{copied_none, copied_more, copied_end, CopiedTo, given_same, blocks_of}
+use Rattle.placing.proofs.Loops.{CopiedTo}
 use Rattle.placing.proofs.copy_levels.Given as goal
 
 abbrev pub invariant-loop-k : goal.invariant-loop-k

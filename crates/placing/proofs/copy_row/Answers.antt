@@ -1,15 +1,8 @@
-use Prim.Native.Nat.{◌-◌, ◌*◌}
 use native.Mathlib.Omega.{arith}
-use lib.ListN.{get_or}
-use lib.IntN.{pos}
 use borrow.Author.Rules.{rules}
-use Rattle.rules.specs.Document.Pyramid.{index, area}
-use Rattle.trees.specs.Places.{band_width}
-use Rattle.trees.specs.Run.{number_of}
-use Rattle.coefficients.specs.Words.{worded}
 use Rattle.placing.proofs.Band.{few, all, band_columns}
 use Rattle.placing.proofs.Calls.{row_numbers, number_inside, row_inside}
-use Rattle.placing.proofs.Blocks.{Rowing, rowing_none, rowing_more, rowing_all}
+use Rattle.placing.proofs.Blocks.{rowing_none, rowing_more, rowing_all}
 use Rattle.placing.proofs.Loops.{given_small}
 use Rattle.placing.proofs.copy_row.Goals as goal
 

@@ -1,6 +1,5 @@
 use native.Mathlib.Omega.{arith}
 use lib.ListN.{length-set}
-use borrow.Author.Rules.{rules}
 use Rattle.placing.proofs.Signed.{four_laid}
 use Rattle.placing.proofs.lay_block.Goals as goal
 

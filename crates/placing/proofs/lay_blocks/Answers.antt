@@ -1,7 +1,6 @@
-use Prim.Native.Nat.{◌-◌}
 use native.Mathlib.Omega.{arith}
 use borrow.Author.Rules.{rules}
-use Rattle.placing.proofs.Blocks.{Laying, laying_none, laying_inside, laying_more, laying_all}
+use Rattle.placing.proofs.Blocks.{laying_none, laying_inside, laying_more, laying_all}
 use Rattle.placing.proofs.Stores.{word_fits}
 use Rattle.placing.proofs.lay_blocks.Goals as goal
 

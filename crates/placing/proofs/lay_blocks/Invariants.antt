@@ -1,8 +1,5 @@
 use Prim.Native.Nat.{◌-◌}
-use native.Mathlib.Omega.{arith}
-use borrow.Author.Rules.{rules}
-use Rattle.placing.proofs.Blocks.{Laying, laying_none, laying_inside, laying_more, laying_all}
-use Rattle.placing.proofs.Stores.{word_fits}
+use Rattle.placing.proofs.Blocks.{Laying}
 use Rattle.placing.proofs.lay_blocks.Given as goal
 
 abbrev pub invariant-loop-b : goal.invariant-loop-b

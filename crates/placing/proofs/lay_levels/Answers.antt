@@ -1,5 +1,5 @@
 use borrow.Author.Rules.{rules}
-use Rattle.placing.proofs.Loops.{laid_none, laid_more, laid_end, LaidTo, blocks_of}
+use Rattle.placing.proofs.Loops.{laid_none, laid_more, laid_end, blocks_of}
 use Rattle.placing.proofs.lay_levels.Goals as goal
 
 pub loop-k-init : goal.loop-k-init

@@ -1,5 +1,4 @@
-use borrow.Author.Rules.{rules}
-use Rattle.placing.proofs.Loops.{laid_none, laid_more, laid_end, LaidTo, blocks_of}
+use Rattle.placing.proofs.Loops.{LaidTo}
 use Rattle.placing.proofs.lay_levels.Given as goal
 
 abbrev pub invariant-loop-k : goal.invariant-loop-k

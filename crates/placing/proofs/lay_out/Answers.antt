@@ -1,4 +1,3 @@
-use borrow.Author.Rules.{rules}
 use Rattle.rules.proofs.Laws.Family.Sizes.{legal}
 use Rattle.placing.proofs.Loops.{laid_all}
 use Rattle.placing.proofs.lay_out.Goals as goal

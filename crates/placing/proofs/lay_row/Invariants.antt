@@ -1,16 +1,11 @@
 use Prim.Native.Nat.{◌-◌, ◌*◌}
-use native.Mathlib.Omega.{arith}
 use lib.ListN.{get_or}
 use lib.IntN.{pos}
-use borrow.Author.Rules.{rules}
 use Rattle.rules.specs.Document.Pyramid.{index, area}
 use Rattle.trees.specs.Places.{band_width}
 use Rattle.trees.specs.Run.{number_of}
 use Rattle.coefficients.specs.Words.{value_of}
-use Rattle.placing.proofs.Band.{few, all, band_columns}
-use Rattle.placing.proofs.Blocks.{Rowing, rowing_none, rowing_all, rowing_more}
-use Rattle.placing.proofs.Calls.{number_inside, row_inside, row_places}
-use Rattle.placing.proofs.Signed.{value_read}
+use Rattle.placing.proofs.Blocks.{Rowing}
 use Rattle.placing.proofs.lay_row.Given as goal
 
 abbrev pub invariant-loop-column : goal.invariant-loop-column

@@ -1,5 +1,5 @@
 use borrow.Author.Rules.{rules}
-use Rattle.placing.proofs.Loops.{PlacedFrom, placed_first, placed_more, placed_all, placed_over}
+use Rattle.placing.proofs.Loops.{placed_first, placed_more, placed_all, placed_over}
 use Rattle.placing.proofs.place_blocks.Goals as goal
 
 pub loop-k-init : goal.loop-k-init

@@ -1,5 +1,4 @@
-use borrow.Author.Rules.{rules}
-use Rattle.placing.proofs.Loops.{PlacedFrom, placed_first, placed_more, placed_all, placed_over}
+use Rattle.placing.proofs.Loops.{PlacedFrom}
 use Rattle.placing.proofs.place_blocks.Given as goal
 
 abbrev pub invariant-loop-k : goal.invariant-loop-k

@@ -1,7 +1,6 @@
-use Prim.Native.Nat.{◌-◌}
 use native.Mathlib.Omega.{arith}
 use borrow.Author.Rules.{rules}
-use Rattle.placing.proofs.Blocks.{Grouping, grouping_none, grouping_more, grouping_all, grouping_room}
+use Rattle.placing.proofs.Blocks.{grouping_none, grouping_more, grouping_all, grouping_room}
 use Rattle.placing.proofs.place_groups.Goals as goal
 
 pub loop-i-init : goal.loop-i-init

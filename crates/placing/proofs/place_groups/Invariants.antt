@@ -1,7 +1,5 @@
 use Prim.Native.Nat.{◌-◌}
-use native.Mathlib.Omega.{arith}
-use borrow.Author.Rules.{rules}
-use Rattle.placing.proofs.Blocks.{Grouping, grouping_none, grouping_more, grouping_all, grouping_room}
+use Rattle.placing.proofs.Blocks.{Grouping}
 use Rattle.placing.proofs.place_groups.Given as goal
 
 abbrev pub invariant-loop-i : goal.invariant-loop-i

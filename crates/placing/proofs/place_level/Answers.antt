@@ -1,5 +1,4 @@
 use native.Mathlib.Omega.{arith}
-use borrow.Author.Rules.{rules}
 use Rattle.placing.proofs.Band.{few, wide}
 use Rattle.placing.proofs.Calls.{level_under_asks, level_under}
 use Rattle.placing.proofs.place_level.Goals as goal

@@ -1,5 +1,4 @@
 use native.Mathlib.Omega.{arith}
-use borrow.Author.Rules.{rules}
 use Rattle.rules.proofs.Laws.Family.Sizes.{legal}
 use Rattle.placing.proofs.Band.{few}
 use Rattle.placing.proofs.Calls.{roots_asks, roots_placed}

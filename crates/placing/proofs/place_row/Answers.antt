@@ -1,7 +1,7 @@
 use Rattle.placing.proofs.Blocks.{put_count}
-use Prim.Native.Nat.{ℕ, ◌+◌, ◌-◌, ◌*◌, ◌/◌, ◌%◌, ◌≤◌}
+use Prim.Native.Nat.{ℕ, ◌+◌, ◌*◌}
 use native.Mathlib.Omega.{arith}
-use Rattle.placing.specs.Stores.{Put, rank_of}
+use Rattle.placing.specs.Stores.{rank_of}
 use Rattle.placing.proofs.Stores.{put_none, group_stored}
 use borrow.Author.Rules.{rules}
 use Rattle.placing.proofs.place_row.Goals as goal

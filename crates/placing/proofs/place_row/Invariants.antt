@@ -1,9 +1,5 @@
-use Rattle.placing.proofs.Blocks.{put_count}
-use Prim.Native.Nat.{ℕ, ◌+◌, ◌-◌, ◌*◌, ◌/◌, ◌%◌, ◌≤◌}
-use native.Mathlib.Omega.{arith}
+use Prim.Native.Nat.{◌+◌, ◌-◌, ◌*◌, ◌/◌, ◌%◌, ◌≤◌}
 use Rattle.placing.specs.Stores.{Put, rank_of}
-use Rattle.placing.proofs.Stores.{put_none, group_stored}
-use borrow.Author.Rules.{rules}
 use Rattle.placing.proofs.place_row.Given as goal
 
 abbrev pub invariant-loop-j : goal.invariant-loop-j

@@ -1,8 +1,6 @@
 use Prim.Native.Nat.{ℕ, ◌-◌, ◌*◌}
-use native.Mathlib.Omega.{arith}
-use borrow.Author.Rules.{rules}
 use Rattle.placing.specs.Stores.{corner_of}
-use Rattle.placing.proofs.Blocks.{Storing, storing_none, storing_more, storing_all, before, storing_long, storing_under, storing_room}
+use Rattle.placing.proofs.Blocks.{Storing}
 use Rattle.placing.proofs.place_under.Given as goal
 
 abbrev pub invariant-loop-b : goal.invariant-loop-b

@@ -1,6 +1,5 @@
 use native.Mathlib.Omega.{arith}
 use lib.ListN.{length-set}
-use borrow.Author.Rules.{rules}
 use Rattle.placing.proofs.Stores.{put_four, apart_row}
 use Rattle.placing.specs.Stores.{corner_of}
 use Rattle.placing.proofs.set_under.Goals as goal

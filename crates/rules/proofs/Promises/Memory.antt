@@ -1,7 +1,7 @@
 -- From memory to memory: demands 2 and 3, said of what the calls leave in the memory lent to them and of nothing else. The record is what stands
 -- in the coder's output, its first answer'[2] bytes; what arrives of it is made from these bytes; and what is promised is said of the output, the
 -- answer and the workspace that decoding leaves. Vocabulary has the words: Selected, Recorded, Serves, Decodes.
-use Rattle.std.specs.Prelude.{◌≡◌, refl, ◌≤◌}
+use Rattle.std.specs.Prelude.{refl}
 use Rattle.rules.proofs.Laws.Bytes.Room.{coding_accepts}
 use Rattle.rules.proofs.Laws.Calls.Arrived.{earlier_count}
 use Rattle.rules.proofs.Laws.Calls.Memory.{afs_code_recorded, afs_code_accepts, afs_decode_prints, recorded, afs_serve_selects, afs_serve_accepts}

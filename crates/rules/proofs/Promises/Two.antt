@@ -10,7 +10,7 @@ use Rattle.rules.specs.declared.HeaderRead.TheVariants as header
 use Rattle.rules.specs.Document.Notation.{zeros}
 use Rattle.rules.specs.Document.Pyramid.{levels}
 use Rattle.rules.specs.Document.Passes.{part_names, PartName}
-use Rattle.rules.specs.Document.Layout.{parts_with, record_with, reached, earlier_planes_in, record_of}
+use Rattle.rules.specs.Document.Layout.{parts_with, record_with, earlier_planes_in, record_of}
 use Rattle.rules.specs.Document.Numbers.{tail, read_header, read_parts}
 use Rattle.rules.specs.Document.Calls.{serving, unless, legal_ask, portioned, decoding, accepted, level_places, Portion, Serving, AfsServe}
 use Rattle.rules.specs.Promises.Vocabulary.{names, Named, present, Codable, PlaneCount, ReadsAs, header_of, record_bytes, kept, asked, arrived, whole_in}

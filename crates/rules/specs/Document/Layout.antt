@@ -6,7 +6,7 @@ use Rattle.rules.specs.declared.Number.TheVariants.{Value, TooManyBytes, LongFor
 use Rattle.rules.specs.declared.Part.{Part}
 use Rattle.rules.specs.Document.Notation.{any, every, flat, greatest, lowest}
 use Rattle.rules.specs.Document.Pyramid.{Family, family, levels, magnitude, negative, earlier_planes_of, planes_of}
-use Rattle.rules.specs.Document.Passes.{Course, State, start, after, PartName, part_names, coded}
+use Rattle.rules.specs.Document.Passes.{State, start, after, PartName, part_names, coded}
 
 -- "Numbers are groups of seven bits, lowest group first; a set top bit says that another byte follows. At most four bytes; shortest form
 -- only."

@@ -3,7 +3,7 @@
 use Rattle.std.specs.Prelude.{List, [], ◌∷◌, ◌++◌, map, Bool, true, false, cond, ℕ, zero, suc, ◌+◌, ◌*◌, ◌/◌, ◌%◌, ◌^◌, leb, eqb, length, get_or, set, ℤ, pos, negsuc, neg_ℤ}
 use Rattle.rules.specs.declared.Size.{Size}
 use Rattle.rules.specs.Document.Notation.{any, flat, greatest, if_any}
-use Rattle.rules.specs.Document.Pyramid.{Family, family, within, levels, offspring_of}
+use Rattle.rules.specs.Document.Pyramid.{Family, levels, offspring_of}
 
 -- An entry of a LIS: a coefficient as type A, for its D, or as type B, for its L.
 pub data Entry : Type 0 where

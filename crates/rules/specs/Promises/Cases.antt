@@ -1,7 +1,7 @@
 -- The cases that document 01 names, P1 to P12, and its record in full, with some more that only one reading of it gives, and bytes of which W2 says
 -- why they are refused: one table, and one claim about all its rows, by computation. What is stated is numbers and bytes; of a call the answer that its
 -- export writes and the output it leaves.
-use Rattle.std.specs.Prelude.{◌≡◌, List, [], ◌∷◌, ◌++◌, map, ℕ, ◌+◌, ◌*◌, length, take, replicate, ℤ, pos, negsuc}
+use Rattle.std.specs.Prelude.{List, [], ◌∷◌, ◌++◌, map, ℕ, ◌+◌, ◌*◌, length, take, replicate, ℤ, pos, negsuc}
 use Rattle.rules.specs.declared.Size.{Size}
 use Rattle.rules.specs.declared.Number.{Number}
 use Rattle.rules.specs.declared.Number.TheVariants.{Value, TooManyBytes, LongForm}
@@ -295,8 +295,8 @@ pub data Shown : Type 0 where
 pub record Row : Type 0 where
   pub given : Shown
   pub stated : Shown
-infixl 5 ◌is◌
 
+infixl 5 ◌is◌
 abbrev pub ◌is◌ : Shown → Shown → Row
 ◌is◌ x y = record { given = x; stated = y }
 

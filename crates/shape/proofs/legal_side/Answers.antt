@@ -1,6 +1,5 @@
 -- `shape::legal_side`: the bounds first, then the power of two, which fits.
 use native.Mathlib.Omega.{arith}
-use borrow.Author.Rules.{rules}
 use Rattle.shape.proofs.Sizes.{shifted_some, side_short, side_long, side_multiple}
 use Rattle.shape.proofs.legal_side.Goals as goal
 

@@ -1,6 +1,5 @@
 -- `shape::legal_size`: N first, then both sides.
 use mathlib.Core.Path.{◌∙◌}
-use borrow.Author.Rules.{rules}
 use Rattle.shape.proofs.Sizes.{size_few, size_many, size_first, size_second}
 use Rattle.shape.proofs.legal_size.Goals as goal
 

@@ -1,5 +1,4 @@
 -- `shape::level_end`: where the next finer level begins.
-use borrow.Author.Rules.{rules}
 use Rattle.rules.specs.Laws.Family.Sizes.{level_end}
 use Rattle.shape.proofs.level_end.Goals as goal
 

@@ -2,7 +2,6 @@
 use mathlib.Core.Path.{ap₂}
 use Prim.Native.Nat.{ℕ, ◌-◌}
 use native.Mathlib.Omega.{arith}
-use borrow.Author.Rules.{rules}
 use Rattle.rules.specs.Laws.Family.Sizes.{level_size}
 use Rattle.shape.proofs.Sizes.{start_before}
 use Rattle.shape.proofs.level_size.Goals as goal

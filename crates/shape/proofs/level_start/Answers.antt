@@ -1,6 +1,5 @@
 -- `shape::level_start`: level N+1 begins at 0, another at its span.
 use mathlib.Core.Path.{sym, ◌∙◌}
-use borrow.Author.Rules.{rules}
 use Rattle.rules.proofs.Laws.Family.Sizes.{level_start_fine}
 use Rattle.shape.proofs.Sizes.{start_zero}
 use Rattle.shape.proofs.level_start.Goals as goal

@@ -1,9 +1,5 @@
-use mathlib.Core.Path.{◌≡◌, refl}
+use mathlib.Core.Path.{refl}
 use native.Mathlib.Omega.{arith}
-use Prim.Native.Nat.{◌≤◌, ◌-◌}
-use lib.ListN.{length}
-use Rattle.lists.specs.Lists.{known}
-use Rattle.testing.specs.Finding.{Refined}
 use Rattle.testing.proofs.Refining.{refined_none, refining_inside, refining_next, refining_place, refining_small, refined_done}
 use borrow.Author.Rules.{rules}
 use Rattle.testing.proofs.refine_lsp.Goals as goal

@@ -1,7 +1,6 @@
 use Rattle.testing.proofs.Finding.{noted_by_fits, noted_by_marked, noted_as, tested_by, ends_moved}
 use Rattle.testing.proofs.Leaves.{marked_tells}
 use native.Mathlib.Omega.{arith}
-use borrow.Author.Rules.{rules}
 use Rattle.testing.proofs.test.Goals as goal
 
 pub note_tested-requires : goal.note_tested-requires

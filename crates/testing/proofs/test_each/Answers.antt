@@ -1,9 +1,6 @@
-use mathlib.Core.Path.{◌≡◌, refl}
+use mathlib.Core.Path.{refl}
 use native.Mathlib.Omega.{arith}
-use Prim.Native.Nat.{◌≤◌, ◌-◌}
-use lib.ListN.{length}
-use Rattle.lists.specs.Lists.{waiting}
-use Rattle.testing.specs.Finding.{moved_to, Tested, stood}
+use Rattle.testing.specs.Finding.{stood}
 use Rattle.testing.proofs.Finding.{ends_moved, moved_from, each-length, each_there, each_inside, each_marked, each_next, each_none, each_done}
 use borrow.Author.Rules.{rules}
 use Rattle.testing.proofs.test_each.Goals as goal

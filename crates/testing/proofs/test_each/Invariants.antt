@@ -1,11 +1,8 @@
-use mathlib.Core.Path.{◌≡◌, refl}
-use native.Mathlib.Omega.{arith}
+use mathlib.Core.Path.{◌≡◌}
 use Prim.Native.Nat.{◌≤◌, ◌-◌}
 use lib.ListN.{length}
 use Rattle.lists.specs.Lists.{waiting}
-use Rattle.testing.specs.Finding.{moved_to, Tested, stood}
-use Rattle.testing.proofs.Finding.{ends_moved, moved_from, each-length, each_there, each_inside, each_marked, each_next, each_none, each_done}
-use borrow.Author.Rules.{rules}
+use Rattle.testing.specs.Finding.{moved_to, Tested}
 use Rattle.testing.proofs.test_each.Given as goal
 
 abbrev pub invariant-loop-i : goal.invariant-loop-i

@@ -1,6 +1,5 @@
 use mathlib.Core.Path.{refl, sym}
 use native.Mathlib.Omega.{arith}
-use borrow.Author.Rules.{rules}
 use Rattle.rules.proofs.Laws.Bytes.BodyBack.{bit_past}
 use Rattle.rules.specs.Document.Layout.{bit_at}
 use Rattle.bits.proofs.BitPosition.read.Goals as goal

@@ -8,7 +8,7 @@ pub returns : goal.returns
 returns c = (
   refl,
   elim c.if-place-out.branch [
-      then-place-out w ↦ w.out-is ∙ set_bit_stored c.args.out.now _ _ _ w.with_bit.ensures
+    | then-place-out w ↦ w.out-is ∙ set_bit_stored c.args.out.now _ _ _ w.with_bit.ensures
     | else-place-out w ↦ w.out-is ∙ sym (set_bit_past _ _ _ w.if-place-out.false)
   ],
 )

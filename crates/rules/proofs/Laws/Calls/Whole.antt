@@ -8,7 +8,7 @@ use Rattle.std.proofs.lemmas.List.{length-replicate, get_or-replicate}
 use Rattle.rules.specs.declared.Size.{Size}
 use Rattle.rules.specs.declared.Plane.{Plane}
 use Rattle.rules.specs.declared.Refusal.TheVariants as refusal
-use Rattle.rules.specs.Document.Notation.{any, every, zeros}
+use Rattle.rules.specs.Document.Notation.{zeros}
 use Rattle.rules.specs.Document.Pyramid.{area, levels, level_of, family, magnitude, negative}
 use Rattle.rules.specs.Document.Passes.{PartName, part_names, start}
 use Rattle.rules.specs.Document.Layout.{parts_with, record_with, earlier_planes_in, record_of, usable, reached}

@@ -1,5 +1,5 @@
 -- How long the lists of a pass and its bits can be, whatever the bits: at every point of it, and at its end.
-use Rattle.std.specs.Prelude.{List, [], ◌∷◌, ℕ, ◌+◌, ◌*◌, ◌≤◌, length}
+use Rattle.std.specs.Prelude.{List, [], ◌∷◌, ℕ, ◌+◌, length}
 use native.Mathlib.Omega.{arith}
 use Rattle.std.proofs.Math.ListN.{length-append}
 use Rattle.rules.specs.Document.Pyramid.{Family}

@@ -3,7 +3,7 @@ use Rattle.std.specs.Prelude.{◌≡◌, refl, Bool, true, false, ℕ, zero, suc
 use Rattle.std.proofs.Common.{sym, subst, arith, le_refl}
 use mathlib.Core.List.{List, [], ◌∷◌, ◌++◌}
 use Rattle.rules.specs.Document.Pyramid.{Family}
-use Rattle.rules.specs.Document.Passes.{Entry, significant?, negative?, bit?, set?, done, Lists, in_level, opened, added}
+use Rattle.rules.specs.Document.Passes.{Entry, significant?, set?, done, Lists, in_level, opened, added}
 use Rattle.rules.specs.Document.Passes.{turns, pass, Side, walk}
 use Rattle.rules.specs.Laws.Family.Lawful.{Lawful}
 use Rattle.rules.proofs.Laws.Pass.Turns.{turns_some, turns_opened}

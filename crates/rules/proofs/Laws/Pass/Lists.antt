@@ -2,7 +2,7 @@
 use Rattle.std.specs.Prelude.{◌≡◌, List, [], ◌∷◌, ◌++◌, ℕ, ◌+◌}
 use native.Mathlib.Omega.{arith}
 use Rattle.rules.specs.Document.Pyramid.{Family}
-use Rattle.rules.specs.Document.Passes.{significant?, set?, Lists, opened, added, Side, listed, listing, passed}
+use Rattle.rules.specs.Document.Passes.{Lists, opened, added, Side, listed, listing, passed}
 use Rattle.rules.specs.Laws.Counting.Sums.{sum, All}
 use Rattle.rules.proofs.Laws.Counting.Sums.{sum_append, all_append}
 use Rattle.rules.specs.Laws.Family.Lawful.{Lawful}

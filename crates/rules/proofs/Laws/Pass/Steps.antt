@@ -6,7 +6,7 @@ use mathlib.Core.List.{List, [], ◌∷◌, ◌++◌}
 use Rattle.std.proofs.Math.Bool.{true, false}
 use Prim.Native.Nat.{ℕ, zero, suc}
 use Rattle.rules.specs.Document.Pyramid.{Family}
-use Rattle.rules.specs.Document.Passes.{Entry, significant?, negative?, bit?, set?, to_lip, stays, moves, Talk, done}
+use Rattle.rules.specs.Document.Passes.{Entry, significant?, negative?, set?, to_lip, stays, moves, Talk, done}
 use Rattle.rules.specs.Document.Passes.{Lists, in_level, tested, tests, opened, added, weighed, visited, visits, turns, sets, refines, pass}
 use Rattle.rules.specs.Document.Passes.{Side, walk, Course, listed, with_side, listing, passed}
 use Rattle.rules.specs.Laws.Family.Lawful.{Lawful}

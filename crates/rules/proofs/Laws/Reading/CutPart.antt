@@ -1,5 +1,5 @@
 -- A part that was read with its body incomplete: where it stands, how many of its bits are there, and when it is usable.
-use Rattle.std.specs.Prelude.{◌≡◌, ℕ, ◌+◌, ◌-◌, ◌*◌, ◌≤◌, ◌<◌, min, length, drop}
+use Rattle.std.specs.Prelude.{◌≡◌, ℕ, ◌-◌, ◌*◌, ◌<◌, min, length, drop}
 use Rattle.std.proofs.Common.{subst, arith, length-take, length-drop}
 use mathlib.Core.List.{List, [], ◌∷◌, ◌++◌, map}
 use Rattle.rules.specs.declared.Header.{Header}

@@ -1,5 +1,5 @@
 -- What is known of a number, a header and a part that were read: their values are legal, and they stand whole within the bytes.
-use Rattle.std.specs.Prelude.{◌≡◌, List, [], ◌∷◌, true, ◌&&◌, ℕ, ◌+◌, ◌-◌, ◌≤◌, ◌<◌, length}
+use Rattle.std.specs.Prelude.{◌≡◌, List, [], ◌∷◌, true, ℕ, ◌-◌, ◌≤◌, ◌<◌, length}
 use Rattle.std.proofs.Common.{subst, arith, leb-true}
 use Rattle.rules.specs.declared.Number.TheVariants.{Value}
 use Rattle.rules.specs.declared.Header.{Header}

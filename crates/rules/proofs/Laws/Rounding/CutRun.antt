@@ -1,6 +1,6 @@
 -- Decoding what arrived of a coder's record, the last part cut perhaps: it is accepted, and each coefficient is rounded at the plane that its level
 -- reached, or at the one below where that is the plane of the part that was cut.
-use Rattle.std.specs.Prelude.{◌≡◌, Bool, cond, ◌&&◌, ◌⊎◌, ltb, take, replicate, ℤ, pos}
+use Rattle.std.specs.Prelude.{◌≡◌, Bool, cond, ◌&&◌, ltb, take, replicate, ℤ, pos}
 use Rattle.std.proofs.Math.Path.{refl, ap, ap₂, sym, subst}
 use Rattle.std.proofs.Common.{◌∙◌, true≢false, ⊎_elim, get_or-take}
 use mathlib.Core.List.{List, [], ◌∷◌, ◌++◌, map-append}
@@ -26,7 +26,7 @@ use Rattle.rules.proofs.Laws.Counting.Booleans.{clash, both_left, both_right, no
 use Rattle.rules.specs.Laws.Counting.Sums.{All, is, sum}
 use Rattle.rules.proofs.Laws.Counting.Sums.{all_then, all_both, one_most, from_once}
 use Rattle.rules.proofs.Laws.Family.Sizes.{legal}
-use Rattle.rules.specs.Promises.Vocabulary.{present, header_of, part_at, parts_at, selection, Stated, names, kept, head_bytes, whole_in, tail_in, cut_in}
+use Rattle.rules.specs.Promises.Vocabulary.{present, header_of, part_at, parts_at, Stated, names, kept, head_bytes, whole_in, tail_in, cut_in}
 use Rattle.rules.specs.Promises.Vocabulary.{at, arrived, toward_zero, RoundedAt, at_reached, at_cut, Rounded, ReadsAs, Named}
 use Rattle.rules.proofs.Laws.Offspring.Level.{level_least}
 use Rattle.rules.proofs.Laws.Offspring.Lawful.{lawful}

@@ -1,5 +1,5 @@
 -- How many planes there are: enough for every magnitude, and never more than a record may have.
-use Rattle.std.specs.Prelude.{◌≡◌, List, Bool, cond, ◌≢◌, ℕ, zero, suc, ◌+◌, ◌*◌, ◌≤◌, ◌<◌, ◌^◌, leb, ltb, eqb, get_or, ℤ, pos}
+use Rattle.std.specs.Prelude.{◌≡◌, List, Bool, cond, ◌≢◌, ℕ, zero, suc, ◌≤◌, ◌<◌, ◌^◌, leb, ltb, eqb, get_or, ℤ, pos}
 use Rattle.std.proofs.Math.Path.{refl, sym}
 use Rattle.std.proofs.Common.{ap, subst, arith, pow_mono, pow-suc}
 use Rattle.std.proofs.Math.Bool.{true, false}

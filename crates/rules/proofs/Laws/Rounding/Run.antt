@@ -18,7 +18,7 @@ use Rattle.rules.specs.Document.Notation.{count}
 use Rattle.rules.specs.Document.Pyramid.{legal_size, area, levels, level_of, family, below0, magnitude, negative, most_planes}
 use Rattle.rules.specs.Document.Passes.{State, start, from, PartName, part_names, signed}
 use Rattle.rules.specs.Document.Layout.{header_bytes, CodedPart, parts_with, name_of, reached}
-use Rattle.rules.specs.Document.Numbers.{tail, behind, top_level}
+use Rattle.rules.specs.Document.Numbers.{behind, top_level}
 use Rattle.rules.specs.Document.Calls.{Picture, accepted, unless, work_for, on_header, on_ending, Progress, going, unfit, decode_parts, tail_onward}
 use Rattle.rules.specs.Document.Calls.{level_places, reached_plane, reached_planes, plane_in, skipped_parts, skipped_counts, count_in}
 use Rattle.rules.specs.Document.Calls.{pictured, decoded_parts, decoding}

@@ -1,7 +1,5 @@
 -- An output that is written from its start, past its end nothing: what it holds while the length goes on counting.
-use Rattle.std.specs.Prelude.{◌≡◌, List, [], ◌∷◌, ◌++◌, ℕ, zero, suc, ◌+◌, ◌-◌, ◌≤◌}
-use Rattle.std.proofs.Common.{◌∙◌}
-use Rattle.rules.specs.Document.Notation.{zeros}
+use Rattle.std.specs.Prelude.{List, [], ◌∷◌, ℕ, zero, suc}
 
 -- the first bytes, as many as there is room for, then zeros
 unfoldable pub clipped : ℕ → List ℕ → List ℕ

@@ -1,10 +1,7 @@
 -- A header and a part read back, whole or cut.
-use Rattle.std.specs.Prelude.{◌≡◌, cond, ℕ, ◌+◌, ◌-◌, ◌*◌, ◌≤◌, ◌<◌, leb}
-use Rattle.std.proofs.Common.{◌∙◌}
-use mathlib.Core.List.{[], ◌∷◌, ◌++◌}
+use Rattle.std.specs.Prelude.{cond, ℕ, ◌<◌, leb}
 use Rattle.std.proofs.Math.ListN.{length}
 use Rattle.rules.specs.declared.Size.{Size}
-use Rattle.rules.specs.declared.HeaderRead.TheVariants as header
 use Rattle.rules.specs.declared.PartRead.{PartRead}
 use Rattle.rules.specs.declared.PartRead.TheVariants as part
 use Rattle.rules.specs.Document.Pyramid.{levels}
@@ -12,7 +9,6 @@ use Rattle.rules.specs.Document.Layout.{CodedPart}
 use Rattle.rules.specs.Document.Numbers.{most_bits}
 use Rattle.rules.specs.Promises.Vocabulary.{head_bytes, part_at}
 use Rattle.rules.specs.Laws.Bytes.Numbers.{too_large}
-use Rattle.rules.specs.Laws.Bytes.NumberBack.{Cut, behind}
 
 -- Every number of a record with that header has four bytes at most.
 pub record Small (z : Size) (planes : ℕ) : Type 0 where

@@ -1,12 +1,10 @@
 -- The parts of a record, or of any selection of them, read back, whole or cut.
-use Rattle.std.specs.Prelude.{◌≡◌, List, [], ◌∷◌, ◌++◌, true, ℕ, ◌+◌, ◌-◌, ◌≤◌, ◌<◌}
-use Rattle.std.proofs.Common.{◌∙◌}
+use Rattle.std.specs.Prelude.{◌≡◌, List, [], ◌∷◌, true, ℕ}
 use Rattle.std.proofs.Math.ListN.{length}
 use Rattle.rules.specs.declared.Header.{Header}
-use Rattle.rules.specs.declared.Part.{Part}
 use Rattle.rules.specs.declared.PartRead.{PartRead}
 use Rattle.rules.specs.declared.PartRead.TheVariants as part
-use Rattle.rules.specs.Document.Passes.{after, PartName}
+use Rattle.rules.specs.Document.Passes.{PartName}
 use Rattle.rules.specs.Document.Layout.{CodedPart}
 use Rattle.rules.specs.Document.Numbers.{legal_head}
 use Rattle.rules.specs.Promises.Vocabulary.{at}

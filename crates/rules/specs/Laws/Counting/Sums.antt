@@ -7,11 +7,9 @@
 --   is q p        1 if p is q, else 0
 --   q ∈ xs        q stands in xs, once or more
 --   Every P xs    P of each q that stands in xs: All, said by count
-use Rattle.std.specs.Prelude.{◌≡◌, Bool, ◌&&◌, ◌||◌, ◌≢◌, ℕ, ◌+◌, ◌*◌, ◌≤◌, ◌<◌, eqb}
-use Rattle.std.proofs.Common.{◌∙◌, true≢false}
-use mathlib.Core.List.{List, [], ◌∷◌, ◌++◌}
+use Rattle.std.specs.Prelude.{Bool, ℕ, ◌+◌, ◌≤◌, eqb}
+use mathlib.Core.List.{List, [], ◌∷◌}
 use Rattle.std.proofs.Math.Bool.{true, false}
-use Rattle.std.proofs.lemmas.Bool.{false≢true}
 
 unfoldable pub All : {X : Type 0} → (X → Type 0) → List X → Type 0
 All P [] = Unit {0}
@@ -29,7 +27,6 @@ unfoldable pub is : ℕ → ℕ → ℕ
 is q p = one (eqb p q)
 
 infix 50 ◌∈◌
-
 abbrev pub ◌∈◌ : ℕ → List ℕ → Type 0
 q ∈ xs = 1 ≤ sum (is q) xs
 

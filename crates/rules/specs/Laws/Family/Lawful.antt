@@ -1,13 +1,12 @@
 -- What the theory needs of a family, in one record. Levels are part levels and not depths: where coarser levels are merged into one, offspring
 -- are of their parent's own level, so no field says that a level falls. A mask takes nothing out of a family: inside or not is a weight.
-use Rattle.std.specs.Prelude.{◌≡◌, ◌≢◌, length}
-use Rattle.std.proofs.Common.{◌∙◌}
-use mathlib.Core.List.{[], ◌∷◌, ◌++◌}
-use Prim.Native.Nat.{ℕ, suc, ◌+◌, ◌≤◌}
+use Rattle.std.specs.Prelude.{◌≡◌, length}
+use mathlib.Core.List.{◌++◌}
+use Prim.Native.Nat.{ℕ, suc, ◌≤◌}
 use Rattle.rules.specs.Document.Notation.{flat}
 use Rattle.rules.specs.Document.Pyramid.{Family}
-use Rattle.rules.specs.Document.Passes.{Entry, members, opened}
-use Rattle.rules.specs.Laws.Counting.Sums.{is, ◌∈◌, Every}
+use Rattle.rules.specs.Document.Passes.{Entry, members}
+use Rattle.rules.specs.Laws.Counting.Sums.{◌∈◌, Every}
 
 pub record Lawful (F : Family) : Type 0 where
   -- Descendants are the offspring and their descendants.

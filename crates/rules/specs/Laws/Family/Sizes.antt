@@ -4,9 +4,8 @@
 --   level_start z k    coefficients of the levels over k: where level k starts when they are laid out coarsest first
 --   level_end z k      and where it ends
 --   level_size z k     n_k
-use Rattle.std.specs.Prelude.{◌≡◌, cond, ◌&&◌, leb}
-use Rattle.std.proofs.Common.{◌∙◌}
-use Prim.Native.Nat.{ℕ, ◌+◌, ◌-◌, ◌*◌, ◌/◌, ◌%◌, ◌^◌, ◌≤◌}
+use Rattle.std.specs.Prelude.{cond, leb}
+use Prim.Native.Nat.{ℕ, ◌-◌, ◌*◌, ◌/◌, ◌^◌}
 use Rattle.rules.specs.declared.Size.{Size}
 
 module _ (z : Size) where

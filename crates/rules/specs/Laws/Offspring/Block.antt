@@ -3,9 +3,8 @@
 --
 --   apart m i        even i go to the first m, odd i to the next m
 --   together m x     and back
-use Rattle.std.specs.Prelude.{◌≡◌, List, [], cond, ◌||◌, ◌≢◌, ltb}
-use Rattle.std.proofs.Common.{◌∙◌}
-use Prim.Native.Nat.{ℕ, suc, ◌+◌, ◌-◌, ◌*◌, ◌/◌, ◌%◌, ◌^◌, ◌≤◌, ◌<◌}
+use Rattle.std.specs.Prelude.{List, cond, ltb}
+use Prim.Native.Nat.{ℕ, suc, ◌+◌, ◌-◌, ◌*◌, ◌/◌, ◌%◌, ◌^◌}
 use Rattle.rules.specs.declared.Size.{Size}
 use Rattle.rules.specs.Document.Pyramid.{block}
 

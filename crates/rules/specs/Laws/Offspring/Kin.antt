@@ -1,9 +1,7 @@
 -- Who is whose offspring, by rows and columns: each offspring once, in the pyramid, and one level under its parent.
-use Rattle.std.specs.Prelude.{◌≡◌, true, ◌||◌, ℕ, ◌-◌, ◌*◌, ◌/◌, ◌^◌, ◌≤◌, ◌<◌}
-use Rattle.std.proofs.Common.{◌∙◌, true≢false}
+use Rattle.std.specs.Prelude.{◌≡◌, true, ◌||◌, ℕ, ◌/◌, ◌≤◌, ◌<◌}
 use Rattle.rules.specs.declared.Size.{Size}
 use Rattle.rules.specs.Document.Pyramid.{odd, row, column, level_of}
-use Rattle.rules.specs.Laws.Counting.Sums.{is, ◌∈◌}
 use Rattle.rules.specs.Laws.Offspring.Block.{apart, half_rows, half_columns}
 
 -- q is an offspring of p, by their rows and columns: p is in the LL band, or in one of the levels 2 to N.

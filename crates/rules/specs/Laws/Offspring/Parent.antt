@@ -1,6 +1,5 @@
 -- The parent: a coefficient outside the LL band is the offspring of its parent alone, once.
-use Rattle.std.specs.Prelude.{◌≡◌, cond, ◌||◌, ℕ, ◌-◌, ◌*◌, ◌/◌, ◌≤◌, ◌<◌, eqb}
-use Rattle.std.proofs.Common.{◌∙◌}
+use Rattle.std.specs.Prelude.{cond, ℕ, ◌/◌, eqb}
 use Rattle.rules.specs.declared.Size.{Size}
 use Rattle.rules.specs.Document.Pyramid.{index, row, column, level_of}
 use Rattle.rules.specs.Laws.Offspring.Block.{together}

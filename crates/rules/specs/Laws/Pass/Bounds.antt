@@ -1,7 +1,7 @@
 -- How long the lists of a pass and its bits can be, whatever the bits: at every point of it, and at its end.
-use Rattle.std.specs.Prelude.{List, [], ◌∷◌, ℕ, ◌+◌, ◌*◌, ◌≤◌, length}
+use Rattle.std.specs.Prelude.{List, ℕ, ◌+◌, ◌*◌, ◌≤◌, length}
 use Rattle.rules.specs.Document.Pyramid.{Family}
-use Rattle.rules.specs.Document.Passes.{Entry, Question, significant?, negative?, bit?, set?, Event}
+use Rattle.rules.specs.Document.Passes.{Entry, Question, Event}
 use Rattle.rules.specs.Document.Passes.{Side, Course}
 use Rattle.rules.specs.Laws.Pass.Slots.{Room}
 

@@ -1,13 +1,11 @@
 -- A pass of which only the first bits are there. What is told before more bits are asked for is a front of all that comes out; and no place of
 -- the pyramid is written twice in a pass, so after that front each place holds what it held before, or what it holds in the end.
 use Rattle.std.specs.Prelude.{◌≡◌, ℤ}
-use Rattle.std.proofs.Common.{◌∙◌}
-use mathlib.Core.List.{List, [], ◌∷◌, ◌++◌}
-use Prim.Native.Nat.{ℕ, ◌+◌, ◌≤◌, ◌<◌}
+use mathlib.Core.List.{List, [], ◌∷◌}
+use Prim.Native.Nat.{ℕ}
 use Rattle.rules.specs.Document.Notation.{flat}
 use Rattle.rules.specs.Document.Passes.{Event, to_lip, to_lsp, stays, moves, refined}
 use Rattle.rules.specs.Laws.Counting.Sums.{sum, is}
-use Rattle.rules.specs.Laws.Pass.Simulation.{drawn}
 
 -- The places that events write.
 unfoldable pub places_of : Event → List ℕ

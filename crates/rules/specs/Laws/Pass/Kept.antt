@@ -1,5 +1,5 @@
 -- One induction over the visits of a pass: what every visit keeps, the pass keeps, and it holds wherever a pass stands.
-use Rattle.std.specs.Prelude.{◌≡◌, true, false, ℕ, ◌≤◌}
+use Rattle.std.specs.Prelude.{◌≡◌, true, false, ℕ}
 use mathlib.Core.List.{List, [], ◌∷◌, ◌++◌}
 use Rattle.rules.specs.Document.Pyramid.{Family}
 use Rattle.rules.specs.Document.Passes.{Entry, significant?, negative?, bit?, set?, to_lip, stays, moves, in_level, opened, added}

@@ -1,12 +1,10 @@
 -- The levels of what a pass makes, whatever the bits: LIP_k and LSP_k hold level k, the sets of LIS_k hold level k and finer ones, what moves
 -- out of level k has members in the next, and nothing leaves level 1.
-use Rattle.std.specs.Prelude.{◌≡◌, true, false, ◌≢◌}
-use Rattle.std.proofs.Common.{◌∙◌, true≢false}
-use mathlib.Core.List.{[], ◌∷◌}
-use Prim.Native.Nat.{ℕ, suc, ◌≤◌}
+use Rattle.std.specs.Prelude.{◌≡◌, true, false}
+use Prim.Native.Nat.{ℕ, suc}
 use Rattle.rules.specs.Document.Pyramid.{Family}
-use Rattle.rules.specs.Document.Passes.{Entry, typeA, typeB, Lists, members, in_level}
-use Rattle.rules.specs.Laws.Counting.Sums.{is, ◌∈◌, All}
+use Rattle.rules.specs.Document.Passes.{Entry, typeA, typeB, Lists, in_level}
+use Rattle.rules.specs.Laws.Counting.Sums.{All}
 use Rattle.rules.specs.Laws.Family.Lawful.{UpTo}
 use Rattle.rules.specs.Laws.Pass.Lists.{Claims}
 

@@ -1,5 +1,5 @@
 -- The lists that a pass makes, whatever the bits: what is claimed of each entry, and what all entries weigh.
-use Rattle.std.specs.Prelude.{◌≡◌, List, [], ◌∷◌, ◌++◌, true, false, ℕ, ◌+◌}
+use Rattle.std.specs.Prelude.{◌≡◌, List, true, false, ℕ, ◌+◌}
 use Rattle.rules.specs.Document.Pyramid.{Family}
 use Rattle.rules.specs.Document.Passes.{Entry, significant?, set?, Lists, members, in_level, opened, added, Side, Course, own}
 use Rattle.rules.specs.Laws.Counting.Sums.{sum, All}

@@ -1,12 +1,11 @@
 -- A walk is what its side says and tells; the decoder, on the bits that the coder spoke, tells the coder's outcomes and makes its lists.
-use Rattle.std.specs.Prelude.{◌≡◌, ◌↔◌, ℤ}
-use Rattle.std.proofs.Common.{◌∙◌}
+use Rattle.std.specs.Prelude.{◌≡◌, ℤ}
 use mathlib.Core.List.{List, [], ◌∷◌, ◌++◌}
 use Rattle.std.proofs.Math.Bool.{Bool}
-use Prim.Native.Nat.{ℕ, suc, ◌+◌, ◌≤◌, ◌<◌}
+use Prim.Native.Nat.{ℕ, suc}
 use Rattle.rules.specs.Document.Notation.{flat}
-use Rattle.rules.specs.Document.Passes.{Entry, Question, Event, to_lip, to_lsp, stays, moves, refined, Talk, done, ask, tell, Lists, pass, Side}
-use Rattle.rules.specs.Document.Passes.{walk, Course, after}
+use Rattle.rules.specs.Document.Passes.{Entry, Question, Event, to_lip, to_lsp, stays, moves, refined, Talk, done, ask, tell, Lists, Side}
+use Rattle.rules.specs.Document.Passes.{Course}
 use Rattle.rules.specs.Document.Passes.{written}
 
 -- What a side says and tells on a walk.

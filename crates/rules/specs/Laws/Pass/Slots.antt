@@ -1,11 +1,10 @@
 -- Room in a level's lists for a pass, whatever the bits. Each coefficient of level k comes once into LIP_k or LSP_k. A set takes a slot of LIS_k
 -- as type A and one as type B, and its members of the level pay for the slots of all that comes of it: three quarters of them are enough.
-use Rattle.std.specs.Prelude.{◌≡◌, cond, ℕ, ◌+◌, ◌*◌, ◌≤◌, length}
-use Rattle.std.proofs.Common.{◌∙◌}
-use mathlib.Core.List.{List, [], ◌∷◌, ◌++◌}
+use Rattle.std.specs.Prelude.{cond, ℕ, ◌+◌, ◌*◌, ◌≤◌, length}
+use mathlib.Core.List.{List}
 use Rattle.rules.specs.Document.Pyramid.{Family}
 use Rattle.rules.specs.Document.Passes.{Entry, typeA, typeB, in_level}
-use Rattle.rules.specs.Laws.Counting.Sums.{sum, is, ◌∈◌, All}
+use Rattle.rules.specs.Laws.Counting.Sums.{sum, is, All}
 use Rattle.rules.specs.Laws.Pass.Lists.{set_weight}
 use Rattle.rules.specs.Laws.Pass.Levels.{Settled}
 

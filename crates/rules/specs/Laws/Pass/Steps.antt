@@ -1,12 +1,11 @@
 -- What each visit of a pass makes of a side of the conversation, and of the lists: equations that a loop of the code goes by.
-use Rattle.std.specs.Prelude.{◌≡◌, Bool}
-use Rattle.std.proofs.Common.{◌∙◌}
-use mathlib.Core.List.{List, [], ◌∷◌, ◌++◌}
+use Rattle.std.specs.Prelude.{Bool}
+use mathlib.Core.List.{List, [], ◌∷◌}
 use Rattle.std.proofs.Math.Bool.{true, false}
 use Prim.Native.Nat.{ℕ}
 use Rattle.rules.specs.Document.Pyramid.{Family}
-use Rattle.rules.specs.Document.Passes.{Entry, significant?, negative?, bit?, set?, to_lip, to_lsp, refined, done}
-use Rattle.rules.specs.Document.Passes.{Lists, added, visits, sets, pass}
+use Rattle.rules.specs.Document.Passes.{Entry, significant?, negative?, bit?, to_lip, to_lsp, refined, done}
+use Rattle.rules.specs.Document.Passes.{Lists, sets}
 use Rattle.rules.specs.Document.Passes.{Reply, Side, walk, Course}
 
 -- What the visit of a coefficient makes of a side, by the reply to "significant?"; and the visits of several, in order.

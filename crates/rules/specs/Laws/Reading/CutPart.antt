@@ -1,9 +1,8 @@
 -- A part that was read with its body incomplete: where it stands, how many of its bits are there, and when it is usable.
-use Rattle.std.specs.Prelude.{◌≡◌, ℕ, ◌+◌, ◌-◌, ◌*◌, ◌≤◌, ◌<◌, length}
-use mathlib.Core.List.{List, [], ◌∷◌, ◌++◌}
+use Rattle.std.specs.Prelude.{◌≡◌, ℕ, ◌+◌, ◌≤◌, ◌<◌, length}
+use mathlib.Core.List.{List}
 use Rattle.rules.specs.declared.Header.{Header}
 use Rattle.rules.specs.declared.Part.{Part}
-use Rattle.rules.specs.declared.PartRead.TheVariants as part
 use Rattle.rules.specs.Document.Passes.{PartName}
 use Rattle.rules.specs.Document.Layout.{bytes_for, name_of}
 use Rattle.rules.specs.Promises.Vocabulary.{LegalHead}

@@ -1,8 +1,5 @@
 -- Reading looks at the bytes of what it reads and no others: a number or a part that stands elsewhere, in other bytes, reads the same.
-use Rattle.std.specs.Prelude.{◌≡◌, List, [], ◌∷◌, ◌++◌, ℕ, ◌+◌, ◌-◌, ◌≤◌, ◌<◌, length, get_or}
-use Rattle.std.proofs.Common.{◌∙◌}
-use Rattle.rules.specs.declared.HeaderRead.TheVariants as header
-use Rattle.rules.specs.declared.PartRead.TheVariants as part
+use Rattle.std.specs.Prelude.{◌≡◌, List, ℕ, ◌+◌, ◌≤◌, ◌<◌, length, get_or}
 
 -- The n bytes of s at a and those of t at b are the same, and all there.
 pub record Same (s : List ℕ) (a : ℕ) (t : List ℕ) (b n : ℕ) : Type 0 where

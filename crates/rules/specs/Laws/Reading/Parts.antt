@@ -1,7 +1,6 @@
 -- The parts of a record: their names, which of them are there, and their order.
-use Rattle.std.specs.Prelude.{◌≡◌, ◌&&◌, ◌||◌}
-use Rattle.std.proofs.Common.{◌∙◌, ⊎_elim}
-use mathlib.Core.List.{List, [], ◌∷◌, ◌++◌}
+use Rattle.std.specs.Prelude.{◌≡◌}
+use mathlib.Core.List.{List, [], ◌∷◌}
 use Rattle.std.proofs.Math.Bool.{true}
 use Prim.Native.Nat.{◌≤◌, ◌<◌}
 use Rattle.rules.specs.Document.Passes.{PartName}

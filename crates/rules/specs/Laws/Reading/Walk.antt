@@ -1,10 +1,8 @@
 -- Walking over the parts of a record, without a bound on their number: what is left to read from a place on, part by part.
-use Rattle.std.specs.Prelude.{◌≡◌, List, [], ◌∷◌}
-use Rattle.std.proofs.Common.{◌∙◌}
-use Prim.Native.Nat.{ℕ, ◌+◌, ◌-◌, ◌≤◌, ◌<◌}
+use Rattle.std.specs.Prelude.{List}
+use Prim.Native.Nat.{ℕ, ◌-◌}
 use Rattle.std.proofs.Math.ListN.{length}
 use Rattle.rules.specs.declared.Header.{Header}
-use Rattle.rules.specs.declared.PartRead.TheVariants as part
 use Rattle.rules.specs.Document.Passes.{PartName}
 use Rattle.rules.specs.Document.Numbers.{Reading, read_from}
 

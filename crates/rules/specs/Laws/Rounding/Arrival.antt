@@ -1,14 +1,9 @@
 -- What arrives of a record: some of its parts, the last of them cut perhaps. Those that are whole are again a selection of the record's parts.
-use Rattle.std.specs.Prelude.{◌≡◌, cond, ◌&&◌, ◌⊎◌, ℕ, ◌+◌, ◌-◌, ◌≤◌, ◌<◌, leb}
-use Rattle.std.proofs.Common.{◌∙◌}
+use Rattle.std.specs.Prelude.{◌≡◌, cond, ℕ, ◌+◌, ◌≤◌, ◌<◌, leb}
 use mathlib.Core.List.{List, [], ◌∷◌, ◌++◌}
-use Rattle.std.proofs.Math.Logic.{⊎_elim}
 use Rattle.std.proofs.Math.ListN.{length}
-use Rattle.rules.specs.declared.HeaderRead.TheVariants as header
-use Rattle.rules.specs.declared.PartRead.TheVariants as part
 use Rattle.rules.specs.Document.Notation.{flat}
 use Rattle.rules.specs.Document.Layout.{CodedPart, part_bytes}
-use Rattle.rules.specs.Document.Numbers.{behind}
 use Rattle.rules.specs.Promises.Vocabulary.{head_bytes, whole_in, tail_in, cut_in}
 
 -- The two cases: all is there, or the part q is cut and nothing comes behind it.

@@ -1,14 +1,8 @@
 -- Decoding what arrived of a coder's record, the last part cut perhaps: it is accepted, and each coefficient is rounded at the plane that its level
 -- reached, or at the one below where that is the plane of the part that was cut.
-use Rattle.std.specs.Prelude.{◌≡◌, ◌&&◌, ◌⊎◌}
-use Rattle.std.proofs.Common.{◌∙◌, true≢false, ⊎_elim}
-use mathlib.Core.List.{[], ◌∷◌, ◌++◌}
-use Prim.Native.Nat.{ℕ, ◌+◌, ◌-◌, ◌*◌, ◌/◌, ◌%◌, ◌^◌, ◌≤◌, ◌<◌, min}
+use Prim.Native.Nat.{ℕ, ◌-◌, ◌*◌, min}
 use Rattle.std.proofs.Math.ListN.{length}
-use Rattle.rules.specs.declared.PartRead.TheVariants as part
 use Rattle.rules.specs.Document.Layout.{CodedPart}
-use Rattle.rules.specs.Document.Numbers.{behind}
-use Rattle.rules.specs.Laws.Counting.Sums.{is}
 use Rattle.rules.specs.Promises.Vocabulary.{head_bytes}
 
 -- How many bits are there of a part that is cut behind t bytes.

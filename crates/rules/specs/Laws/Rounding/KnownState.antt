@@ -1,8 +1,7 @@
 -- All levels, between parts, each known to a plane of its own: what a part changes, and what then stands in the pyramid.
-use Rattle.std.specs.Prelude.{◌≡◌, List, [], ◌∷◌, ◌≢◌, length, ℤ}
-use Rattle.std.proofs.Common.{◌∙◌}
-use Prim.Native.Nat.{ℕ, ◌+◌, ◌^◌, ◌≤◌, ◌<◌}
-use Rattle.rules.specs.Laws.Counting.Sums.{sum, is, ◌∈◌, Every}
+use Rattle.std.specs.Prelude.{List, length, ℤ}
+use Prim.Native.Nat.{ℕ, ◌≤◌, ◌<◌}
+use Rattle.rules.specs.Laws.Counting.Sums.{sum, is, Every}
 
 -- Each coefficient once, and with its place in the pyramid.
 pub record Fits (all : List ℕ) (v : List ℤ) : Type 0 where

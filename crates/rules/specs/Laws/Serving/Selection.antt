@@ -1,9 +1,8 @@
 -- "Any selection in that order is also a record": pieces, parts that were read somewhere, put together in order behind a header, read as just these
 -- parts, moved; so do any of one record's parts.
-use Rattle.std.specs.Prelude.{◌≡◌, true, ◌&&◌}
-use Rattle.std.proofs.Common.{◌∙◌}
-use mathlib.Core.List.{List, [], ◌∷◌, ◌++◌, map}
-use Prim.Native.Nat.{ℕ, ◌+◌, ◌-◌, ◌≤◌}
+use Rattle.std.specs.Prelude.{◌≡◌, true}
+use mathlib.Core.List.{List, map}
+use Prim.Native.Nat.{ℕ}
 use Rattle.rules.specs.declared.Header.{Header}
 use Rattle.rules.specs.declared.Part.{Part}
 use Rattle.rules.specs.declared.PartRead.TheVariants as part

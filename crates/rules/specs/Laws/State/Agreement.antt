@@ -1,6 +1,5 @@
 -- Selection: a level's lists depend on its own and coarser parts only; so coder and decoder agree on every level still usable.
-use Rattle.std.specs.Prelude.{◌≡◌, Bool, cond, ℕ, ◌≤◌}
-use Rattle.std.proofs.Common.{◌∙◌}
+use Rattle.std.specs.Prelude.{◌≡◌, Bool, cond, ℕ}
 use mathlib.Core.List.{List, [], ◌∷◌}
 use Rattle.rules.specs.Document.Pyramid.{Family}
 use Rattle.rules.specs.Document.Passes.{State, after, PartName, coded}

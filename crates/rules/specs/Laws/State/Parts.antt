@@ -1,6 +1,5 @@
 -- The coder's and the decoder's parts: each leaves the lists of all levels sound, and takes at most four bits for each coefficient there is.
-use Rattle.std.specs.Prelude.{ℕ, ◌*◌, ◌≤◌}
-use mathlib.Core.List.{[], ◌∷◌}
+use Rattle.std.specs.Prelude.{ℕ, ◌≤◌}
 use Rattle.rules.specs.Document.Passes.{PartName}
 
 -- a part of one of the levels 1 to top

@@ -1,5 +1,4 @@
 -- The lists of document 01's pyramid, for every legal size: sound at the start and after each part, so that a part has room in its level.
-use Rattle.std.specs.Prelude.{◌≡◌, ◌*◌, ◌≤◌}
 use Rattle.rules.specs.declared.Size.{Size}
 use Rattle.rules.specs.Document.Pyramid.{family, area, levels}
 use Rattle.rules.specs.Document.Passes.{State, from}

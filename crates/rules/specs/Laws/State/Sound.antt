@@ -1,7 +1,6 @@
 -- The lists of all levels, between parts: whatever parts were used and whatever their bits, each coefficient is in one place, each level's
 -- lists hold that level, and there is room for the next part.
-use Rattle.std.specs.Prelude.{◌≡◌, List, [], ℕ, ◌*◌, ◌≤◌, ◌<◌}
-use Rattle.std.proofs.Common.{◌∙◌}
+use Rattle.std.specs.Prelude.{◌≡◌, List, ℕ, ◌*◌, ◌≤◌, ◌<◌}
 use Rattle.rules.specs.Document.Pyramid.{Family}
 use Rattle.rules.specs.Document.Passes.{State}
 use Rattle.rules.specs.Laws.Counting.Sums.{sum, is, All}

@@ -1,10 +1,8 @@
 -- The lists of all levels, after a pass of one of them: level by level, and what they weigh together.
-use Rattle.std.specs.Prelude.{◌≡◌, [], ◌∷◌, ◌≢◌}
-use Rattle.std.proofs.Common.{◌∙◌}
-use Prim.Native.Nat.{ℕ, suc, ◌+◌, ◌*◌, ◌≤◌}
+use Prim.Native.Nat.{ℕ, suc}
 use Rattle.rules.specs.Document.Pyramid.{Family}
 use Rattle.rules.specs.Document.Passes.{State, from}
-use Rattle.rules.specs.Laws.Counting.Sums.{sum, ◌∈◌}
+use Rattle.rules.specs.Laws.Counting.Sums.{sum}
 use Rattle.rules.specs.Laws.Pass.Lists.{lists_weight}
 
 -- what the lists of levels 0 to top weigh
