@@ -18,7 +18,8 @@ use Rattle.rules.specs.declared.HeaderRead.TheVariants as header
 use Rattle.rules.specs.declared.Decoded.{Decoded}
 use Rattle.rules.specs.Document.Pyramid.{area, legal_size}
 use Rattle.rules.specs.Document.Numbers.{read_header, read_parts}
-use Rattle.rules.specs.Document.Calls.{Result, refused, accepted, unless, work_for, on_header, Picture, decoded_parts, decoding, decode_out, decode_answer, Decoding}
+use Rattle.rules.specs.Document.Calls.{Result, refused, accepted, unless, work_for, on_header, Picture, decoded_parts, decoding, decode_out}
+use Rattle.rules.specs.Document.Calls.{decode_answer, Decoding}
 use Rattle.rules.proofs.Laws.Family.Sizes.{area_bound}
 use Rattle.rules.specs.Laws.Reading.Stands.{HeaderStands}
 use Rattle.rules.proofs.Laws.Reading.Stands.{read_header_stands, header_legal}

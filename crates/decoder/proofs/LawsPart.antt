@@ -35,7 +35,8 @@ use Rattle.stretches.specs.Workspace.{drawn_in, Words}
 use Rattle.parts.specs.Standing.{state_of, ReadyToDecode, Quiet, PartDecoded}
 use Rattle.rules.specs.Document.Calls.{level_places}
 use Rattle.reached.specs.Planes.{reached_at, size_levels}
-use Rattle.decoder.specs.Walking.{fitting, gone, one_part_more, cut_gone, course_on, used_on, met_on, cut_on, met_part, drawn_cut, met_cut, Past, Drawing, Drawn}
+use Rattle.decoder.specs.Walking.{fitting, gone, one_part_more, cut_gone, course_on, used_on, met_on, cut_on, met_part, drawn_cut, met_cut, Past}
+use Rattle.decoder.specs.Walking.{Drawing, Drawn}
 use Rattle.decoder.specs.Walking.{Taking, growth, Taken, Ended, Standing, Turned}
 
 -- a part, decoded as far as its bits are there

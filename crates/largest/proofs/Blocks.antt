@@ -36,7 +36,8 @@ none_d = record { apart = apart_none; made = λ b h. absurd (omega arith) }
 near_same : (n : ℕ) (s₀ s : List ℕ) (b : ℕ) → Apart n s₀ s → b < n / 4 → near s b ≡ near s₀ b
 unfolding near maxima_from
 near_same n s₀ s b a h =
-    four_same (λ i. word_measure (get_or s i 0)) (λ i. word_measure (get_or s₀ i 0)) b b (λ f l. ap (λ (w : ℕ). word_measure w) (a.before (4 * b + f) (omega arith)))
+    four_same (λ i. word_measure (get_or s i 0)) (λ i. word_measure (get_or s₀ i 0)) b b
+    (λ f l. ap (λ (w : ℕ). word_measure w) (a.before (4 * b + f) (omega arith)))
 
 far_same : (n : ℕ) (s₀ s : List ℕ) (b : ℕ) → Apart n s₀ s → far n s b ≡ far n s₀ b
 unfolding far
@@ -73,7 +74,8 @@ four_found n s i ha hb hc hd e =
 four_left : (n : ℕ) (s₀ s : List ℕ) (c : ℕ) → SomeL n s₀ c s → four n s c ≡ four n s₀ c
 unfolding four
 four_left n s₀ s c d =
-    four_same (λ i. largest_d (get_or (maxima_in n s) i 0)) (λ i. largest_d (get_or (maxima_in n s₀) i 0)) c c (λ f l. ap largest_d (d.left (4 * c + f) (omega arith)))
+    four_same (λ i. largest_d (get_or (maxima_in n s) i 0)) (λ i. largest_d (get_or (maxima_in n s₀) i 0)) c c
+    (λ f l. ap largest_d (d.left (4 * c + f) (omega arith)))
 
 pub next_l : {n : ℕ} {s₀ : List ℕ} {c : ℕ} {s s' : List ℕ} {l w : ℕ} → SomeL n s₀ c s → l ≡ four n s c → l < 32
     → w ≡ get_or (maxima_in n s) (4 * c) 0 → MaximumSet n s (4 * c) (w % 32 + 32 * l) s' → 4 * n ≤ length s₀ → c < n / 16 → SomeL n s₀ (c + 1) s'

@@ -224,7 +224,8 @@ row_places {z} {i = i} p = rw p.1 (row_apart z (legal z p.0.legal) i p.2)
 
 abbrev pub CopyingBand : List ℤ → Size → List ℕ → ℕ → List ℕ → Type 0
 CopyingBand v z work i work₁ =
-    Banding 0 (λ t. number_of z (raster_of z (levels z) t)) (band_rows z) (band_width z) (λ t. worded (get_or v (raster_of z (levels z) t) (pos 0))) work i work₁
+    Banding 0 (λ t. number_of z (raster_of z (levels z) t)) (band_rows z) (band_width z)
+    (λ t. worded (get_or v (raster_of z (levels z) t) (pos 0))) work i work₁
 
 module _ {v : List ℤ} {z : Size} {work : List ℕ} (G : Given v z work) {i : ℕ} {work₁ : List ℕ} (B : CopyingBand v z work i work₁) where
   pub band_row_copied : i < band_rows z → {work₂ : List ℕ}

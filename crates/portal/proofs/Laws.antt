@@ -11,7 +11,8 @@ use Rattle.rules.specs.declared.Served.{Served}
 use Rattle.rules.specs.declared.Decoded.{Decoded}
 use Rattle.rules.specs.Document.Notation.{zeros}
 use Rattle.rules.specs.Document.Calls.{returned, reported, lent_out, code_places, coding, code_answer, code_numbers, Coding, AfsCode, serve_places, serving}
-use Rattle.rules.specs.Document.Calls.{serve_answer, serve_numbers, Serving, AfsServe, decode_places, decoding, decode_answer, decode_numbers, Decoding, AfsDecode}
+use Rattle.rules.specs.Document.Calls.{serve_answer, serve_numbers, Serving, AfsServe, decode_places, decoding, decode_answer, decode_numbers}
+use Rattle.rules.specs.Document.Calls.{Decoding, AfsDecode}
 use Rattle.joins.specs.Document.Joining.{joining, Joining, AfsJoin}
 use Rattle.survey.specs.declared.Survey.{Survey}
 use Rattle.survey.specs.Surveyed.{survey_places, survey_of, survey_numbers, AfsSurvey}

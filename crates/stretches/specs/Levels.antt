@@ -125,7 +125,8 @@ module _ (z : Size) (Z : Legal z) where
   word_level work k x e a =
       ap (λ (j : ℕ). get_or work (3 * level_start z j + x) 0) e ∙ ap (λ (p : ℕ). get_or work p 0) (omega (arith, (level_place k x e a).1))
 
-  pub word_place_lem : (work : List ℕ) (k t : ℕ) → 1 ≤ k → k ≤ levels z → t < level_size z k → word_in z work (level_start z k + t) ≡ get_or work (words_from z k + t) 0
+  pub word_place_lem : (work : List ℕ) (k t : ℕ) → 1 ≤ k → k ≤ levels z → t < level_size z k → word_in z work (level_start z k + t)
+      ≡ get_or work (words_from z k + t) 0
   word_place_lem work k t a b h =
       word_level work k (level_start z k + t) (place_level k (level_start z k + t) a b (omega arith) (omega arith)) a
       ∙ ap (λ (i : ℕ). get_or work (words_from z k + i) 0) (omega arith)

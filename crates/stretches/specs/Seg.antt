@@ -1,6 +1,7 @@
 -- A list that lies in a slice: `seg b m s` is the m numbers of s from place b on. Its laws say what a store does to it.
 use Rattle.std.specs.Prelude.{◌≡◌, refl, List, [], ◌∷◌, ◌++◌, ℕ, zero, suc, ◌+◌, ◌-◌, ◌≤◌, ◌<◌, min, length, take, drop, get_or, set}
-use Rattle.std.proofs.Common.{ap, sym, ◌∙◌, add-one, arith, length-take, length-drop, length-append, drop-cons, drop-set-lt, take-suc-set, take-add, take-take, drop-drop, get_or-take, get_or-drop, ext_get_or}
+use Rattle.std.proofs.Common.{ap, sym, ◌∙◌, add-one, arith, length-take, length-drop, length-append, drop-cons, drop-set-lt, take-suc-set, take-add}
+use Rattle.std.proofs.Common.{take-take, drop-drop, get_or-take, get_or-drop, ext_get_or}
 use Rattle.std.proofs.Math.Nat.{min-le_left}
 use Rattle.std.proofs.Math.Decide.{dec_le}
 use Rattle.std.proofs.lemmas.List.{drop-set-add, take-set-le}

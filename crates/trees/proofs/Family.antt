@@ -38,7 +38,8 @@ use Rattle.trees.proofs.Places.{group_row_lt, group_column_lt, raster_level, off
 use Rattle.trees.proofs.Places.{offspring_root, in_band_lem}
 use Rattle.trees.specs.Renamed.{Renames}
 use Rattle.trees.proofs.Renamed.{map-append, map_flat, map_greatest}
-use Rattle.trees.specs.Family.{tree_up_to, tree_level, tree_offspring, tree_generations, tree_descendants, tree_max_d, tree_max_l, trees, group_at, in_band, coefficient_at, coefficient_of}
+use Rattle.trees.specs.Family.{tree_up_to, tree_level, tree_offspring, tree_generations, tree_descendants, tree_max_d, tree_max_l, trees, group_at}
+use Rattle.trees.specs.Family.{in_band, coefficient_at, coefficient_of}
 
 -- Where the numbers of a level lie.
 module _ (z : Size) where

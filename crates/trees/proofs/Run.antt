@@ -214,7 +214,8 @@ module _ (z : Size) (Z : Legal z) where
 
   pub parts_of_trees : (v : List ℤ)
       → parts_of z v
-      ≡ coded_parts (trees z) (λ x. magnitude v (coefficient_of z x)) (λ x. negative v (coefficient_of z x)) (part_names (levels z) (planes_in v)) (tree_start z)
+      ≡ coded_parts (trees z) (λ x. magnitude v (coefficient_of z x)) (λ x. negative v (coefficient_of z x)) (part_names (levels z) (planes_in v))
+      (tree_start z)
   unfolding parts_of
   parts_of_trees v =
       ap (coded_parts (family z) (magnitude v) (negative v) (part_names (levels z) (planes_in v))) start_trees

@@ -57,7 +57,8 @@ join_associates a b c x u y v m n k l ab xc bc au =
     let pr = subst (λ g. (z : PartName) → part_of g u z ≡ either_of g b c z) ph (joined_record p).part in
     j.bytes ∙ ap (λ g. join_of g x c) jh
     ∙ join_same h x c a u ir.front
-    (λ z. ap (λ w. or_else w (part_of h c z)) (ir.part z) ∙ or_associates (part_of h a z) (part_of h b z) (part_of h c z) ∙ ap (or_else (part_of h a z)) (sym (pr z)))
+    (λ z. ap (λ w. or_else w (part_of h c z)) (ir.part z) ∙ or_associates (part_of h a z) (part_of h b z) (part_of h c z)
+    ∙ ap (or_else (part_of h a z)) (sym (pr z)))
     ∙ sym (q.bytes ∙ ap (λ g. join_of g a u) qh)
 
 -- A record with itself: itself less its tail, in whatever room there is.

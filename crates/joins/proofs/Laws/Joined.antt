@@ -283,7 +283,8 @@ module _ (h : Header) (a b : List ℕ) (r : Readable a h) where
   none_beyond : (s : List ℕ) (x : PartName) → present (all_names h) x ≡ false → part_of h s x ≡ []
   none_beyond s x e = by (named_cases s x (λ p. present (all_names h) (name_of p) ≡ true) (read_parts h s).parts (parts_present h s))
     where
-      by : (part_of h s x ≡ []) ⊎ ((p : Part) × (name_of p ≡ x) × (part_of h s x ≡ whole_of s p) × (present (all_names h) (name_of p) ≡ true)) → part_of h s x ≡ []
+      by : (part_of h s x ≡ []) ⊎ ((p : Part) × (name_of p ≡ x) × (part_of h s x ≡ whole_of s p) × (present (all_names h) (name_of p) ≡ true))
+          → part_of h s x ≡ []
       by (inl f) = f
       by (inr (p, n, f, t)) = absurd (true≢false (sym t ∙ ap (present (all_names h)) n ∙ e))
 

@@ -10,7 +10,8 @@ use Rattle.rules.specs.Document.Notation.{any, flat, zeros}
 use Rattle.rules.specs.Document.Passes.{PartName, part_names}
 use Rattle.rules.specs.Document.Layout.{whole_of, name_of, same_name}
 use Rattle.rules.specs.Document.Numbers.{top_level, read_header, read_parts}
-use Rattle.rules.specs.Document.Calls.{Result, unless, on_header, on_ending, fitted, code_out, code_answer, code_numbers, code_places, returned, reported, lent_out}
+use Rattle.rules.specs.Document.Calls.{Result, unless, on_header, on_ending, fitted, code_out, code_answer, code_numbers, code_places, returned}
+use Rattle.rules.specs.Document.Calls.{reported, lent_out}
 
 -- "equal byte for byte"
 unfoldable pub same_bytes : List ℕ → List ℕ → Bool

@@ -2,7 +2,8 @@
 -- its rows, by computation. Of a join the answer that its export writes and the output are stated; the records are those of rules' Cases.
 use Rattle.std.specs.Prelude.{List, [], ◌∷◌, ◌++◌, ℕ, take, set}
 use Rattle.rules.specs.Document.Notation.{zeros}
-use Rattle.rules.specs.Promises.Cases.{thirty, served_at_two, served_to_plane_one, without12, without11, pad_set, five_bytes, five_before, Shown, Row, ◌is◌, coded_as}
+use Rattle.rules.specs.Promises.Cases.{thirty, served_at_two, served_to_plane_one, without12, without11, pad_set, five_bytes, five_before, Shown, Row}
+use Rattle.rules.specs.Promises.Cases.{◌is◌, coded_as}
 use Rattle.rules.specs.Promises.Cases.{bytes, opens_example, opens_others, opens_five}
 use Rattle.joins.specs.Document.Joining.{same_bytes, part_named, or_else, joined_part, joined_bytes, clashes, unless_clash, on_record, joining}
 

@@ -33,7 +33,8 @@ use Rattle.pictures.specs.Document.Calls.{grey_in_out, grey_in_answer, grey_out_
 use Rattle.pictures.specs.Document.Calls.{grey_read_numbers, grey_written_numbers, grey_places, AfsGreyIn, AfsGreyOut, AfsGreySize}
 use Rattle.pictures.specs.Laws.GreyCauses.{GreyCase}
 use Rattle.pictures.proofs.Laws.GreyCases.{grey_case, grey_is}
-use Rattle.pictures.specs.Laws.GreyRefusals.{sized, GreyInCase, GREY, SIZE, LENGTH, WORK, LIFTED, GreyOutCase, RANGE, ROOM, PRINTED, grey_in_numbers, grey_out_numbers}
+use Rattle.pictures.specs.Laws.GreyRefusals.{sized, GreyInCase, GREY, SIZE, LENGTH, WORK, LIFTED, GreyOutCase, RANGE, ROOM, PRINTED, grey_in_numbers}
+use Rattle.pictures.specs.Laws.GreyRefusals.{grey_out_numbers}
 
 -- Each way has the outcome that its case says, and no other.
 module _ (file : List ℕ) (n room work : ℕ) where

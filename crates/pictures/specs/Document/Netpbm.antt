@@ -11,7 +11,8 @@
 --   rest      anything, not looked at
 --
 -- Each reader takes the bytes that are left and goes by recursion on them.
-use Rattle.std.specs.Prelude.{List, [], ◌∷◌, ◌++◌, Bool, true, false, cond, not, ◌&&◌, ◌||◌, ℕ, zero, suc, ◌+◌, ◌-◌, ◌*◌, ◌/◌, ◌%◌, min, leb, ltb, eqb, length, get_or, take, drop}
+use Rattle.std.specs.Prelude.{List, [], ◌∷◌, ◌++◌, Bool, true, false, cond, not, ◌&&◌, ◌||◌, ℕ, zero, suc, ◌+◌, ◌-◌, ◌*◌, ◌/◌, ◌%◌, min, leb, ltb}
+use Rattle.std.specs.Prelude.{eqb, length, get_or, take, drop}
 use Rattle.rules.specs.declared.Size.{Size}
 
 unfoldable pub line_end : ℕ → Bool

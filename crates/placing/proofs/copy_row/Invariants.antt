@@ -10,7 +10,8 @@ use Rattle.placing.proofs.copy_row.Given as goal
 
 abbrev pub invariant-loop-column : goal.invariant-loop-column
 invariant-loop-column l =
-    Rowing 0 (λ j. number_of l.z (index l.z l.row j)) (l.row * l.z.w) (band_width l.z) (area l.z) (λ j. worded (get_or l.pyramid (index l.z l.row j) (pos 0))) l.initial.work l.column l.work
+    Rowing 0 (λ j. number_of l.z (index l.z l.row j)) (l.row * l.z.w) (band_width l.z) (area l.z)
+    (λ j. worded (get_or l.pyramid (index l.z l.row j) (pos 0))) l.initial.work l.column l.work
 
 abbrev pub decreases-loop-column : goal.decreases-loop-column
 decreases-loop-column l = band_width l.z - l.column

@@ -10,7 +10,8 @@ use Rattle.placing.proofs.lay_row.Given as goal
 
 abbrev pub invariant-loop-column : goal.invariant-loop-column
 invariant-loop-column l =
-    Rowing (pos 0) (index l.z l.row) (l.row * l.z.w) (band_width l.z) (area l.z) (λ j. value_of (get_or l.work (number_of l.z (index l.z l.row j)) 0)) l.initial.out l.column l.out
+    Rowing (pos 0) (index l.z l.row) (l.row * l.z.w) (band_width l.z) (area l.z)
+    (λ j. value_of (get_or l.work (number_of l.z (index l.z l.row j)) 0)) l.initial.out l.column l.out
 
 abbrev pub decreases-loop-column : goal.decreases-loop-column
 decreases-loop-column l = band_width l.z - l.column

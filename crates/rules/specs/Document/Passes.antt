@@ -1,6 +1,7 @@
 -- Document 01, "The passes". A pass is written once, as a conversation: it asks, goes on by the answer, and tells what becomes of an entry.
 -- The coder answers from the pyramid and writes the answer as the next bit; "the decoder runs the same passes, reading bits".
-use Rattle.std.specs.Prelude.{List, [], ◌∷◌, ◌++◌, map, Bool, true, false, cond, ℕ, zero, suc, ◌+◌, ◌*◌, ◌/◌, ◌%◌, ◌^◌, leb, eqb, length, get_or, set, ℤ, pos, negsuc, neg_ℤ}
+use Rattle.std.specs.Prelude.{List, [], ◌∷◌, ◌++◌, map, Bool, true, false, cond, ℕ, zero, suc, ◌+◌, ◌*◌, ◌/◌, ◌%◌, ◌^◌, leb, eqb, length, get_or, set}
+use Rattle.std.specs.Prelude.{ℤ, pos, negsuc, neg_ℤ}
 use Rattle.rules.specs.declared.Size.{Size}
 use Rattle.rules.specs.Document.Notation.{any, flat, greatest, if_any}
 use Rattle.rules.specs.Document.Pyramid.{Family, levels, offspring_of}

@@ -51,7 +51,8 @@ pub record FromMemoryToMemory : Type 0 where
       → serve_places ≤ length note → number ≡ 0
   pub selected : {pyramid : List ℤ} {z : Size} {out work answer out' work' answer' s t : List ℕ}
       → AfsCode pyramid z out work answer 0 out' work' answer' → Selected (take (get_or answer' 2 0) out') s → (y : Selected s t)
-      → (again : Selected (take (get_or answer' 2 0) out') t) × (whole_parts again ≡ whole_parts y) × (cut_bytes again ≡ cut_bytes y) × (cut_parts again ≡ cut_parts y)
+      → (again : Selected (take (get_or answer' 2 0) out') t) × (whole_parts again ≡ whole_parts y) × (cut_bytes again ≡ cut_bytes y)
+      × (cut_parts again ≡ cut_parts y)
   -- Coded, served from whatever arrived, and decoded from whatever arrived of that.
   pub served_decoded : {pyramid : List ℤ} {z : Size} {out work answer out' work' answer' s : List ℕ} {r p : ℕ} {sent note sent' note' t scratch told : List ℕ}
       {print print' : List ℤ} {number : ℕ} {scratch' told' : List ℕ}

@@ -41,7 +41,8 @@
 --   Selected s t                t is a selection of the parts of the record in the bytes s, cut somewhere
 --   whole_parts x, cut_bytes x    what arrived of it whole, and the bytes of a part that was cut; cut_parts x: that part
 --   Recorded, Serves, Decodes   what is promised of coding, of serving and of decoding, of lent memory
-use Rattle.std.specs.Prelude.{◌≡◌, List, [], ◌∷◌, map, ◌++◌, Bool, true, cond, ◌&&◌, false, ◌⊎◌, ◌↔◌, ℕ, ◌≤◌, ◌%◌, ◌^◌, ◌+◌, ◌/◌, ◌*◌, suc, ◌<◌, ◌-◌, max, zero, leb, eqb, length, take, drop, get_or, ℤ, nat_abs, ◌-ℤ◌, pos}
+use Rattle.std.specs.Prelude.{◌≡◌, List, [], ◌∷◌, map, ◌++◌, Bool, true, cond, ◌&&◌, false, ◌⊎◌, ◌↔◌, ℕ, ◌≤◌, ◌%◌, ◌^◌, ◌+◌, ◌/◌, ◌*◌, suc, ◌<◌, ◌-◌}
+use Rattle.std.specs.Prelude.{max, zero, leb, eqb, length, take, drop, get_or, ℤ, nat_abs, ◌-ℤ◌, pos}
 use Rattle.rules.specs.declared.Size.{Size}
 use Rattle.rules.specs.declared.Refusal.{Refusal}
 use Rattle.rules.specs.declared.Refusal.TheVariants as refusal

@@ -116,7 +116,8 @@ module _ (z : Size) (planes : ℕ) (ok : legal_size z ≡ true) (l : planes ≤ 
       (rw (read_part_past (header_of z planes) (bytes []) (last_name (before_all planes) ps) (front + length (flat part_bytes ps)) (left_none _ _ (past [])))
       (unfold Short in tt))
 
-  pub uncut_behind : behind (header_of z planes) (header_bytes z planes ++ (flat part_bytes ps ++ [])) (parts_at (length (header_bytes z planes)) ps) ≡ part.Tail
+  pub uncut_behind : behind (header_of z planes) (header_bytes z planes ++ (flat part_bytes ps ++ [])) (parts_at (length (header_bytes z planes)) ps)
+      ≡ part.Tail
   uncut_behind =
       behind_parts (header_of z planes) _ (before_all planes) front ps
       ∙ read_part_past (header_of z planes) (bytes []) (last_name (before_all planes) ps) (front + length (flat part_bytes ps)) (left_none _ _ (past []))

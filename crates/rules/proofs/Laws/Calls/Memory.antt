@@ -455,7 +455,8 @@ module _ {z : Size} {planes : ℕ} {pyramid : List ℤ} {bytes s t : List ℕ} (
 
   pub afs_decode_again : {out : List ℤ} {work answer : List ℕ} {number : ℕ} {out' : List ℤ} {work' answer' : List ℕ}
       → AfsDecode t out work answer number out' work' answer' → Stated z (length out) (length work) → decode_places ≤ length answer
-      → Decodes z planes pyramid (names (whole_parts y)) (names (cut_parts y)) (cut_bytes y) number (get_or answer' 1 0) (get_or answer' 2 0) (planes_told answer')
+      → Decodes z planes pyramid (names (whole_parts y)) (names (cut_parts y)) (cut_bytes y) number (get_or answer' 1 0) (get_or answer' 2 0)
+      (planes_told answer')
       (counts_told answer') out' work work'
   afs_decode_again {work = work} {number = number} {out' = out'} {work' = work'} {answer' = answer'} d sizes places =
       holds_again (λ ps c n.

@@ -16,7 +16,8 @@ use Rattle.rules.specs.Document.Passes.{Question, Event, to_lip, to_lsp, stays, 
 use Rattle.rules.specs.Document.Passes.{walk, Course, listed, with_side, listing, passed, State, after, PartName, truth, coder, coded, Reader}
 use Rattle.rules.specs.Document.Passes.{written, decoder, decoded}
 use Rattle.rules.proofs.Laws.Counting.Booleans.{clash}
-use Rattle.rules.specs.Laws.Pass.Simulation.{said, told, spoken, outcomes, short, whole, noted, heard, lip_of, lsp_of, lis_of, moved_of, extended, course, drawn, Reads, Along}
+use Rattle.rules.specs.Laws.Pass.Simulation.{said, told, spoken, outcomes, short, whole, noted, heard, lip_of, lsp_of, lis_of, moved_of, extended}
+use Rattle.rules.specs.Laws.Pass.Simulation.{course, drawn, Reads, Along}
 
 pub decoder_reads : (bit : ℕ → Bool) (there n : ℕ) → Reads (decoder bit there n) bit (λ r. r.taken)
 decoder_reads bit there n = record { bit_read = λ q s. refl; one_taken = λ q s. refl; none_taken = λ e s. refl }

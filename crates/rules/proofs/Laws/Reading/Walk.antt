@@ -71,7 +71,8 @@ module _ (h : Header) (s : List ℕ) (before : PartName) (place : ℕ) where
   unfolding go_on
   parts_from_tail e = parts_from_step ∙ rw e
 
-  pub parts_from_cut : (p : Part) → read_part h s before place ≡ part.Cut p → parts_from h s before place ≡ record { parts = []; ending = tail (length s - place) }
+  pub parts_from_cut : (p : Part) → read_part h s before place ≡ part.Cut p → parts_from h s before place
+      ≡ record { parts = []; ending = tail (length s - place) }
   unfolding go_on
   parts_from_cut p e = parts_from_step ∙ rw e
 

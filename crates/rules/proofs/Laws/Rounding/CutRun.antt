@@ -92,7 +92,8 @@ module _ (top planes : ℕ) (there : List PartName) (x : PartName) (front : All 
   -- The plane that a level reaches with it, if that is used: as without it, or its own plane where that is the next.
   reached_with : (part : List PartName) → present part x ≡ true → (k : ℕ) → 1 ≤ k → RoundedAt part k (R k) (R' k)
   unfolding reached_now usable_now
-  reached_with part p k a = subst (RoundedAt part k (R k)) (sym (reached_now_lem top planes there x front named k a)) (by (eqb k x.level && usable_now R x) refl)
+  reached_with part p k a = subst (RoundedAt part k (R k)) (sym (reached_now_lem top planes there x front named k a))
+      (by (eqb k x.level && usable_now R x) refl)
     where
       by : (b : Bool) → eqb k x.level && usable_now R x ≡ b → RoundedAt part k (R k) (cond b x.plane (R k))
       by false e = at_reached
@@ -332,7 +333,8 @@ module _ (z : Size) (ok : legal_size z ≡ true) (planes : ℕ) (few : planes �
         (get_or (drawn_by there x m) q (pos 0)) (get_or (run_of z ok planes few pyramid small (there ++ (x.name ∷ []))).drawn q (pos 0))
     unfolding drawn_by
     cut_between =
-        subst (λ w. Between (get_or (run there).drawn q (pos 0)) (get_or (drawn_by there x l) q (pos 0)) (get_or (drawn_by there x m) q (pos 0)) (get_or w q (pos 0)))
+        subst (λ w. Between (get_or (run there).drawn q (pos 0)) (get_or (drawn_by there x l) q (pos 0)) (get_or (drawn_by there x m) q (pos 0))
+        (get_or w q (pos 0)))
         (sym k.turn.with_it)
         (part_between F mag neg x.name (run there).lists (lawful z (legal z ok)) (run there).sound k.named.up_to q (once q) (run there).drawn
         (bits_held_in l x) (bits_held_in m x) i)
@@ -379,7 +381,8 @@ module _ (z : Size) (ok : legal_size z ≡ true) (planes : ℕ) (few : planes �
   -- Decoding an arrival comes to such a pyramid.
   module _ (keep : PartName → Bool) (n : ℕ) where
     pub record Comes : Type 0 where
-      pub onward : Onward z ok planes few pyramid small (whole_in n (kept keep (parts_with z planes pyramid))) (tail_in n (kept keep (parts_with z planes pyramid)))
+      pub onward : Onward z ok planes few pyramid small (whole_in n (kept keep (parts_with z planes pyramid)))
+          (tail_in n (kept keep (parts_with z planes pyramid)))
           (arrived z planes (kept keep (parts_with z planes pyramid)) n)
       pub prints : Prints (kept keep (parts_with z planes pyramid)) n onward.printed
 

@@ -302,7 +302,8 @@ module _ (h : Header) (ok : legal_size h.size ≡ true) (bytes : List ℕ) (ther
         (st (name_of p).level) v (i.0.placed (name_of p).level) once_here here_before in
         by g (ℕ_discrete (level_of z q) (name_of p).level)
       where
-        by : Growth (lawful z (legal z ok)) (name_of p).plane (name_of p).level most (bit_at (body_of bytes p)) (bits_there bytes p) (st (name_of p).level) v c []
+        by : Growth (lawful z (legal z ok)) (name_of p).plane (name_of p).level most (bit_at (body_of bytes p)) (bits_there bytes p)
+            (st (name_of p).level) v c []
             → Dec (level_of z q ≡ (name_of p).level) → magnitude c.side.pyramid q + 2 ^ plane_behind (name_of p) (level_of z q) ≤ most
         by g (yes e) = rw (e, behind_own (name_of p)) (omega (arith, g.small q e))
         by g (no d) = omega (arith, g.elsewhere q d, walked q)

@@ -1,5 +1,6 @@
 -- Magnitudes rounded toward zero, plane by plane, and the signed values that the decoder writes for them.
-use Rattle.std.specs.Prelude.{◌≡◌, refl, Bool, true, false, cond, ◌≢◌, ℕ, zero, suc, ◌+◌, ◌-◌, ◌*◌, ◌/◌, ◌%◌, ◌^◌, ◌≤◌, ◌<◌, ltb, eqb, ℤ, pos, negsuc, nat_abs, neg_ℤ, ◌-ℤ◌}
+use Rattle.std.specs.Prelude.{◌≡◌, refl, Bool, true, false, cond, ◌≢◌, ℕ, zero, suc, ◌+◌, ◌-◌, ◌*◌, ◌/◌, ◌%◌, ◌^◌, ◌≤◌, ◌<◌, ltb, eqb, ℤ, pos, negsuc}
+use Rattle.std.specs.Prelude.{nat_abs, neg_ℤ, ◌-ℤ◌}
 use Rattle.std.proofs.Common.{ap, sym, ◌∙◌, inl, inr, arith, div-add-mod', mod-lt, pow-suc, add-one, pow_pos, pow_mono, shr-shr, ltb-true, ltb-false, eqb-true}
 use Rattle.std.proofs.Math.Decide.{dec_le}
 use Rattle.std.proofs.Math.Nat.{div-eq_of_lt-le, div-eq_of_lt}

@@ -188,4 +188,5 @@ module _ (h : Header) (s : List ℕ) (t : Part → Bool) where
         → flat (kept_of (front ++ flat (whole_of s) (selection t ps)) r p) (placed_from (length front) (selection t ps))
         ≡ flat (kept_of s r p) (selection t ps)
     kept_moved r p front =
-        kept_held_lem r p _ (placed_from (length front) (selection t ps)) ∙ ap (flat (kept_held r p)) (selection_holds front) ∙ sym (kept_held_lem r p s (selection t ps))
+        kept_held_lem r p _ (placed_from (length front) (selection t ps)) ∙ ap (flat (kept_held r p)) (selection_holds front)
+        ∙ sym (kept_held_lem r p s (selection t ps))
