@@ -2,80 +2,97 @@
 // the whole is judged before the first line.
 #![tactic(auto)]
 
-use libc::{STDIN_FILENO, STDOUT_FILENO};
+ghost use Rattle.std.specs.Prelude.{◌≤◌, IfOk, length};
+
 use record::walk::Cursor;
 use rules::{Header, Part, PartRead, Verdict};
+use std::io;
+use std::io::Read;
 
-fn print_number(n: usize) {
-    io::write_all(STDOUT_FILENO, b" ");
-    io::print_decimal(STDOUT_FILENO, n as u64);
+fn print_number(rt: &impl Print, n: usize) -> io::Result<()> {
+    print!(rt; " {n}")
 }
 
-fn end_line() {
-    io::write_all(STDOUT_FILENO, b"\n");
+fn end_line(rt: &impl Print) -> io::Result<()> {
+    println!(rt)
 }
 
-fn print_header(h: Header) {
+fn print_header(rt: &impl Print, h: Header) -> io::Result<()> {
     let size = h.size;
-    io::write_all(STDOUT_FILENO, b"record");
-    print_number(size.w);
-    print_number(size.h);
-    print_number(size.n);
-    print_number(h.planes);
-    end_line();
+    print!(rt; "record")?;
+    print_number(rt, size.w)?;
+    print_number(rt, size.h)?;
+    print_number(rt, size.n)?;
+    print_number(rt, h.planes)?;
+    end_line(rt)
 }
 
-fn print_part(p: Part) {
+fn print_part(rt: &impl Print, p: Part) -> io::Result<()> {
     let plane = p.plane;
     let level = p.level;
-    io::write_all(STDOUT_FILENO, b"part");
-    print_number(plane.0);
-    print_number(level.0);
-    print_number(p.bits);
-    end_line();
+    print!(rt; "part")?;
+    print_number(rt, plane.0)?;
+    print_number(rt, level.0)?;
+    print_number(rt, p.bits)?;
+    end_line(rt)
 }
 
-fn print_parts(bytes: &[u8], h: Header) {
+fn print_parts(rt: &impl Print, bytes: &[u8], h: Header) -> io::Result<()> {
     let mut cursor = Cursor::first(h);
     loop {
         let PartRead::Part(p) = survey::part_at(bytes, cursor) else {
-            return;
+            return Ok(());
         };
-        print_part(p);
+        print_part(rt, p)?;
         cursor = Cursor::past(p);
     }
 }
 
-fn print_tail(length: usize) {
-    io::write_all(STDOUT_FILENO, b"tail");
-    print_number(length);
-    end_line();
+fn print_tail(rt: &impl Print, length: usize) -> io::Result<()> {
+    print!(rt; "tail")?;
+    print_number(rt, length)?;
+    end_line(rt)
 }
 
-fn print_refusal(verdict: Verdict) {
-    io::write_all(STDOUT_FILENO, b"refused");
-    print_number(answers::number(verdict) as usize);
-    print_number(answers::place(verdict) as usize);
-    end_line();
+fn print_refusal(rt: &impl Print, verdict: Verdict) -> io::Result<()> {
+    print!(rt; "refused")?;
+    print_number(rt, answers::number(verdict) as usize)?;
+    print_number(rt, answers::place(verdict) as usize)?;
+    end_line(rt)
 }
 
-fn print_listing(bytes: &[u8]) {
+fn print_listing(rt: &impl Print, bytes: &[u8]) -> io::Result<()> {
     let found = survey::listed(bytes);
     let verdict = found.verdict;
     let header = found.header;
     match verdict {
         Verdict::Accepted => {
-            print_header(header);
-            print_parts(bytes, header);
-            print_tail(found.tail);
+            print_header(rt, header)?;
+            print_parts(rt, bytes, header)?;
+            print_tail(rt, found.tail)
         }
-        Verdict::Refused(_) => print_refusal(verdict),
+        Verdict::Refused(_) => print_refusal(rt, verdict),
     }
 }
 
-fn main() {
+// Reads until the buffer is full or the input ends, and returns how many bytes it put at its front.
+fn read_full(input: &mut impl Read, buffer: &mut [u8]) -> io::Result<usize>
+    ensures { IfOk result (λ n. n ≤ length buffer.new) }
+{
+    let mut done = 0;
+    while done < buffer.len() {
+        let n = input.read(&mut buffer[done..])?;
+        if n == 0 {
+            break;
+        }
+        done += n;
+    }
+    Ok(done)
+}
+
+fn main(rt: HostRuntime) -> io::Result<()> {
     // One byte more than is taken tells an input that is too long.
     let mut input = [0u8; survey::LONGEST + 1];
-    let n = io::read_full(STDIN_FILENO, &mut input);
-    print_listing(&input[..n]);
+    let n = read_full(&mut rt.stdin(), &mut input)?;
+    print_listing(&rt, &input[..n])
 }
