@@ -41,7 +41,7 @@ deb:
 	@echo 'The packages are build/deb/*.deb.'
 
 clean:
-	@rm -rf build target reference/target python/*/__pycache__
+	@rm -rf build target reference/target python/*/__pycache__ crates/*/out
 
 fmt:
-	@rt fmt
+	@for crate in crates/*/src; do (cd $$crate/.. && rt fmt) || exit; done
