@@ -504,7 +504,7 @@ enum {
  *
  * and never over 255. In the picture halved S times the sum begins at k = S + 1,
  * and the recorded pixel is that of the whole record's picture halved likewise.
- * Proved as pixel-near, in crates/pictures/specs/Laws/PixelNear. For other
+ * Proved as pixel_near, in crates/pictures/proofs/Laws/PixelNear. For other
  * pyramids, and where a byte was changed or lost inside a part, there is no such
  * bound.
  *

@@ -12,7 +12,7 @@ _FARTHEST = 255
 
 
 def farthest_pixel(reached: Sequence[int], halvings: int) -> int:
-    """The bound of the law pixel-near, by the reached planes of levels 1 to N + 1."""
+    """The bound of the law pixel_near, by the reached planes of levels 1 to N + 1."""
     *finer, coarsest = reached
     added = sum(3 << plane for plane in finer[halvings:] if plane > 0)
     return min((1 << coarsest) - 1 + added, _FARTHEST)
@@ -53,7 +53,7 @@ class Decoded(Pyramid):
     def pixel_bound(self) -> int:
         """How many grey values a pixel printed of this may be from the recorded one, at most.
 
-        Proved as pixel-near, for records that were made of a picture and of which whole parts were
+        Proved as pixel_near, for records that were made of a picture and of which whole parts were
         left out or lost, or the end was cut off; not where a byte inside a part was changed.
         """
         return farthest_pixel(self.reached, 0)
