@@ -39,8 +39,8 @@ same_within s a t b n k m e l =
       bytes = λ i j.
           let x : b + (k + i) ≡ b + k + i = omega arith in
           let y : a + (k + i) ≡ a + k + i = omega arith in
-          subst (λ (p : ℕ). get_or t p 0
-          ≡ get_or s (a + k + i) 0) x (subst (λ (p : ℕ). get_or t (b + (k + i)) 0 ≡ get_or s p 0) y (e.bytes (k + i) (omega arith)));
+          subst (λ (p : ℕ). get_or t p 0 ≡ get_or s (a + k + i) 0) x
+          (subst (λ (p : ℕ). get_or t (b + (k + i)) 0 ≡ get_or s p 0) y (e.bytes (k + i) (omega arith)));
     }
 
 same_front : (s : List ℕ) (a : ℕ) (t : List ℕ) (b n k : ℕ) → Same s a t b n → k ≤ n → Same s a t b k
