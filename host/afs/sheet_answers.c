@@ -17,8 +17,8 @@ static void answer_whose(FILE *out, const Sheet *sheet) {
     begin_answer(out, "Could a line in this picture come from another client&rsquo;s job?");
     fputs("<strong>No.</strong> What is drawn follows from the ", out);
     print_grouped(out, sheet->record.length);
-    fputs(" bytes of this file alone, whatever was in memory before (<code>afs_decode_isolated</code>, <code>afs_grey_out_isolated</code>); and what is decoded\n"
-          "of any parts of a record is that record&rsquo;s own coefficients, rounded (<code>from_memory_to_memory</code>). That its parts are as they were\n"
+    fputs(" bytes of this file alone, whatever was in memory before (<code>afsDecode-isolated</code>, <code>afsGreyOut-isolated</code>); and what is decoded\n"
+          "of any parts of a record is that record&rsquo;s own coefficients, rounded (<code>from-memory-to-memory</code>). That its parts are as they were\n"
           "sealed, <code>afs verify</code> shows.",
           out);
     end_answer(out);
@@ -38,7 +38,7 @@ static void tell_bound(FILE *out, uint64_t farthest) {
                 "<strong>As far as can be, <span id=\"farthest\">%" PRIu64 "</span> grey values:</strong> too little is there for a nearer bound,\nwhich is",
                 farthest);
     fputs(" 2<sup>m</sup>&nbsp;&minus;&nbsp;1 for the coarsest level and 3&nbsp;&times;&nbsp;2<sup>m</sup> for each finer one with m&nbsp;&gt;&nbsp;0,\n"
-          "together, where m is the plane that the level reached (<code>pixel_near</code>). A coefficient of that level is less than 2<sup>m</sup> from the\n"
+          "together, where m is the plane that the level reached (<code>pixel-near</code>). A coefficient of that level is less than 2<sup>m</sup> from the\n"
           "recorded one, and never of greater magnitude (<code>Decodes</code>, <code>near</code>).",
           out);
 }
@@ -48,7 +48,7 @@ static void answer_how_far(FILE *out, const Sheet *sheet) {
     begin_answer(out, "How far may a printed pixel be from the recorded one?");
     if (farthest == 0)
         fputs("<strong>Not at all: <span id=\"farthest\">0</span> grey values.</strong> All that this picture needs is there. If the record was made of a\n"
-              "picture, every pixel is the recorded one (<code>pixel_near</code>, <code>from_picture_to_picture</code>).",
+              "picture, every pixel is the recorded one (<code>pixel-near</code>, <code>from-picture-to-picture</code>).",
               out);
     else
         tell_bound(out, farthest);
@@ -68,7 +68,7 @@ static void tell_skipped(FILE *out, const Holding *holding) {
     if (skipped > 0)
         fprintf(out,
                 " Of those that are there <span id=\"skipped\">%" PRIu64 "</span> cannot be used, as a part that %s on is missing\n"
-                "(<code>used_and_skipped</code>).",
+                "(<code>used-and-skipped</code>).",
                 skipped, skipped == 1 ? "it builds" : "they build");
 }
 
@@ -107,7 +107,7 @@ static void answer_what_lacks(FILE *out, const Sheet *sheet) {
             fputs("not used.", out);
     }
     fputs(" A part that did not arrive whole makes the plane reported for its level, and for every finer one, greater than\n"
-          "its own (<code>loss_shows</code>). Bytes that were changed inside of a part do not show here, but beside the seal: <code>afs verify</code>.",
+          "its own (<code>loss-shows</code>). Bytes that were changed inside of a part do not show here, but beside the seal: <code>afs verify</code>.",
           out);
     end_answer(out);
 }
