@@ -3,7 +3,7 @@
 
 help:
 	@echo 'make run         from nothing: proves and builds the library, builds the tool, and does the main job with it on the sample that ships'
-	@echo 'make test        the gate: every crate proved from nothing, every must-fail edit refused, all tests'
+	@echo 'make test        the gate: every crate proved, every must-fail edit refused, all tests'
 	@echo 'make install     tool, library, header, pkg-config files, man pages, completion, Python package: PREFIX=/usr/local, DESTDIR before it;'
 	@echo '                 make uninstall removes them'
 	@echo 'make deb         Debian packages in build/deb: afshtruni, libafshtruni by its soname, libafshtruni-dev, python3-afshtruni; on x86-64 only'
