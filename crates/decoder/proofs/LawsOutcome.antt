@@ -20,7 +20,7 @@ use Rattle.rules.specs.Document.Passes.{PartName, State, Course, Reader, after}
 use Rattle.rules.specs.Document.Layout.{bits_there, name_of, usable}
 use Rattle.rules.specs.Document.Calls.{Progress, going, unfit, used, used_cut}
 use Rattle.rules.proofs.Laws.Counting.Booleans.{clash}
-use Rattle.rules.proofs.Laws.Reading.OneWalk.{usable_now}
+use Rattle.rules.specs.Laws.Reading.OneWalk.{usable_now}
 use Rattle.trees.specs.Family.{trees}
 use Rattle.trees.specs.Decoding.{onward_of, tail_onward_of}
 use Rattle.parts.specs.Standing.{Agree, agree_same}

@@ -28,7 +28,7 @@ use Rattle.rules.specs.Laws.Reading.Stands.{PartStands}
 use Rattle.rules.specs.Laws.Reading.CutPart.{CutStands}
 use Rattle.rules.proofs.Laws.Reading.CutPart.{whole_there_lem, cut_there}
 use Rattle.rules.proofs.Laws.Bytes.BodyBack.{first_length, body_bit, bit_past}
-use Rattle.rules.proofs.Laws.Reading.OneWalk.{usable_now}
+use Rattle.rules.specs.Laws.Reading.OneWalk.{usable_now}
 use Rattle.record.specs.Named.{named}
 use Rattle.record.specs.Walk.{next_of, next_stands, next_cut}
 use Rattle.stretches.specs.Workspace.{drawn_in, Words}

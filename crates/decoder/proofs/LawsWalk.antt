@@ -29,7 +29,7 @@ use Rattle.rules.proofs.Laws.Counting.Booleans.{clash}
 use Rattle.rules.proofs.Laws.Family.Sizes.{legal}
 use Rattle.rules.specs.Laws.Reading.Parts.{After}
 use Rattle.rules.proofs.Laws.Reading.Parts.{follows_after}
-use Rattle.rules.proofs.Laws.Reading.OneWalk.{usable_now, reached_now}
+use Rattle.rules.specs.Laws.Reading.OneWalk.{usable_now, reached_now}
 use Rattle.rules.specs.Laws.Reading.Stands.{HeaderStands, PartStands}
 use Rattle.rules.proofs.Laws.Reading.Stands.{read_header_stands, header_legal, header_planes}
 use Rattle.rules.specs.Laws.Reading.WholeParts.{WholeParts}

@@ -25,7 +25,7 @@ use Rattle.rules.specs.Document.Layout.{bytes_for, bit_at, body_of, bits_there, 
 use Rattle.rules.specs.Document.Numbers.{read_header, read_parts}
 use Rattle.rules.specs.Document.Calls.{work_for, level_places, Result, Progress, going, Picture, reached_planes, decode_out, decode_answer}
 use Rattle.rules.specs.Document.Calls.{count_in}
-use Rattle.rules.proofs.Laws.Reading.OneWalk.{usable_now}
+use Rattle.rules.specs.Laws.Reading.OneWalk.{usable_now}
 use Rattle.trees.specs.Family.{trees}
 use Rattle.trees.specs.Run.{tree_start}
 use Rattle.trees.specs.Decoding.{decode_parts_of, tail_onward_of}

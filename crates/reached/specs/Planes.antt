@@ -19,7 +19,7 @@ use Rattle.rules.specs.Document.Layout.{reached}
 use Rattle.rules.specs.Document.Calls.{level_places, plane_in, reached_plane, reached_planes}
 use Rattle.rules.proofs.Laws.Family.Sizes.{legal}
 use Rattle.rules.proofs.Laws.Reading.Usable.{reached_none, reached_beyond}
-use Rattle.rules.proofs.Laws.Reading.OneWalk.{usable_now, reached_now}
+use Rattle.rules.specs.Laws.Reading.OneWalk.{usable_now, reached_now}
 use Rattle.rules.proofs.Laws.Rounding.Run.{map_from}
 
 -- the plane that level k reached, of planes that stand level 1 first

@@ -4,7 +4,7 @@
 ghost use Rattle.std.specs.Prelude.{◌≡◌, true, [], ◌+◌, ◌-◌, ◌^◌, ◌≤◌, ◌<◌, length, set};
 ghost use Rattle.rules.specs.Document.Pyramid.{legal_size, most_planes};
 ghost use Rattle.rules.specs.Document.Calls.{level_places, reached_planes, count_in};
-ghost use Rattle.rules.proofs.Laws.Reading.OneWalk.{usable_now};
+ghost use Rattle.rules.specs.Laws.Reading.OneWalk.{usable_now};
 ghost use Rattle.record.specs.Named.{name_by};
 ghost use Rattle.reached.specs.Planes.{reached_at};
 

@@ -5,3 +5,4 @@ pub mod Walk
 pub mod WholeParts
 pub mod CutPart
 pub mod Local
+pub mod OneWalk

@@ -1,5 +1,4 @@
--- The words that the promises use beside those of Document, in reading order: definitions only. Cases is used for its place alone: the table is
--- checked before all that stands on these words, so a wrong definition is refused for the bytes or numbers that it gets wrong.
+-- The words that the promises use beside those of Document, in reading order: definitions only.
 --
 --   Legal z                     a size that coding takes, as a statement; Side n x: a side of it
 --   at n k                      the name of part (n, k): plane n, level k

@@ -14,7 +14,8 @@ use Rattle.rules.specs.Laws.Reading.Parts.{InOrder}
 use Rattle.rules.proofs.Laws.Reading.PartCases.{part_case}
 use Rattle.rules.specs.Laws.Reading.Stands.{PartStands}
 use Rattle.rules.proofs.Laws.Reading.Stands.{read_number_stands, read_part_stands}
-use Rattle.rules.proofs.Laws.Reading.OneWalk.{usable_now, one_walk}
+use Rattle.rules.specs.Laws.Reading.OneWalk.{usable_now}
+use Rattle.rules.proofs.Laws.Reading.OneWalk.{one_walk}
 use Rattle.rules.specs.Laws.Reading.WholeParts.{WholeParts}
 use Rattle.rules.specs.Laws.Reading.CutPart.{CutStands}
 

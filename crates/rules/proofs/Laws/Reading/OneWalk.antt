@@ -15,16 +15,9 @@ use Rattle.rules.specs.Laws.Counting.Sums.{All}
 use Rattle.rules.proofs.Laws.Counting.Booleans.{same_test, not_test, both, both_left, both_right, either, either_right, lowest_same}
 use Rattle.rules.specs.Laws.Reading.Parts.{After, InOrder}
 use Rattle.rules.proofs.Laws.Reading.Parts.{same_name_lem, name_same, present_append, absent, order_behind, order_front}
+use Rattle.rules.specs.Laws.Reading.OneWalk.{usable_now, reached_now}
 use Rattle.rules.specs.Promises.Vocabulary.{at, Named, present, Usable}
 use Rattle.rules.proofs.Laws.Reading.Usable.{usable_every, every_usable, usable_there, usable_rises, reached_within, usable_reached, reached_usable}
-
--- With R the planes reached by the parts that came by: a part is usable if its level had reached the plane above, and the next coarser level
--- its own plane; and the planes reached with it.
-unfoldable pub usable_now : (ℕ → ℕ) → PartName → Bool
-usable_now R p = eqb (R p.level) (suc p.plane) && leb (R (suc p.level)) p.plane
-
-unfoldable pub reached_now : (ℕ → ℕ) → PartName → ℕ → ℕ
-reached_now R p k = cond (eqb k p.level && usable_now R p) p.plane (R k)
 
 module _ (top planes : ℕ) (seen : List PartName) (p : PartName) (front : All (λ q. After q p) seen) where
   -- the parts that came by, p the last

@@ -19,7 +19,8 @@ use Rattle.rules.proofs.Laws.Counting.Booleans.{same_test, both_left}
 use Rattle.rules.specs.Laws.Reading.Parts.{InOrder}
 use Rattle.rules.proofs.Laws.Reading.Parts.{all_middle}
 use Rattle.rules.proofs.Laws.Reading.Usable.{reached_none, reached_within}
-use Rattle.rules.proofs.Laws.Reading.OneWalk.{usable_now, reached_now, one_walk, reached_walk}
+use Rattle.rules.specs.Laws.Reading.OneWalk.{usable_now, reached_now}
+use Rattle.rules.proofs.Laws.Reading.OneWalk.{one_walk, reached_walk}
 use Rattle.rules.proofs.Laws.Reading.WholeParts.{read_parts_whole, whole_in_order, whole_named}
 
 -- One part more, b saying whether it is of the level and u whether it is usable: the plane reached goes down by one, or one more is skipped.

@@ -13,7 +13,8 @@ use Rattle.rules.specs.Laws.Counting.Sums.{All}
 use Rattle.rules.specs.Laws.Reading.Parts.{InOrder}
 use Rattle.rules.proofs.Laws.Reading.Parts.{all_middle}
 use Rattle.rules.specs.Promises.Vocabulary.{Named}
-use Rattle.rules.proofs.Laws.Reading.OneWalk.{usable_now, reached_now, one_walk, reached_walk}
+use Rattle.rules.specs.Laws.Reading.OneWalk.{usable_now, reached_now}
+use Rattle.rules.proofs.Laws.Reading.OneWalk.{one_walk, reached_walk}
 use Rattle.rules.proofs.Laws.Reading.Stands.{read_part_stands}
 use Rattle.rules.specs.Laws.Reading.WholeParts.{WholeParts}
 

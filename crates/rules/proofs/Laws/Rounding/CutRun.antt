@@ -33,7 +33,8 @@ use Rattle.rules.proofs.Laws.Offspring.Lawful.{lawful}
 use Rattle.rules.specs.Laws.Reading.Parts.{InOrder, After}
 use Rattle.rules.proofs.Laws.Reading.Parts.{absent, all_middle, order_front, order_behind, names_named, names_in_order, name_same}
 use Rattle.rules.proofs.Laws.Reading.Usable.{usable_there, usable_reached, reached_falls}
-use Rattle.rules.proofs.Laws.Reading.OneWalk.{usable_now, reached_now, differs, usable_other, reached_above, reached_now_lem}
+use Rattle.rules.specs.Laws.Reading.OneWalk.{usable_now, reached_now}
+use Rattle.rules.proofs.Laws.Reading.OneWalk.{differs, usable_other, reached_above, reached_now_lem}
 use Rattle.rules.proofs.Laws.Pass.Simulation.{bits_of}
 use Rattle.rules.specs.Laws.Pass.Early.{Between, untouched, only_further, both_drawn}
 use Rattle.rules.proofs.Laws.Bytes.BodyBack.{packed_bit, packed_length}
