@@ -7,6 +7,7 @@ use borrow.Author.Tests.{ltb-true, lt-ltb, le-ltb, le-leb, lt-leb, ne_eqb}
 use Rattle.rules.specs.declared.Number.TheVariants.{Value, LongForm, CutOff}
 use Rattle.rules.specs.Document.Layout.{groups, number_bytes, number_from}
 use Rattle.rules.specs.Laws.Bytes.Numbers.{too_large}
+use Rattle.rules.proofs.Promises.Cases.{cases_hold}
 
 -- The last group, and one below others.
 pub groups_last : (more v : ℕ) → v < 128 → groups more v ≡ v ∷ []

@@ -5,6 +5,7 @@ use Rattle.std.proofs.lemmas.List.Edits.{sets}
 use Rattle.rules.specs.Document.Notation.{zeros}
 use Rattle.rules.specs.Document.Calls.{filled}
 use Rattle.rules.specs.Laws.Bytes.Output.{clipped}
+use Rattle.rules.proofs.Promises.Cases.{cases_hold}
 
 pub clipped_nothing : (room : ℕ) → clipped room [] ≡ zeros room
 unfolding clipped

@@ -14,6 +14,7 @@ use Rattle.rules.specs.Document.Numbers.{verdict_number}
 use Rattle.rules.specs.Document.Calls.{coding, serving, decoding, filled, code_answer, serve_answer, decode_answer, Coding, Serving, Decoding}
 use Rattle.rules.specs.Document.Calls.{code_numbers, serve_numbers, decode_numbers, code_places, serve_places, decode_places, returned, reported}
 use Rattle.rules.specs.Document.Calls.{lent_out, AfsCode, AfsServe, AfsDecode}
+use Rattle.rules.proofs.Promises.Cases.{cases_hold}
 
 -- "A slice shorter than the answer gives 5 before any other check, with that slice and the output all 0." In one that is long
 -- enough stands the routine's answer, the rest 0, and its number is returned.

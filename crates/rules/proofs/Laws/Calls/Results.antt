@@ -12,6 +12,7 @@ use Rattle.rules.specs.declared.HeaderRead.{HeaderRead}
 use Rattle.rules.specs.declared.HeaderRead.TheVariants as header
 use Rattle.rules.specs.Document.Numbers.{refusal_number, verdict_number, Ending, tail, fault}
 use Rattle.rules.specs.Document.Calls.{Result, refused, accepted, unless, on_header, on_ending}
+use Rattle.rules.proofs.Promises.Cases.{cases_hold}
 
 module _ {X : Type 0} (P : Result X → Type 0) where
   pub unless_case : (b : Bool) (r : Refusal) (x : Result X) → (b ≡ false → P (refused r)) → (b ≡ true → P x) → P (unless b r x)

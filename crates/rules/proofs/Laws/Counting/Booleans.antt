@@ -4,6 +4,7 @@ use Rattle.std.proofs.Common.{ap, sym, ◌∙◌, true≢false, inl, inr, arith}
 use Rattle.std.proofs.Math.Bool.{and_assoc, or_assoc}
 use Rattle.rules.specs.Document.Notation.{any, every, lowest}
 use Rattle.rules.specs.Promises.Vocabulary.{selection}
+use Rattle.rules.proofs.Promises.Cases.{cases_hold}
 
 -- one selection after another
 pub selection_both : {X : Type 0} (t u : X → Bool) (xs : List X) → selection (λ x. t x && u x) xs ≡ selection u (selection t xs)

@@ -18,6 +18,7 @@ use Rattle.std.proofs.Math.Decide.{ℕ_discrete}
 use Rattle.rules.specs.Document.Notation.{any, count, flat, if_any}
 use Rattle.rules.specs.Document.Passes.{from}
 use Rattle.rules.specs.Laws.Counting.Sums.{All, sum, one, is, ◌∈◌, Every}
+use Rattle.rules.proofs.Promises.Cases.{cases_hold}
 
 -- All
 pub all_of : {X : Type 0} (P : X → Type 0) (xs : List X) → ((x : X) → P x) → All P xs

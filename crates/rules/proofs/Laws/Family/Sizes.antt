@@ -18,6 +18,7 @@ use Rattle.rules.specs.declared.Size.{Size}
 use Rattle.rules.specs.Document.Pyramid.{least_side, greatest_side, most_area, most_decompositions, legal_side, legal_size, area, levels}
 use Rattle.rules.specs.Promises.Vocabulary.{Side, Legal}
 use Rattle.rules.specs.Laws.Family.Sizes.{span, level_start, level_end, level_size}
+use Rattle.rules.proofs.Promises.Cases.{cases_hold}
 
 -- legal_size
 module _ (n x : ℕ) (e : x % 2 ^ (n + 1) ≡ 0) where

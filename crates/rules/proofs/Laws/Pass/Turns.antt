@@ -13,6 +13,7 @@ use Rattle.rules.specs.Document.Pyramid.{Family}
 use Rattle.rules.specs.Document.Passes.{Entry, typeA, typeB, set?, stays, moves, Talk, ask, tell, members, in_level, tests, opened}
 use Rattle.rules.specs.Document.Passes.{added, weighed, visited, visits, turns, sets}
 use Rattle.rules.specs.Laws.Family.Lawful.{Lawful}
+use Rattle.rules.proofs.Promises.Cases.{cases_hold}
 
 -- turns
 module _ (F : Family) where

@@ -10,6 +10,7 @@ use Rattle.std.proofs.lemmas.Bool.{eqb-false}
 use Rattle.rules.specs.Document.Pyramid.{below0}
 use Rattle.rules.specs.Document.Passes.{signed, grown}
 use Rattle.rules.specs.Promises.Vocabulary.{toward_zero, Near}
+use Rattle.rules.proofs.Promises.Cases.{cases_hold}
 
 -- What is rounded away is less than 2^m; where the magnitude is below 2^m that is all of it, at plane 0 nothing.
 pub toward_most : (m x : ℕ) → toward_zero m x ≤ x
