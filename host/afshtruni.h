@@ -12,15 +12,15 @@
  * parts could not be used. The pyramid of a picture is made of a grey file, and
  * a grey file of a pyramid.
  *
- * Link with libafshtruni (x86-64), static or shared: pkg-config afshtruni tells
- * how. It needs no library but C's own, allocates nothing, keeps nothing
- * between calls and may be called from any number of threads at once, each with
- * memory of its own. Every function in it is proved to meet its contract, to
- * end and never to go wrong, for any bytes whatever. Trusted, not proved: the
- * prover and back end of the Rattle kit, the C compiler, the linker and the
- * tool; and a caller must keep the slices that it lends apart and aligned, and
- * nobody may write to them while the call runs. A record has no checksum:
- * docs/FORMAT.md.
+ * Link with libafshtruni, static or shared: pkg-config afshtruni tells how. It
+ * is for x86-64-v2, with SSE4.2 and POPCNT. It needs no library but C's own,
+ * allocates nothing, keeps nothing between calls and may be called from any
+ * number of threads at once, each with memory of its own. Every function in it
+ * is proved to meet its contract, to end and never to go wrong, for any bytes
+ * whatever. Trusted, not proved: the prover and back end of the Rattle kit, the
+ * C compiler, the linker and the tool; and a caller must keep the slices that it
+ * lends apart and aligned, and nobody may write to them while the call runs. A
+ * record has no checksum: docs/FORMAT.md.
  */
 #ifndef AFSHTRUNI_H
 #define AFSHTRUNI_H
