@@ -1,3 +1,1 @@
-pub mod Signed
 pub mod Searches
-pub mod Worded

@@ -1,70 +1,37 @@
--- The loops' searches: the first over, the largest, the count of planes.
-use mathlib.Core.Path.{◌≡◌, ap, sym, ◌∙◌}
-use mathlib.Core.List.{List}
-use mathlib.Core.Bool.{Bool, false}
-use Prim.Native.Nat.{ℕ, suc, ◌+◌, ◌-◌, ◌^◌, ◌≤◌, ◌<◌, max}
-use native.Mathlib.Nat.{zero-max, max-zero}
-use native.Mathlib.Numerals.{add-one}
-use native.Mathlib.Decide.{dec_lt}
-use native.Mathlib.Omega.{arith}
-use lib.Dec.{ltb}
-use lib.ListN.{length, drop, drop_of_length-le}
-use lib.Seq.{drop-cons}
-use lib.Count.{count_leading_zeros, leading_length}
-use lib.IntN.{ℤ, pos, nat_abs}
-use borrow.Author.Tests.{lt-ltb, le-ltb}
-use Rattle.rules.specs.Document.Notation.{greatest}
+-- What a search through a pyramid finds, and how many planes a magnitude has.
+use Rattle.std.proofs.Common.{◌≡◌, refl, List, [], ◌∷◌, ℕ, ◌-◌, ◌^◌, ◌<◌, ◌≤◌, Bool, not, cond, ltb, max, ℤ, nat_abs, length, Some, None, unwrap_or}
+use Rattle.std.proofs.Common.{ap, ◌∙◌, arith}
+use Rattle.std.specs.List.{fold, position}
+use Rattle.std.specs.Int.Count.{count_leading_zeros}
+use Rattle.std.proofs.lemmas.Bool.Decides.{nat_tests}
+use Rattle.std.proofs.lemmas.List.Recursion.{is_position_or_len}
+use Rattle.std.proofs.lemmas.List.Sums.{prefix_len-le-length}
+use Rattle.std.proofs.lemmas.Nat.{leading_length}
+use Rattle.rules.specs.Document.Notation.{greatest, lowest}
 use Rattle.rules.specs.Document.Pyramid.{magnitude, planes_of}
 use Rattle.rules.specs.Document.Calls.{first_over}
-use Rattle.rules.proofs.Laws.Counting.Booleans.{lowest_found}
 use Rattle.rules.proofs.Laws.Rounding.Planes.{counts_once, planes_of_counts}
 
-max_assoc : (a b c : ℕ) → max (max a b) c ≡ max a (max b c)
-max_assoc a b c = omega arith
+-- a place found, or the end
+or_end : (n l : ℕ) → n ≤ l → n ≡ unwrap_or (cond (ltb n l) (Some n) None) l
+or_end n l h = grind (arith, nat_tests)
 
-module _ (most : ℕ) (pyramid : List ℤ) where
-  abbrev pub over : ℕ → Bool
-  over q = ltb most (magnitude pyramid q)
+pub first_over_position : (most : ℕ) (pyramid : List ℤ)
+    → first_over most pyramid ≡ unwrap_or (position (λ v. ltb most (nat_abs v)) pyramid) (length pyramid)
+unfolding first_over lowest magnitude
+first_over_position most pyramid =
+    let over : ℤ → Bool = λ v. ltb most (nat_abs v) in
+    is_position_or_len (first_over most) over refl (λ x xs. ap (cond (over x) 0) (omega arith)) pyramid
+    ∙ or_end _ _ (prefix_len-le-length (λ v. not (over v)) pyramid)
 
-  abbrev pub NoneOver : ℕ → Type 0
-  NoneOver q = (k : ℕ) → k < q → over k ≡ false
+-- the largest so far and the rest give the largest of all
+fold_onward : {X : Type 0} (m : X → ℕ) (a : ℕ) (xs : List X) → fold (λ b x. max b (m x)) a xs ≡ max a (greatest m xs)
+unfolding greatest
+fold_onward m a [] = omega arith
+fold_onward m a (x ∷ xs) = omega (arith, fold_onward m (max a (m x)) xs)
 
-  pub over_found : (q : ℕ) → q < length pyramid → NoneOver q → {m : ℕ} → m ≡ magnitude pyramid q → most < m → q ≡ first_over most pyramid
-  unfolding first_over
-  over_found q h before {m} e l =
-      lowest_found over (length pyramid) q (omega arith) before (λ k. lt-ltb most (magnitude pyramid q) (omega arith))
-
-  pub over_nowhere : (q : ℕ) → q ≤ length pyramid → length pyramid ≤ q → NoneOver q → q ≡ first_over most pyramid
-  unfolding first_over
-  over_nowhere q h l before = lowest_found over (length pyramid) q h before (λ k. absurd (omega arith))
-
-  pub over_onward : (q : ℕ) → NoneOver q → {m : ℕ} → m ≡ magnitude pyramid q → m ≤ most → NoneOver (q + 1)
-  over_onward q before {m} e l k h = go (dec_lt k q)
-    where
-      go : Dec (k < q) → over k ≡ false
-      go (yes i) = before k i
-      go (no i) = let s : k ≡ q = omega arith in rw s (le-ltb most (magnitude pyramid q) (omega arith))
-
-module _ (pyramid : List ℤ) where
-  -- m is the largest so far, and the rest is still to see
-  abbrev pub Seen : ℕ → ℕ → Type 0
-  Seen m q = max m (greatest nat_abs (drop q pyramid)) ≡ greatest nat_abs pyramid
-
-  pub seen_nothing : Seen 0 0
-  seen_nothing = zero-max (greatest nat_abs pyramid)
-
-  pub seen_onward : (m q r v : ℕ) → q < length pyramid → Seen m q → v ≡ magnitude pyramid q → r ≡ max m v → Seen r (q + 1)
-  unfolding greatest magnitude
-  seen_onward m q r v h e ev er =
-      rw (add-one q) (ap (λ (x : ℕ). max x (greatest nat_abs (drop (suc q) pyramid))) (er ∙ ap (max m) ev) ∙ max_assoc _ _ _)
-      ∙ rw (drop-cons pyramid q (pos 0) h) at e
-
-  pub seen_all : (m q : ℕ) → length pyramid ≤ q → Seen m q → m ≡ greatest nat_abs pyramid
-  unfolding greatest
-  seen_all m q h e = sym (max-zero m) ∙ rw (drop_of_length-le pyramid h) at e
-
-pub leading_few : (m : ℕ) → m < 2 ^ 32 → count_leading_zeros 32 m ≤ 32
-leading_few m h = omega (arith, (leading_length 32 m h).1)
+pub fold_greatest : {X : Type 0} (m : X → ℕ) (xs : List X) → fold (λ b x. max b (m x)) 0 xs ≡ greatest m xs
+fold_greatest m xs = omega (arith, fold_onward m 0 xs)
 
 -- The planes of m are as many as it has bits: what is left of 32 without the zeros in front.
 pub planes_left : (m : ℕ) → m < 2 ^ 32 → 32 - count_leading_zeros 32 m ≡ planes_of m

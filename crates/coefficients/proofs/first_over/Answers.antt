@@ -1,18 +1,14 @@
--- `coefficients::first_over`: no index passed is over, so the first found is the lowest.
-use native.Mathlib.Omega.{arith}
-use Rattle.coefficients.proofs.Searches.{over_found, over_nowhere, over_onward}
+-- `coefficients::first_over`: the first place whose magnitude passes, and the length where none does.
+use Rattle.std.proofs.Common.{nat_abs, ltb, length, unwrap_or, ap, sym, ◌∙◌, rules, tests}
+use Rattle.std.proofs.lemmas.Iterator.{YieldsList-from_slice}
+use Rattle.std.proofs.lemmas.Iterator.Search.{position_from_yields_List}
+use Rattle.coefficients.proofs.Searches.{first_over_position}
 use Rattle.coefficients.proofs.first_over.Goals as goal
 
-pub loop-q-init : goal.loop-q-init
-loop-q-init c = (omega arith, λ k h. absurd (omega arith))
-
-pub returns-then-most-magnitude_at : goal.returns-then-most-magnitude_at
-returns-then-most-magnitude_at c =
-    over_found _ _ _ c.loop-q-test.true c.loop-q.invariant.1 c.magnitude_at.ensures
-    c.if-most-magnitude_at.true
-
-pub loop-q-preserved : goal.loop-q-preserved
-loop-q-preserved c = (omega arith, over_onward _ _ _ c.loop-q.invariant.1 c.magnitude_at.ensures c.if-most-magnitude_at.false)
-
 pub returns : goal.returns
-returns c = over_nowhere _ _ _ c.loop-q.invariant.0 c.loop-q-test.false c.loop-q.invariant.1
+returns c =
+    let v = c.args.pyramid.now in
+    c.unwrap_or.ensures
+    ∙ ap (λ o. unwrap_or o (length v)) (position_from_yields_List (λ x. ltb c.args.most (nat_abs x)) _ _ _ c.position.ensures.ran
+    (YieldsList-from_slice v cc) (λ x b q k. search (rules, tests)))
+    ∙ sym (first_over_position c.args.most v)

@@ -1,17 +1,16 @@
--- `coefficients::largest_magnitude`: the largest so far and the rest give the largest of all.
-use native.Mathlib.Omega.{arith}
-use Rattle.coefficients.proofs.Searches.{seen_nothing, seen_onward, seen_all}
+-- `coefficients::largest_magnitude`: the largest of the magnitudes, and 0 of none.
+use Rattle.std.proofs.Common.{nat_abs, unwrap_or, ap, ◌∙◌, rules}
+use Rattle.std.proofs.lemmas.Iterator.{YieldsList-from_slice, YieldsList-from_map}
+use Rattle.std.proofs.lemmas.Iterator.Consumers.{reduce_from_yields_List}
+use Rattle.std.proofs.lemmas.List.Folds.{max_of_map}
+use Rattle.coefficients.proofs.Searches.{fold_greatest}
 use Rattle.coefficients.proofs.largest_magnitude.Goals as goal
 
-pub loop-q-init : goal.loop-q-init
-loop-q-init c = (omega arith, seen_nothing _)
-
-pub loop-q-preserved : goal.loop-q-preserved
-loop-q-preserved c = (
-  omega arith,
-  seen_onward _ _ _ _ _ c.loop-q-test.true c.loop-q.invariant.1 c.magnitude_at.ensures
-      c.larger-m.ensures,
-)
-
 pub returns : goal.returns
-returns c = seen_all _ _ _ c.loop-q-test.false c.loop-q.invariant.1
+returns c =
+    let v = c.args.pyramid.now in
+    c.unwrap_or.ensures
+    ∙ ap (λ o. unwrap_or o 0) (reduce_from_yields_List _ c.map.result _ c.max.ensures.ran
+    (YieldsList-from_map _ nat_abs (YieldsList-from_slice v cc) c.map.ensures.closure (λ x b q k. search rules)))
+    ∙ max_of_map nat_abs v
+    ∙ fold_greatest nat_abs v
