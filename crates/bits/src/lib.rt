@@ -11,6 +11,7 @@ pub struct BitPosition {
     pub at: usize,
 }
 
+// No Option beside a position: past the end the bit is 0, and the position moves on in every case.
 #[derive(Clone, Copy)]
 pub struct BitRead {
     pub bit: bool,
@@ -30,7 +31,7 @@ fn with_bit(byte: u8, i: usize, bit: bool) -> u8
     requires { i < 8 }
     ensures { result ≡ with_bit byte i bit }
 {
-    byte | ((bit as u8) << (7 - i))
+    byte | (u8::from(bit) << (7 - i))
 }
 
 impl BitPosition {
@@ -42,14 +43,8 @@ impl BitPosition {
         let at = self.at;
         let place = at / 8;
         let next = BitPosition { at: at + 1 };
-        if place < body.len() {
-            BitRead {
-                bit: bit_of(body[place], at % 8),
-                next,
-            }
-        } else {
-            BitRead { bit: false, next }
-        }
+        let bit = place < body.len() && bit_of(body[place], at % 8);
+        BitRead { bit, next }
     }
 
     // Sets the bit here, which is 0, if the bit is 1; past the end nothing happens. Answers the next position.
@@ -71,13 +66,6 @@ pub fn padding_clear(body: &[u8], bits: usize) -> bool
     requires { bits < 2 ^ 61 }
     ensures { result ≡ pad_clear body.now bits }
 {
-    let mut position = BitPosition { at: bits };
-    while position.at % 8 != 0 {
-        let read = position.read(body);
-        if read.bit {
-            return false;
-        }
-        position = read.next;
-    }
-    true
+    let end = bits.next_multiple_of(8);
+    (bits..end).all(|at| !BitPosition { at }.read(body).bit)
 }

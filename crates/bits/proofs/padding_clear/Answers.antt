@@ -1,20 +1,14 @@
-use native.Mathlib.Omega.{arith}
-use Rattle.bits.proofs.Laws.{clear_begins, clear_all, clear_next, not_clear}
+use Rattle.std.proofs.Common.{not, ◌-◌, ◌*◌, ◌∙◌, rules, tests, arith, refl}
+use Rattle.std.proofs.lemmas.Iterator.{YieldsList-from_range}
+use Rattle.std.proofs.lemmas.Iterator.Search.{all_from_yields_List}
+use Rattle.rules.specs.Document.Layout.{bytes_for, bit_at, pad_clear}
+use Rattle.bits.proofs.Laws.{all_clear}
 use Rattle.bits.proofs.padding_clear.Goals as goal
 
-pub loop-position-init : goal.loop-position-init
-loop-position-init c = clear_begins
-
-pub returns-then-read : goal.returns-then-read
-returns-then-read c =
-    let clear = c.loop-position.invariant in
-    not_clear clear c.loop-position-test.true c.read-read.ensures.0 c.if-read.true
-
-pub loop-position-preserved : goal.loop-position-preserved
-loop-position-preserved c =
-    let clear = c.loop-position.invariant in
-    let read = c.read-read.ensures in
-    clear_next clear c.loop-position-test.true read.0 c.if-read.false read.1
-
 pub returns : goal.returns
-returns c = clear_all c.loop-position.invariant (omega arith)
+unfolding pad_clear
+returns c =
+    let body = c.args.body.now in
+    all_from_yields_List (λ i. not (bit_at body i)) _ _ _ c.all.ensures.ran
+    (YieldsList-from_range _ _ (8 * bytes_for c.args.bits - c.args.bits) refl (omega arith)) (λ x b q k. search (rules, tests))
+    ∙ all_clear body _ _
