@@ -22,33 +22,18 @@ fn legal_side(n: usize, side: usize) -> bool
     requires { n ≤ most_decompositions }
     ensures { result ≡ legal_side n side }
 {
-    if side < LEAST_SIDE {
-        return false;
-    }
-    if GREATEST_SIDE < side {
-        return false;
-    }
-    side % (1 << (n + 1)) == 0
+    (LEAST_SIDE..=GREATEST_SIDE).contains(&side) && side.is_multiple_of(1 << (n + 1))
 }
 
 // N is judged before 2^(N+1) is formed.
 pub fn legal_size(z: Size) -> bool
     ensures { result ≡ legal_size z }
 {
-    if z.n < 1 {
-        return false;
-    }
-    if MOST_DECOMPOSITIONS < z.n {
-        return false;
-    }
-    if legal_side(z.n, z.w) {
-        legal_side(z.n, z.h)
-    } else {
-        false
-    }
+    (1..=MOST_DECOMPOSITIONS).contains(&z.n) && legal_side(z.n, z.w) && legal_side(z.n, z.h)
 }
 
-// Four for each coefficient: no part has more bits, and that many numbers of workspace are enough.
+// All below ask that a plain Size is legal: the crates above do too, and a type that carries the fact would be made and opened again at each of their calls.
+// Four for each coefficient: no part has more bits, and that many numbers of workspace are enough. Contracts cite the two rules by these names.
 pub fn most_bits(z: Size) -> usize
     requires { legal_size z ≡ true }
     ensures { result ≡ most_bits z }
@@ -73,14 +58,12 @@ pub fn span_of(z: Size, k: Depth) -> usize
 }
 
 // Counted coarsest level first, the coefficients of level k are those from level_start up to level_end.
+// Three functions and no Range: contracts above cite the three numbers one by one.
 pub fn level_start(z: Size, k: Level) -> usize
     requires { (legal_size z ≡ true) × (1 ≤ k.0) × (k.0 ≤ levels z) }
     ensures { result ≡ level_start z k.0 }
 {
-    if z.n < k.0 {
-        return 0;
-    }
-    span_of(z, Depth(k.0))
+    if z.n < k.0 { 0 } else { span_of(z, Depth(k.0)) }
 }
 
 pub fn level_end(z: Size, k: Level) -> usize

@@ -1,7 +1,5 @@
 -- `shape::level_size`: the end is never before the start.
-use mathlib.Core.Path.{ap₂}
-use Prim.Native.Nat.{ℕ, ◌-◌}
-use native.Mathlib.Omega.{arith}
+use Rattle.std.proofs.Common.{arith}
 use Rattle.rules.specs.Laws.Family.Sizes.{level_size}
 use Rattle.shape.proofs.Sizes.{start_before}
 use Rattle.shape.proofs.level_size.Goals as goal
@@ -11,4 +9,4 @@ overflow_sub-result c = omega (arith, start_before _ c.requires.0 _ c.requires.1
 
 pub returns : goal.returns
 unfolding level_size
-returns c = ap₂ (λ (a b : ℕ). a - b) c.level_end.ensures c.level_start.ensures
+returns c = cc (c.level_end.ensures, c.level_start.ensures)

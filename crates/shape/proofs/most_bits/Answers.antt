@@ -1,5 +1,5 @@
 -- `shape::most_bits`: products that stay small.
-use borrow.Author.Rules.{rules}
+use Rattle.std.proofs.Common.{rules}
 use Rattle.shape.proofs.Sizes.{area_small, fourfold_small}
 use Rattle.shape.proofs.most_bits.Goals as goal
 

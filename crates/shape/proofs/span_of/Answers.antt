@@ -1,6 +1,5 @@
 -- `shape::span_of`: the product of the halved sides is at most the area.
-use mathlib.Core.Path.{refl}
-use native.Mathlib.Omega.{arith}
+use Rattle.std.proofs.Common.{rules, arith}
 use Rattle.rules.specs.Laws.Family.Sizes.{span}
 use Rattle.rules.proofs.Laws.Family.Sizes.{legal}
 use Rattle.shape.proofs.Sizes.{span_small}
@@ -17,4 +16,4 @@ overflow_mul-result c = record { fits = omega (arith, span_small c.args.z c.requ
 
 pub returns : goal.returns
 unfolding span
-returns c = refl
+returns c = search rules
