@@ -3,7 +3,6 @@ use Rattle.std.proofs.Common.{arith}
 use Rattle.std.proofs.lemmas.Bool.Decides.{nat_tests}
 use Rattle.rules.specs.Document.Pyramid.{legal_size}
 use Rattle.shape.proofs.legal_size.Goals as goal
-use Rattle.shape.proofs.legal_size.Goals.{then-contains, else-contains}
 
 pub returns-then-legal_side : goal.returns-then-legal_side
 unfolding legal_size
