@@ -3,9 +3,10 @@ use mathlib.Core.Path.{◌≡◌, refl, sym, ap, ap₂, ◌∙◌, subst}
 use mathlib.Core.Bool.{Bool, true, false, cond}
 use mir.Val.{bool_byte}
 use mathlib.Core.List.{List, [], ◌∷◌, ◌++◌, map, map-append, append_assoc}
-use Prim.Native.Nat.{ℕ, ◌+◌, ◌-◌, ◌*◌, ◌/◌, ◌%◌, ◌^◌, ◌≤◌, ◌<◌}
+use Prim.Native.Nat.{ℕ, zero, suc, ◌+◌, ◌-◌, ◌*◌, ◌/◌, ◌%◌, ◌^◌, ◌≤◌, ◌<◌}
 use lib.Pow.{pow_mono}
-use native.Mathlib.Nat.{zero-add}
+use Rattle.std.proofs.Math.Nat.{add-zero, zero-add}
+use Rattle.std.proofs.lemmas.List.{append-nil, length-take}
 use native.Mathlib.Omega.{arith}
 use native.Mathlib.Decide.{dec_lt}
 use borrow.Author.Tests.{eq-eqb, ne_eqb}
@@ -22,7 +23,7 @@ use Rattle.lists.specs.declared.Fill.{Fill}
 use Rattle.lists.specs.Lists.{coefficient, mark_of, Marked, Inside, entry, four_from, sets, waiting, known, lip_at, lsp_at, held, Fits, Beside}
 use Rattle.lists.specs.Lists.{LipPushed, LspPushed, PushedBy, raised, LinedUp}
 use Rattle.lists.specs.Lists.{NextSet, SetAdded, SetKept, SetMoved, waiting_add, waiting_length}
-use Rattle.lists.specs.Besides.{held_same, beside_then, marked_same, marked_none, marks_kept}
+use Rattle.lists.specs.Besides.{held_same, beside_none, beside_then, marked_same, marked_none, marks_kept}
 
 -- entry
 pub entry_even : (m : ℕ) → m % 2 ≡ 0 → entry m ≡ typeA (m / 2)
@@ -56,19 +57,12 @@ unfolding sets
 sets_cons b c m s e q j h l = ap (map entry) (seg-cons b m s h l) ∙ rw (q, j)
 
 -- a mark, and an entry with it or without
-planes_few : (m : ℕ) → m < 2 ^ 31 → planes_of m < 32
+pub planes_few : (m : ℕ) → m < 2 ^ 31 → planes_of m < 32
 planes_few m h = by (dec_lt (planes_of m) 32)
   where
     by : Dec (planes_of m < 32) → planes_of m < 32
     by (yes l) = l
     by (no l) = absurd (omega (arith, (planes_of_counts m (omega arith)).least, pow_mono {i = 32} {j = planes_of m} (omega arith)))
-
-pub mark_planes : {p : ℕ} (w : ℕ) → w < 2 ^ 32 → p ≡ planes_of (w / 2) → p < 32
-mark_planes w h e = omega (arith, planes_few (w / 2) (omega arith))
-
-pub mark_made : {p : ℕ} (w : ℕ) → w < 2 ^ 32 → p ≡ planes_of (w / 2) → (2 * p + w % 2 ≡ mark_of w) × (2 * p + w % 2 < 64)
-unfolding mark_of
-mark_made w h e = (rw e, omega (arith, mark_planes w h e))
 
 module _ (t : Stretch) (s : List ℕ) (x : ℕ) (small : x < 2 ^ 26) where
   pub unmarked_made : t.role ≡ Reads → (coefficient (64 * x) ≡ x) × (64 * x < 2 ^ 32) × Marked t s (64 * x)
@@ -345,19 +339,19 @@ module _ (t : Stretch) (s : List ℕ) (f : Fill) (h : Fits t s f) where
         }
 
 -- Several coefficients were put at the end of LIP, one after another.
-record Lengthened (xs : List ℕ) (t : Stretch) (s : List ℕ) (f : Fill) (s' : List ℕ) (r : Fill) : Type 0 where
-  fill : r ≡ raised f (length xs)
-  holds : held t s' r ≡ record {
+pub record Lengthened (xs : List ℕ) (t : Stretch) (s : List ℕ) (f : Fill) (s' : List ℕ) (r : Fill) : Type 0 where
+  pub fill : r ≡ raised f (length xs)
+  pub holds : held t s' r ≡ record {
     lip = (held t s f).lip ++ xs;
     lsp = (held t s f).lsp;
     kept = (held t s f).kept;
     todo = (held t s f).todo;
     moved = (held t s f).moved;
   }
-  fits : Fits t s' r
-  beside : Beside t r.moved s s'
-  ahead : (i : ℕ) → f.lip + length xs ≤ i → i < t.n → lip_at t.n i s' ≡ lip_at t.n i s
-  known : (m : ℕ) → m ≤ f.lsp → known t.n m s' ≡ known t.n m s
+  pub fits : Fits t s' r
+  pub beside : Beside t r.moved s s'
+  pub ahead : (i : ℕ) → f.lip + length xs ≤ i → i < t.n → lip_at t.n i s' ≡ lip_at t.n i s
+  pub known : (m : ℕ) → m ≤ f.lsp → known t.n m s' ≡ known t.n m s
 
 longer_one : {t : Stretch} {s s' : List ℕ} {f r : Fill} {x : ℕ} → LipPushed t s f x s' r → Lengthened (x ∷ []) t s f s' r
 longer_one a =
@@ -419,24 +413,36 @@ lined {xs} {t} {s} {s'} {f} {r} h l a =
       known = a.known;
     }
 
-pub lined_up : {x : ℕ} {t : Stretch} {s s₁ s₂ s₃ s₄ : List ℕ} {f f₁ f₂ f₃ f₄ : Fill} → Fits t s f → f.lip + 4 ≤ t.n → LipPushed t s f x s₁ f₁
-    → LipPushed t s₁ f₁ (x + 1) s₂ f₂ → LipPushed t s₂ f₂ (x + 2) s₃ f₃ → LipPushed t s₃ f₃ (x + 3) s₄ f₄ → LinedUp (four_from x) t s f s₄
-lined_up h l a b c d = lined h l (longer_on (longer_one a) (longer_on (longer_one b) (longer_on (longer_one c) (longer_one d))))
+-- Of four numbers in a row so many are lined up.
+four_next : (x i : ℕ) → i < 4 → take (i + 1) (four_from x) ≡ take i (four_from x) ++ ((x + i) ∷ [])
+four_next x zero h = rw (add-zero x)
+four_next x (suc zero) h = refl
+four_next x (suc (suc zero)) h = refl
+four_next x (suc (suc (suc zero))) h = refl
+four_next x (suc (suc (suc (suc i)))) h = absurd (omega arith)
 
--- where there was room for four, there is for the next
-one_longer : {t : Stretch} {s s' : List ℕ} {f r : Fill} {x : ℕ} → LipPushed t s f x s' r → r.lip ≡ f.lip + 1
-one_longer a = ap (λ g. g.lip) a.fill
+abbrev pub LinedBy : ℕ → ℕ → Stretch → List ℕ → Fill → List ℕ → Fill → Type 0
+LinedBy i x t s f s' r = Lengthened (take i (four_from x)) t s f s' r
 
-pub room_second : {t : Stretch} {s s₁ : List ℕ} {f f₁ : Fill} {x : ℕ} → LipPushed t s f x s₁ f₁ → f.lip + 4 ≤ t.n → f₁.lip < t.n
-room_second a h = omega (arith, one_longer a)
+pub by_none : (x : ℕ) {t : Stretch} {s : List ℕ} {f : Fill} → Fits t s f → LinedBy 0 x t s f s f
+by_none x {t} {s} {f} h =
+    record {
+      fill = rw (add-zero f.lip);
+      holds = rw (append-nil (held t s f).lip);
+      fits = h;
+      beside = beside_none t f.moved s;
+      ahead = λ i a b. refl;
+      known = λ m a. refl;
+    }
 
-module _ {t : Stretch} {s s₁ s₂ : List ℕ} {f f₁ f₂ : Fill} {x y : ℕ} (b : LipPushed t s₁ f₁ y s₂ f₂) (a : LipPushed t s f x s₁ f₁)
-    (h : f.lip + 4 ≤ t.n) where
-  pub two_left : f₂.lip + 2 ≤ t.n
-  two_left = omega (arith, one_longer a, one_longer b)
+pub by_next : (i x : ℕ) {t : Stretch} {s s₁ s' : List ℕ} {f r₁ r : Fill} → LinedBy i x t s f s₁ r₁ → LipPushed t s₁ r₁ (x + i) s' r → i < 4
+    → LinedBy (i + 1) x t s f s' r
+by_next i x {t} {s} {s' = s'} {f} {r = r} a b h =
+    subst (λ xs. Lengthened xs t s f s' r) (sym (four_next x i h)) (longer_on a (longer_one b))
 
-  pub room_third : f₂.lip < t.n
-  room_third = omega (arith, two_left)
+pub by_room : (i x : ℕ) {t : Stretch} {s s' : List ℕ} {f r : Fill} → LinedBy i x t s f s' r → i < 4 → f.lip + 4 ≤ t.n → r.lip < t.n
+by_room i x a h l = omega (arith, ap (λ g. g.lip) a.fill, length-take i (four_from x))
 
-pub room_fourth : {t : Stretch} {s s₁ : List ℕ} {f f₁ : Fill} {x : ℕ} → LipPushed t s f x s₁ f₁ → f.lip + 2 ≤ t.n → f₁.lip < t.n
-room_fourth a h = omega (arith, one_longer a)
+pub lined_up : (i x : ℕ) {t : Stretch} {s s' : List ℕ} {f r : Fill} → Fits t s f → f.lip + 4 ≤ t.n → LinedBy i x t s f s' r → i ≡ 4
+    → LinedUp (four_from x) t s f s'
+lined_up i x {t} {s} {s'} {f} {r} h l a e = lined h l (let at : LinedBy 4 x t s f s' r = rw e at a in at)

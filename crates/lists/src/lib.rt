@@ -1,12 +1,14 @@
 // The lists of a level, in its stretch of the workspace: LIP, LSP and LIS; and behind the stretch, at the end of the next level's LIS, the sets
 // that move out of the level. In LIP and LSP the coder has beside each tree number what a test asks for: past the caches a word that is looked up at
 // its place costs more than the test.
-#![tactic(auto)]
+#![tactic(auto, unfolding(stretches::specs::Cut::lip_from, stretches::specs::Cut::lsp_from, stretches::specs::Cut::lis_from, stretches::specs::Cut::set_room))]
 
 ghost use Rattle.std.specs.Prelude.{◌≡◌, ◌+◌, ◌*◌, ◌^◌, ◌≤◌, ◌<◌, length};
 ghost use Rattle.stretches.specs.Cut.{set_room, lip_from, lsp_from, lis_from};
 ghost use Rattle.lists.specs.Lists.{Inside, mark_of, Marked, coefficient, entry, entry_of, index_of, four_from, lip_at, lsp_at, past, emptied};
 ghost use Rattle.lists.specs.Lists.{Fits, LipPushed, LinedUp, PushedBy, NextSet, SetAdded, SetKept, SetMoved};
+
+use std::hint;
 
 // Which side of the conversation a pass is run for: the coder answers from the stretch and writes bits, the decoder reads them and draws coefficients.
 #[derive(Clone, Copy)]
@@ -44,6 +46,7 @@ pub enum Set {
 }
 
 // Where the lists begin, in a stretch for n coefficients.
+// Three functions, as lip_at and lsp_at are two: one would take a number or an enum for the list, where the name now says it.
 fn lip_from(n: usize) -> usize
     ensures { result ≡ lip_from n }
 {
@@ -65,6 +68,7 @@ fn lis_from(n: usize) -> usize
 }
 
 // A set is kept as index x 2, and 1 more for type B.
+// No From: that may ask nothing, and this asks for an index under 2^31.
 fn number_of(e: Set) -> u32
     requires { index_of e < 2 ^ 31 }
     ensures { entry result ≡ entry_of e }
@@ -75,17 +79,21 @@ fn number_of(e: Set) -> u32
     }
 }
 
-fn set_of(m: u32) -> Set
-    ensures { (entry_of result ≡ entry m) × (index_of result < 2 ^ 31) }
-{
-    let p = (m / 2) as usize;
-    if m % 2 == 0 {
-        return Set::TypeA(p);
+impl From<u32> for Set {
+    ghost from_gives = { λ m e. (entry_of e ≡ entry m) × (index_of e < 2 ^ 31) };
+
+    fn from(m: u32) -> Set {
+        let p = (m / 2) as usize;
+        if m % 2 == 0 {
+            Set::TypeA(p)
+        } else {
+            Set::TypeB(p)
+        }
     }
-    Set::TypeB(p)
 }
 
 // Of a coefficient: how many planes it has, twice, and 1 more where it is negative.
+#[tactic(auto, using(crate::proofs::Laws::planes_few), unfolding(crate::specs::Lists::mark_of))]
 fn mark_of(word: u32) -> usize
     ensures { (result ≡ mark_of word) × (result < 64) }
 {
@@ -93,12 +101,12 @@ fn mark_of(word: u32) -> usize
 }
 
 // An entry of LIP: 64 x tree number, and by the coder the mark of its word.
+// A match, no closure or type parameter: Marked, and so Fits in the contracts below, asks the stretch for its role.
 fn marked(s: &[u32], stretch: Stretch, x: usize) -> usize
     requires { (4 * stretch.n ≤ length s.now) × Inside stretch x × (x < 2 ^ 26) }
     ensures { (coefficient result ≡ x) × (result < 2 ^ 32) × Marked stretch s.now result }
 {
-    let role = stretch.role;
-    match role {
+    match stretch.role {
         Role::Reads => 64 * x,
         Role::Codes => 64 * x + mark_of(stretches::value_at(s, stretch.n, x - stretch.first)),
     }
@@ -109,11 +117,11 @@ pub fn lip_at(s: &[u32], n: usize, i: usize) -> usize
     requires { (4 * n ≤ length s.now) × (i < n) }
     ensures { (result ≡ lip_at n i s.now) × (result < 2 ^ 32) }
 {
-    let at = lip_from(n) + i;
-    s[at] as usize
+    s[lip_from(n) + i] as usize
 }
 
 // The coefficient of an entry.
+#[tactic(auto, unfolding(crate::specs::Lists::coefficient))]
 pub fn coefficient_of(e: usize) -> usize
     ensures { result ≡ coefficient e }
 {
@@ -125,30 +133,27 @@ pub fn lsp_at(s: &[u32], n: usize, i: usize) -> usize
     requires { (4 * n ≤ length s.now) × (n < 2 ^ 32) × (i < n) }
     ensures { result ≡ coefficient (lsp_at n i s.now) }
 {
-    let at = lsp_from(n) + i;
-    coefficient_of(s[at] as usize)
+    coefficient_of(s[lsp_from(n) + i] as usize)
 }
 
 // LIP counts as empty: its entries are read from its front while those that stay are put back there.
 pub fn empty_lip(f: Fill) -> Fill
     ensures { result ≡ emptied f }
 {
-    let mut r = f;
-    r.lip = 0;
-    r
+    Fill { lip: 0, ..f }
 }
 
 // A coefficient to the end of LIP.
+// Slice, stretch and counts are no struct, here and below: between two calls testing and passes write to the slice and keep the counts in their own.
 pub fn push_lip(s: &mut [u32], stretch: Stretch, f: Fill, x: usize) -> Fill
     requires { Fits stretch s.old f × (stretch.n < 2 ^ 32) × (f.lip < stretch.n) × Inside stretch x × (x < 2 ^ 26) }
     ensures { LipPushed stretch s.old f x s.new result }
 {
-    let e = marked(s, stretch, x);
-    let at = lip_from(stretch.n) + f.lip;
-    s[at] = e as u32;
-    let mut r = f;
-    r.lip = f.lip + 1;
-    r
+    s[lip_end(stretch, f)] = marked(s, stretch, x) as u32;
+    Fill {
+        lip: f.lip + 1,
+        ..f
+    }
 }
 
 // Four tree numbers behind LIP, where they wait to be tested; LIP itself is as it was.
@@ -157,10 +162,10 @@ pub fn line_up(s: &mut [u32], stretch: Stretch, f: Fill, first: usize)
         × (first + 4 ≤ stretch.first + stretch.n) × (first + 4 < 2 ^ 26) }
     ensures { LinedUp (four_from first) stretch s.old f s.new }
 {
-    let a = push_lip(s, stretch, f, first);
-    let b = push_lip(s, stretch, a, first + 1);
-    let c = push_lip(s, stretch, b, first + 2);
-    push_lip(s, stretch, c, first + 3);
+    let mut r = f;
+    for i in 0..4 {
+        r = push_lip(s, stretch, r, first + i);
+    }
 }
 
 // The place behind LIP.
@@ -178,13 +183,13 @@ pub fn push_tested(s: &mut [u32], stretch: Stretch, f: Fill, e: usize, found: bo
     ensures { PushedBy found stretch s.old f (coefficient e) s.new result }
 {
     let lsp_end = lsp_from(stretch.n) + f.lsp;
-    let at = stretches::either(found, lsp_end, lip_end(stretch, f));
-    s[at] = e as u32;
+    s[hint::select_unpredictable(found, lsp_end, lip_end(stretch, f))] = e as u32;
     let bit = found as usize;
-    let mut r = f;
-    r.lip = f.lip + 1 - bit;
-    r.lsp = f.lsp + bit;
-    r
+    Fill {
+        lip: f.lip + 1 - bit,
+        lsp: f.lsp + bit,
+        ..f
+    }
 }
 
 // The next set of LIS to visit.
@@ -192,8 +197,7 @@ pub fn next_set(s: &[u32], stretch: Stretch, f: Fill) -> Set
     requires { Fits stretch s.now f × (stretch.n < 2 ^ 32) × (0 < f.left) }
     ensures { NextSet stretch s.now f (entry_of result) × (index_of result < 2 ^ 31) }
 {
-    let at = lis_from(stretch.n) + f.visited;
-    set_of(s[at])
+    Set::from(s[lis_from(stretch.n) + f.visited])
 }
 
 // The next set counts as visited.
@@ -201,22 +205,24 @@ pub fn past_set(f: Fill) -> Fill
     requires { (0 < f.left) × (f.visited < 2 ^ 32) }
     ensures { result ≡ past f }
 {
-    let mut r = f;
-    r.visited = f.visited + 1;
-    r.left = f.left - 1;
-    r
+    Fill {
+        visited: f.visited + 1,
+        left: f.left - 1,
+        ..f
+    }
 }
 
 // A set to the end of LIS: it is visited in the same pass.
+// This, keep_set and move_set are three: a store and a count each, of which one function would be told both.
 pub fn add_set(s: &mut [u32], stretch: Stretch, f: Fill, e: Set) -> Fill
     requires { Fits stretch s.old f × (stretch.n < 2 ^ 32) × (f.visited + f.left < set_room stretch.n) × (index_of e < 2 ^ 31) }
     ensures { SetAdded stretch s.old f (entry_of e) s.new result }
 {
-    let at = lis_from(stretch.n) + f.visited + f.left;
-    s[at] = number_of(e);
-    let mut r = f;
-    r.left = f.left + 1;
-    r
+    s[lis_from(stretch.n) + f.visited + f.left] = number_of(e);
+    Fill {
+        left: f.left + 1,
+        ..f
+    }
 }
 
 // A visited set keeps its place: behind those kept before it.
@@ -224,11 +230,11 @@ pub fn keep_set(s: &mut [u32], stretch: Stretch, f: Fill, e: Set) -> Fill
     requires { Fits stretch s.old f × (stretch.n < 2 ^ 32) × (f.kept < f.visited) × (index_of e < 2 ^ 31) }
     ensures { SetKept stretch s.old f (entry_of e) s.new result }
 {
-    let at = lis_from(stretch.n) + f.kept;
-    s[at] = number_of(e);
-    let mut r = f;
-    r.kept = f.kept + 1;
-    r
+    s[lis_from(stretch.n) + f.kept] = number_of(e);
+    Fill {
+        kept: f.kept + 1,
+        ..f
+    }
 }
 
 // A visited set moves out of the level.
@@ -236,11 +242,11 @@ pub fn move_set(s: &mut [u32], stretch: Stretch, f: Fill, e: Set) -> Fill
     requires { Fits stretch s.old f × (stretch.away + f.moved < length s.old) × (index_of e < 2 ^ 31) }
     ensures { SetMoved stretch s.old f (entry_of e) s.new result }
 {
-    let at = stretch.away + f.moved;
-    s[at] = number_of(e);
-    let mut r = f;
-    r.moved = f.moved + 1;
-    r
+    s[stretch.away + f.moved] = number_of(e);
+    Fill {
+        moved: f.moved + 1,
+        ..f
+    }
 }
 
 // Where the sets go that come to the end of the LIS of a level whose stretch begins at a place, with so many sets there.

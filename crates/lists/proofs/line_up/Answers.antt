@@ -1,20 +1,16 @@
 use native.Mathlib.Omega.{arith}
-use Rattle.lists.proofs.Laws.{room_second, room_third, two_left, room_fourth, lined_up}
+use Rattle.lists.proofs.Laws.{by_none, by_next, by_room, lined_up}
 use borrow.Author.Rules.{rules}
 use Rattle.lists.proofs.line_up.Goals as goal
 
-pub push_lip-b-requires : goal.push_lip-b-requires
-push_lip-b-requires c = (search rules, omega arith, search (rules, room_second), (omega arith, omega arith), omega arith)
+pub loop-i-init : goal.loop-i-init
+loop-i-init c = by_none c.args.first c.requires.0
 
-pub push_lip-c-requires : goal.push_lip-c-requires
-push_lip-c-requires c = (search rules, omega arith, search (rules, room_third), (omega arith, omega arith), omega arith)
+pub push_lip-r-requires : goal.push_lip-r-requires
+push_lip-r-requires c = (c.loop-i.invariant.fits, c.requires.1, search (rules, by_room), (omega arith, omega arith), omega arith)
 
-pub push_lip-requires : goal.push_lip-requires
-push_lip-requires c =
-    let room = room_fourth c.push_lip-c.ensures (search (rules, two_left)) in
-    (search rules, omega arith, room, (omega arith, omega arith), omega arith)
+pub loop-i-preserved : goal.loop-i-preserved
+loop-i-preserved c = search (rules, by_next)
 
 pub returns : goal.returns
-returns c =
-    let start = c.requires in
-    lined_up start.0 start.2 c.push_lip-a.ensures c.push_lip-b.ensures c.push_lip-c.ensures c.push_lip.ensures
+returns c = lined_up c.loop-i.i _ c.requires.0 c.requires.2 c.loop-i.invariant (omega arith)
