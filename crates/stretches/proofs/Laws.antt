@@ -1,6 +1,6 @@
 -- What a store makes of the values and the maxima; where a stretch ends.
 use mathlib.Core.Path.{◌≡◌, refl, sym, ap, ◌∙◌, subst}
-use mathlib.Core.Bool.{Bool, true, false, cond}
+use mathlib.Core.Bool.{Bool, true, cond}
 use mathlib.Core.List.{List}
 use Prim.Native.Nat.{ℕ, ◌+◌, ◌*◌, ◌/◌, ◌^◌, ◌≤◌, ◌<◌}
 use native.Mathlib.Nat.{zero-add}
@@ -45,10 +45,6 @@ either_stored b n s i v p at e h =
           };
     }
 
-pub either_inside : (b : Bool) (i p at m : ℕ) → at ≡ cond b i p → i < m → p < m → at < m
-either_inside true i p at m e h k = omega arith
-either_inside false i p at m e h k = omega arith
-
 pub maximum_stored : (n : ℕ) (s : List ℕ) (i v from : ℕ) → from ≡ maxima_from n → i < n / 4 → MaximumSet n s i v (set s (from + i) v)
 unfolding maxima_in maxima_from
 maximum_stored n s i v from e h =
@@ -69,12 +65,7 @@ maximum_kept n s i v h l =
     }
 
 -- no level ends behind the pyramid
-module _ (z : Size) (k : ℕ) (e : legal_size z ≡ true) (h : 1 ≤ k) (l : k ≤ levels z) where
-  pub stretch_ends : level_start z k + level_size z k ≡ level_end z k
-  stretch_ends = level_size_end z (legal z e) k h l
-
-  pub stretch_inside : 4 * level_end z k ≤ work_for z
-  stretch_inside = omega (arith, level_ends z (legal z e) k h l)
-
-  pub stretch_small : 4 * level_end z k < 2 ^ 32
-  stretch_small = omega (arith, level_ends z (legal z e) k h l, area_bound z e)
+pub stretch_placed : (z : Size) (k : ℕ) → (legal_size z ≡ true) × (1 ≤ k) × (k ≤ levels z)
+    → (level_start z k + level_size z k ≡ level_end z k) × (4 * level_end z k ≤ work_for z) × (4 * level_end z k < 2 ^ 32)
+stretch_placed z k (e, h, l) =
+    let ends = level_ends z (legal z e) k h l in (level_size_end z (legal z e) k h l, omega arith, omega (arith, area_bound z e))
