@@ -44,13 +44,12 @@ unfolding far
 far_same n s₀ s b a = ap largest_l (a.behind (19 * n + 4 * b) (omega arith))
 
 pub next_d : {n : ℕ} {s₀ : List ℕ} {b : ℕ} {s s' : List ℕ} {v w u : ℕ} → SomeD n s₀ b s → v ≡ near s b → w ≡ far n s b
-    → u ≡ max v w → MaximumSet n s b u s' → 4 * n ≤ length s₀ → b < n / 4 → SomeD n s₀ (b + 1) s'
+    → u ≡ max w v → MaximumSet n s b u s' → 4 * n ≤ length s₀ → b < n / 4 → SomeD n s₀ (b + 1) s'
 next_d {n} {s₀} {b} {s} {s'} d p q e m l h = record { apart = apart_next d.apart m; made = λ j k. by j k (ℕ_discrete b j) }
   where
     by : (j : ℕ) → j < b + 1 → Dec (b ≡ j) → get_or (maxima_in n s') j 0 ≡ max (near s₀ j) (far n s₀ j)
     by j k (yes i) =
-        rw (← i) (set_there m (omega (arith, d.apart.long)) h ∙ e
-        ∙ ap₂ max (p ∙ near_same n s₀ s b d.apart h) (q ∙ far_same n s₀ s b d.apart))
+        rw (← i) (set_there m (omega (arith, d.apart.long)) h ∙ omega (arith, near_same n s₀ s b d.apart h, far_same n s₀ s b d.apart))
     by j k (no i) = set_elsewhere m j i ∙ d.made j (omega arith)
 
 pub all_d : {n : ℕ} {s : List ℕ} {b count : ℕ} {s' : List ℕ} → SomeD n s b s' → b ≤ count → count ≤ b → SomeD n s count s'

@@ -38,3 +38,6 @@ pub measure_largest : (a b c d : ℕ) → a < 2 ^ 32 → b < 2 ^ 32 → c < 2 ^ 
     → word_measure (max (max a b) (max c d)) ≡ max (max (word_measure a) (word_measure b)) (max (word_measure c) (word_measure d))
 measure_largest a b c d ha hb hc hd =
     measure_larger (max a b) (max c d) (omega arith) (omega arith) ∙ ap₂ max (measure_larger a b ha hb) (measure_larger c d hc hd)
+
+pub word_planes : (w : ℕ) → w < 2 ^ 32 → planes_of (w / 2) ≤ 31
+word_planes w h = planes_under 31 (w / 2) (omega arith) (omega arith)

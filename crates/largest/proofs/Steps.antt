@@ -236,6 +236,5 @@ module _ {z : Size} {k : ℕ} {work₀ work work' : List ℕ} (F : Fillable z wo
       let i : k - 1 ≡ k - 2 + 1 = omega arith in
       rw i (filled_l z work₀ F (k - 2) (omega arith) (omega arith) work work' (rw (e, i) at P) L)
 
-pub first_d : {z : Size} {k : ℕ} {work work' : List ℕ} → Fillable z work → k ≤ levels z → 2 ≤ k → k < 3 → LevelD z (k - 1) work work'
-    → FilledTo z k (k - 1) work work'
-first_d {z} {k} {work} F most h l D = let e : k - 1 ≡ 1 = omega arith in next_d F most h (rw e (filled_none z work)) D
+pub none_d : {z : Size} {k : ℕ} {work : List ℕ} → 2 ≤ k → k ≤ 2 → FilledTo z (k - 1) (k - 1) work work
+none_d {z} {k} {work} h l = let e : k - 1 ≡ 1 = omega arith in rw e (filled_none z work)

@@ -11,6 +11,7 @@ ghost use Rattle.largest.specs.Steps.{Placed, LevelD, LevelL, FilledTo};
 
 use rules::{Level, Size};
 
+#[tactic(auto, using(crate::proofs::Measures::word_planes), unfolding(coefficients::specs::Words::magnitude_word))]
 fn measure_of(w: u32) -> u32
     ensures { (result ≡ word_measure w) × (result ≤ 32) }
 {
@@ -20,7 +21,7 @@ fn measure_of(w: u32) -> u32
 fn largest_of(a: u32, b: u32, c: u32, d: u32) -> u32
     ensures { result ≡ max (max a b) (max c d) }
 {
-    coefficients::larger(coefficients::larger(a, b), coefficients::larger(c, d))
+    a.max(b).max(c.max(d))
 }
 
 // The measure of the largest word is the largest measure.
@@ -33,12 +34,13 @@ fn near_at(s: &[u32], b: usize) -> u32
 }
 
 // Where the next finer level's stretch lies behind, its maxima begin at 4 n + 15 n.
+#[tactic(auto, unfolding(crate::specs::Blocks::far, stretches::specs::Cut::largest_l))]
 fn far_at(s: &[u32], n: usize, b: usize) -> u32
     requires { (n < 2 ^ 32) × (b < 2 ^ 32) }
     ensures { result ≡ far n s.now b }
 {
     let i = 19 * n + 4 * b;
-    if i < s.len() { s[i] / 32 } else { 0 }
+    s.get(i).map_or(0, |m| *m / 32)
 }
 
 // D of all blocks of a stretch for n coefficients, from their values and from L in the stretch behind.
@@ -46,12 +48,11 @@ fn fill_blocks_d(s: &mut [u32], n: usize)
     requires { (4 * n ≤ length s.old) × (n < 2 ^ 32) }
     ensures { SomeD n s.old (n / 4) s.new }
 {
-    let count = n / 4;
-    let mut b = 0;
-    while b < count {
-        let d = coefficients::larger(near_at(s, b), far_at(s, n, b));
-        stretches::set_maximum(s, n, b, d);
-        b += 1;
+    for b in 0..n / 4 {
+        let near = near_at(s, b);
+        let far = far_at(s, n, b);
+        // Not near.max(far): where the two are the same the branch then goes the rarer way, measured as half as many again that were foreseen wrongly.
+        stretches::set_maximum(s, n, b, far.max(near));
     }
 }
 
@@ -69,17 +70,15 @@ fn four_at(s: &[u32], n: usize, c: usize) -> u32
 }
 
 // L of all fours of blocks of a stretch for n coefficients, from the D of each.
+// It shares with fill_blocks_d the for alone: L is of each fourth block and is added to the D that stands there.
 fn fill_blocks_l(s: &mut [u32], n: usize)
     requires { (4 * n ≤ length s.old) × (n < 2 ^ 32) }
     ensures { SomeL n s.old (n / 16) s.new }
 {
-    let count = n / 16;
-    let mut c = 0;
-    while c < count {
+    for c in 0..n / 16 {
         let l = four_at(s, n, c);
         let d = stretches::maximum_at(s, n, 4 * c) % 32;
         stretches::set_maximum(s, n, 4 * c, d + 32 * l);
-        c += 1;
     }
 }
 
@@ -89,9 +88,10 @@ fn pair_to(z: Size, k: Level) -> usize
     ensures { (result ≡ 4 * level_start z k.0 + 4 * level_size z k.0 + 4 * level_size z (k.0 - 1)) × (result ≤ work_for z) × (result < 2 ^ 32) }
 {
     if k.0 < 2 {
-        return stretches::stretch_to(z, k);
+        stretches::stretch_to(z, k)
+    } else {
+        stretches::stretch_to(z, Level(k.0 - 1))
     }
-    stretches::stretch_to(z, Level(k.0 - 1))
 }
 
 fn fill_level_d(z: Size, k: Level, work: &mut [u32])
@@ -99,34 +99,32 @@ fn fill_level_d(z: Size, k: Level, work: &mut [u32])
     ensures { LevelD z k.0 work.old work.new }
 {
     let n = shape::level_size(z, k);
-    let from = stretches::stretch_from(z, k);
-    let to = pair_to(z, k);
-    fill_blocks_d(&mut work[from..to], n);
+    fill_blocks_d(&mut work[stretches::stretch_from(z, k)..pair_to(z, k)], n);
 }
 
+// What is asked, lent and filled differs from fill_level_d: one function for both would be told each of the three.
 fn fill_level_l(z: Size, k: Level, work: &mut [u32])
     requires { Placed z k.0 work.old × (k.0 + 1 ≤ z.n) }
     ensures { LevelL z k.0 work.old work.new }
 {
     let n = shape::level_size(z, k);
-    let from = stretches::stretch_from(z, k);
-    let to = stretches::stretch_to(z, k);
-    fill_blocks_l(&mut work[from..to], n);
+    fill_blocks_l(
+        &mut work[stretches::stretch_from(z, k)..stretches::stretch_to(z, k)],
+        n,
+    );
 }
 
 // D of the nodes of level k and of all levels under it, the same nodes' L first. Below level 3 L is empty.
+// No loop over the levels: document 01 finds D from L and L from D (docs/DECISIONS.md, the forms that it names).
 #[cycle(fill_d_fill_l)]
 fn fill_d(z: Size, k: Level, work: &mut [u32])
     requires { Fillable z work.old × (2 ≤ k.0) × (k.0 ≤ levels z) }
     ensures { FilledTo z k.0 (k.0 - 1) work.old work.new }
 {
-    let down = Level(k.0 - 1);
-    if k.0 < 3 {
-        fill_level_d(z, down, work);
-        return;
+    if k.0 > 2 {
+        fill_l(z, k, work);
     }
-    fill_l(z, k, work);
-    fill_level_d(z, down, work);
+    fill_level_d(z, Level(k.0 - 1), work);
 }
 
 // L of the nodes of level k, from the D of their offspring, of level k - 1.

@@ -1,6 +1,5 @@
 use native.Mathlib.Omega.{arith}
 use Rattle.rules.proofs.Laws.Family.Sizes.{legal}
-use Rattle.largest.proofs.Steps.{filled_all}
 use Rattle.largest.proofs.fill.Goals as goal
 
 pub overflow_add-z : goal.overflow_add-z
@@ -8,6 +7,3 @@ overflow_add-z c = record { fits = omega (arith, (legal c.args.z c.requires.lega
 
 pub fill_d-requires : goal.fill_d-requires
 fill_d-requires c = (c.requires, omega (arith, (legal c.args.z c.requires.legal).some), omega arith)
-
-pub returns : goal.returns
-returns c = filled_all c.fill_d.ensures (omega arith) (omega arith)
