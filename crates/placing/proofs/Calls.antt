@@ -1,5 +1,6 @@
 -- A level handed to the loops over its blocks, and the band to those over its rows: what they ask, and what they leave.
-use mathlib.Core.Path.{◌≡◌, sym, ap, ap₂, subst, ◌∙◌}
+use mathlib.Core.Path.{◌≡◌, refl, sym, ap, ap₂, subst, ◌∙◌}
+use mathlib.Core.Logic.{inl, inr}
 use mathlib.Core.List.{List}
 use Prim.Native.Nat.{ℕ, suc, ◌+◌, ◌*◌, ◌/◌, ◌%◌, ◌^◌, ◌≤◌, ◌<◌}
 use native.Mathlib.Omega.{arith}
@@ -20,16 +21,15 @@ use Rattle.trees.specs.Run.{number_of}
 use Rattle.coefficients.specs.Words.{worded, value_of}
 use Rattle.stretches.specs.Cut.{maxima_from}
 use Rattle.stretches.specs.Levels.{words_from, blocks_from, level_before, level_blocks, stretch_room}
-use Rattle.placing.specs.Stores.{Put, Apart, Under, Small, corner_of, rank_of}
+use Rattle.placing.specs.Stores.{Put, Apart, Under, corner_of, rank_of}
 use Rattle.placing.specs.Placing.{Roomy, Given, BlocksOf, LevelPlaced, LevelCopied, LevelLaid}
 use Rattle.placing.proofs.Stores.{put_none, band_stored}
-use Rattle.placing.proofs.Blocks.{put_count, corner_in}
+use Rattle.placing.proofs.Blocks.{Storing, Laying, Grouping, grouping_none, corner_in}
 use Rattle.placing.proofs.Grid.{raster_root}
 use Rattle.placing.proofs.Levels.{level_placed, blocks_under, blocks_next, words_copied, values_laid, corners_in, places_under, level_apart, band_apart}
 use Rattle.placing.proofs.Levels.{band_laid, band_copied}
 use Rattle.placing.proofs.Band.{across, down, across_half, down_half, raster_row, numbers_apart, row_apart, number_under}
 use Rattle.placing.proofs.Band.{wide, least, all, rows, columns}
-use Rattle.placing.proofs.Loops.{given_small}
 
 -- places under one bound are under a larger
 under_larger : {m n from l : ℕ} {s : List ℕ} → Under m n s from → m ≤ l → Under l n s from
@@ -76,22 +76,30 @@ module _ {z : Size} {k : ℕ} {work : List ℕ} (p : Coarser z k work) {n from t
   blocks : BlocksOf z (suc k) work
   blocks = subst (λ (j : ℕ). BlocksOf z j work) next p.3
 
-  pub level_under_asks : (from + n / 4 ≤ to) × (to + 4 * (n / 4) ≤ length work) × Under (2 ^ 20) (n / 4) work from × (z.w < 2 ^ 20)
-  level_under_asks =
+  pub level_begun : Storing (λ p f. 2 * corner_of z.w p f) from (n / 4) to work 0 work
+  level_begun =
       let q : n / 4 ≡ level_size z (suc k) / 4 = ap (λ (x : ℕ). x / 4) (e ∙ size) in
       let g : from ≡ blocks_from z (suc k) = f.0 ∙ place in
-      let small : area z ≤ 262144 = all z p.0.legal in (
-        omega (
-          arith,
-          blocks_end z Z (suc k) (omega arith) (omega (arith, p.2)),
-          blocks_begin z Z k p.1 (omega (arith, p.2)),
-          level_before z Z (suc k) k p.1 (omega arith) (omega (arith, p.2)),
-        ),
-        omega (arith, blocks_next z Z k p.1 p.2, blocks_room z Z k p.1 (omega (arith, p.2)), p.0.room, t.0),
-        subst (λ (x : ℕ). Under (2 ^ 20) (n / 4) work x) (sym g)
-            (under_larger (places_under z Z (suc k) (omega arith) p.2 blocks q) (omega arith)),
-        omega (arith, wide z p.0.legal),
-      )
+      let small : area z ≤ 262144 = all z p.0.legal in
+      let ends = blocks_end z Z (suc k) (omega arith) (omega (arith, p.2)) in
+      let before : from + n / 4 ≤ to =
+      omega (
+        arith,
+        ends,
+        blocks_begin z Z k p.1 (omega (arith, p.2)),
+        level_before z Z (suc k) k p.1 (omega arith) (omega (arith, p.2)),
+      ) in
+      let room : to + 4 * (n / 4) ≤ length work =
+      omega (arith, blocks_next z Z k p.1 p.2, blocks_room z Z k p.1 (omega (arith, p.2)), p.0.room, t.0) in
+      record {
+        read = omega arith;
+        room = room;
+        beside = inl before;
+        places =
+            subst (λ (x : ℕ). Under (2 ^ 20) (n / 4) work x) (sym g)
+            (under_larger (places_under z Z (suc k) (omega arith) p.2 blocks q) (omega arith));
+        stored = put_none refl;
+      }
 
   pub level_under : {work' : List ℕ}
       → Put 0 (λ u. to + u) (4 * (n / 4)) (λ u. 2 * corner_of z.w (get_or work (from + u / 4) 0) (u % 4)) work work' → LevelPlaced z k work work'
@@ -110,10 +118,10 @@ module _ {z : Size} {work : List ℕ} (p : Roomy z work) {to : ℕ} (t : (to ≡
       omega (arith, level_size_fine z L z.n L.some (omega arith), span_quarter z L z.n (omega arith)) in
       omega (arith, ap₂ (λ (x y : ℕ). x * y) (down_half z) (across_half z))
 
-  pub roots_asks : (to + 3 * (down z * across z) ≤ length work) × (down z ≤ 512) × (across z ≤ 512) × (z.w ≤ 512)
-  roots_asks =
+  pub roots_begun : Grouping to (down z) (across z) z.w work 0 work
+  roots_begun =
       let L : Legal z = legal z p.legal in
-      (omega (arith, roots, blocks_room z L z.n L.some (omega arith), p.room, t.0), rows z p.legal, columns z p.legal, wide z p.legal)
+      grouping_none (omega (arith, roots, blocks_room z L z.n L.some (omega arith), p.room, t.0)) (rows z p.legal) (columns z p.legal) (wide z p.legal)
 
   pub roots_placed : {work' : List ℕ}
       → Put 0 (λ u. to + u) (3 * (down z * across z))
@@ -135,18 +143,22 @@ Copying v z k work = Given v z work × (1 ≤ k) × (k ≤ z.n) × BlocksOf z k 
 
 module _ {v : List ℤ} {z : Size} {k : ℕ} {work : List ℕ} (p : Copying v z k work) {n from to : ℕ} (e : n ≡ level_size z k) (f : from ≡ blocks_from z k)
     (t : to ≡ words_from z k) where
-  pub copy_asks : Small v × (z.w < 2 ^ 20) × (to + 4 * (n / 4) ≤ from) × (from + n / 4 ≤ length work) × Under (2 ^ 20) (n / 4) work from
-  copy_asks =
+  pub copy_begun : Storing (λ q f. worded (get_or v (corner_of z.w q f) (pos 0))) from (n / 4) to work 0 work
+  copy_begun =
       let R = p.0.roomy in
       let L : Legal z = legal z R.legal in
-      let q : n / 4 ≡ level_size z k / 4 = ap (λ (x : ℕ). x / 4) e in (
-        given_small p.0,
-        omega (arith, wide z R.legal),
-        omega (arith, words_room z L k p.1 (omega (arith, p.2))),
-        omega (arith, blocks_room z L k p.1 (omega (arith, p.2)), R.room),
-        subst (λ (x : ℕ). Under (2 ^ 20) (n / 4) work x) (sym f)
-            (under_larger (places_under z L k p.1 p.2 p.3 q) (omega (arith, all z R.legal))),
-      )
+      let q : n / 4 ≡ level_size z k / 4 = ap (λ (x : ℕ). x / 4) e in
+      let behind : to + 4 * (n / 4) ≤ from = omega (arith, words_room z L k p.1 (omega (arith, p.2))) in
+      let read : from + n / 4 ≤ length work = omega (arith, blocks_room z L k p.1 (omega (arith, p.2)), R.room) in
+      record {
+        read = read;
+        room = omega arith;
+        beside = inr behind;
+        places =
+            subst (λ (x : ℕ). Under (2 ^ 20) (n / 4) work x) (sym f)
+            (under_larger (places_under z L k p.1 p.2 p.3 q) (omega (arith, all z R.legal)));
+        stored = put_none refl;
+      }
 
   pub level_words : {work' : List ℕ}
       → Put 0 (λ u. to + u) (4 * (n / 4)) (λ u. worded (get_or v (corner_of z.w (get_or work (from + u / 4) 0) (u % 4)) (pos 0))) work work'
@@ -162,17 +174,20 @@ LayingLevel z k work out = Roomy z work × (length out ≡ area z) × (1 ≤ k) 
 
 module _ {z : Size} {k : ℕ} {work : List ℕ} (out : List ℤ) (p : LayingLevel z k work out) {n from words : ℕ} (e : n ≡ level_size z k)
     (f : from ≡ blocks_from z k) (t : words ≡ words_from z k) where
-  pub lay_asks : (from + n / 4 ≤ length work) × (words + 4 * (n / 4) ≤ from) × (2 ≤ z.w) × Apart (corner_in z.w work from) (4 * (n / 4)) (length out)
-  lay_asks =
+  pub lay_begun : Laying z.w work from (n / 4) words out 0 out
+  lay_begun =
       let R = p.0 in
       let L : Legal z = legal z R.legal in
-      let q : n / 4 ≡ level_size z k / 4 = ap (λ (x : ℕ). x / 4) e in (
-        omega (arith, blocks_room z L k p.2 (omega (arith, p.3)), R.room),
-        omega (arith, words_room z L k p.2 (omega (arith, p.3))),
-        omega (arith, least z R.legal),
-        subst (λ (x : ℕ). Apart (corner_in z.w work x) (4 * (n / 4)) (length out)) (sym f)
-            (subst (λ (m : ℕ). Apart (corner_in z.w work (blocks_from z k)) (4 * (n / 4)) m) (sym p.1) (corners_in z L k p.2 p.3 p.4 q)),
-      )
+      let q : n / 4 ≡ level_size z k / 4 = ap (λ (x : ℕ). x / 4) e in
+      record {
+        read = omega (arith, blocks_room z L k p.2 (omega (arith, p.3)), R.room);
+        before = omega (arith, words_room z L k p.2 (omega (arith, p.3)));
+        wide = omega (arith, least z R.legal);
+        apart =
+            subst (λ (x : ℕ). Apart (corner_in z.w work x) (4 * (n / 4)) (length out)) (sym f)
+            (subst (λ (m : ℕ). Apart (corner_in z.w work (blocks_from z k)) (4 * (n / 4)) m) (sym p.1) (corners_in z L k p.2 p.3 p.4 q));
+        laid = put_none refl;
+      }
 
   pub level_values : {out' : List ℤ}
       → Put (pos 0) (corner_in z.w work from) (4 * (n / 4)) (λ u. value_of (get_or work (words + u) 0)) out out' → LevelLaid z k work out out'
@@ -182,22 +197,6 @@ module _ {z : Size} {k : ℕ} {work : List ℕ} (out : List ℤ) (p : LayingLeve
       (subst (λ (x : ℕ). Put (pos 0) (corner_in z.w work x) (4 * (n / 4)) (λ u. value_of (get_or work (words + u) 0)) out out') f H))
 
 -- The band, row by row.
-pub record Banding {A : Type 0} (d : A) (P : ℕ → ℕ) (rows across : ℕ) (v : ℕ → A) (s : List A) (i : ℕ) (s₁ : List A) : Type 0 where
-  pub most : i ≤ rows
-  pub stored : Put d P (i * across) v s s₁
-
-module _ {A : Type 0} {d : A} {P : ℕ → ℕ} {rows across : ℕ} {v : ℕ → A} {s : List A} where
-  pub banding_none : Banding d P rows across v s 0 s
-  banding_none = record { most = omega arith; stored = put_none (omega arith) }
-
-  module _ {i : ℕ} {s₁ : List A} (R : Banding d P rows across v s i s₁) where
-    pub banding_more : Apart P (rows * across) (length s) → i < rows → {Q : ℕ → ℕ} {w : ℕ → A} {s₂ : List A} → Put d Q across w s₁ s₂
-        → ((j : ℕ) → j < across → Q j ≡ P (i * across + j)) → ((j : ℕ) → j < across → w j ≡ v (i * across + j)) → Banding d P rows across v s (i + 1) s₂
-    banding_more I l K q w = record { most = omega arith; stored = band_stored rows across i I l R.stored K q w }
-
-    pub banding_all : rows ≤ i → Put d P (rows * across) v s s₁
-    banding_all h = put_count R.stored (rows * across) (ap (λ (x : ℕ). x * across) (omega (arith, R.most)))
-
 abbrev pub band_rows : Size → ℕ
 band_rows z = z.h / 2 ^ z.n
 
@@ -224,35 +223,36 @@ row_places {z} {i = i} p = rw p.1 (row_apart z (legal z p.0.legal) i p.2)
 
 abbrev pub CopyingBand : List ℤ → Size → List ℕ → ℕ → List ℕ → Type 0
 CopyingBand v z work i work₁ =
-    Banding 0 (λ t. number_of z (raster_of z (levels z) t)) (band_rows z) (band_width z)
-    (λ t. worded (get_or v (raster_of z (levels z) t) (pos 0))) work i work₁
+    Put 0 (λ t. number_of z (raster_of z (levels z) t)) (i * band_width z) (λ t. worded (get_or v (raster_of z (levels z) t) (pos 0))) work work₁
 
 module _ {v : List ℤ} {z : Size} {work : List ℕ} (G : Given v z work) {i : ℕ} {work₁ : List ℕ} (B : CopyingBand v z work i work₁) where
   pub band_row_copied : i < band_rows z → {work₂ : List ℕ}
       → Put 0 (λ j. number_of z (index z i j)) (band_width z) (λ j. worded (get_or v (index z i j) (pos 0))) work₁ work₂ → CopyingBand v z work (i + 1) work₂
   band_row_copied l K =
       let L : Legal z = legal z G.roomy.legal in
-      banding_more B
+      band_stored (band_rows z) (band_width z) i
       (subst (λ (n : ℕ). Apart (λ t. number_of z (raster_of z (levels z) t)) n (length work)) (sym (band_size z L))
       (band_apart z L (omega (arith, G.roomy.room))))
-      l K (λ j h. ap (number_of z) (raster_row z i j h)) (λ j h. ap (λ (q : ℕ). worded (get_or v q (pos 0))) (raster_row z i j h))
+      l B K (λ j h. ap (number_of z) (raster_row z i j h)) (λ j h. ap (λ (q : ℕ). worded (get_or v q (pos 0))) (raster_row z i j h))
 
-  pub band_rows_copied : band_rows z ≤ i → LevelCopied v z (levels z) work work₁
-  band_rows_copied h = let L : Legal z = legal z G.roomy.legal in band_copied z L (band_size z L) (banding_all B h)
+  pub band_rows_copied : i ≡ band_rows z → LevelCopied v z (levels z) work work₁
+  band_rows_copied h =
+      let L : Legal z = legal z G.roomy.legal in band_copied z L (ap (λ (x : ℕ). x * band_width z) h ∙ band_size z L) B
 
 abbrev pub LayingBand : Size → List ℕ → List ℤ → ℕ → List ℤ → Type 0
 LayingBand z work out i out₁ =
-    Banding (pos 0) (raster_of z (levels z)) (band_rows z) (band_width z) (λ t. value_of (get_or work (number_of z (raster_of z (levels z) t)) 0)) out i out₁
+    Put (pos 0) (raster_of z (levels z)) (i * band_width z) (λ t. value_of (get_or work (number_of z (raster_of z (levels z) t)) 0)) out out₁
 
 module _ {z : Size} {work : List ℕ} {out : List ℤ} (p : Roomy z work × (length out ≡ area z)) {i : ℕ} {out₁ : List ℤ} (B : LayingBand z work out i out₁) where
   pub band_row_laid : i < band_rows z → {out₂ : List ℤ}
       → Put (pos 0) (index z i) (band_width z) (λ j. value_of (get_or work (number_of z (index z i j)) 0)) out₁ out₂ → LayingBand z work out (i + 1) out₂
   band_row_laid l K =
       let L : Legal z = legal z p.0.legal in
-      banding_more B
+      band_stored (band_rows z) (band_width z) i
       (subst (λ (n : ℕ). Apart (raster_of z (levels z)) n (length out)) (sym (band_size z L))
       (subst (λ (m : ℕ). Apart (raster_of z (levels z)) (level_size z (levels z)) m) (sym p.1) (level_apart z L (levels z) (omega arith) (omega arith))))
-      l K (λ j h. raster_row z i j h) (λ j h. ap (λ (q : ℕ). value_of (get_or work (number_of z q) 0)) (raster_row z i j h))
+      l B K (λ j h. raster_row z i j h) (λ j h. ap (λ (q : ℕ). value_of (get_or work (number_of z q) 0)) (raster_row z i j h))
 
-  pub band_rows_laid : band_rows z ≤ i → LevelLaid z (levels z) work out out₁
-  band_rows_laid h = let L : Legal z = legal z p.0.legal in band_laid z L (band_size z L) (banding_all B h)
+  pub band_rows_laid : i ≡ band_rows z → LevelLaid z (levels z) work out out₁
+  band_rows_laid h =
+      let L : Legal z = legal z p.0.legal in band_laid z L (ap (λ (x : ℕ). x * band_width z) h ∙ band_size z L) B

@@ -44,8 +44,6 @@ blocks_of {k = k} B h l = B.of k h l
 
 pub record PlacedFrom (z : Size) (k : ℕ) (work work' : List ℕ) : Type 0 where
   pub roomy : Roomy z work'
-  pub some : 1 ≤ k
-  pub most : k ≤ z.n
   pub same : length work' ≡ length work
   pub words : (x : ℕ) → x < area z → word_in z work' x ≡ word_in z work x
   pub blocks : (j : ℕ) → k ≤ j → j ≤ z.n → BlocksOf z j work'
@@ -54,8 +52,6 @@ pub placed_first : {z : Size} {work work' : List ℕ} → Roomy z work → Level
 placed_first {z} {work} {work'} R L =
     record {
       roomy = roomy_same R L.same;
-      some = (legal z R.legal).some;
-      most = omega arith;
       same = refl;
       words = λ x h. refl;
       blocks = λ j h l. subst (λ (i : ℕ). BlocksOf z i work') (omega arith) L.own;
@@ -63,15 +59,13 @@ placed_first {z} {work} {work'} R L =
 
 module _ {z : Size} {k : ℕ} {work work₁ : List ℕ} (P : PlacedFrom z k work work₁) where
   -- those over the level that comes next
-  pub placed_over : 1 < k → BlocksOf z (k - 1 + 1) work₁
-  placed_over h = subst (λ (i : ℕ). BlocksOf z i work₁) (omega arith) (P.blocks k (omega arith) P.most)
+  pub placed_over : 1 < k → k ≤ z.n → BlocksOf z (k - 1 + 1) work₁
+  placed_over h l = subst (λ (i : ℕ). BlocksOf z i work₁) (omega arith) (P.blocks k (omega arith) l)
 
   pub placed_more : 1 < k → {work₂ : List ℕ} → LevelPlaced z (k - 1) work₁ work₂ → PlacedFrom z (k - 1) work work₂
   placed_more h {work₂} L =
       record {
         roomy = roomy_same P.roomy L.same;
-        some = omega arith;
-        most = omega (arith, P.most);
         same = L.same ∙ P.same;
         words = λ x l. L.words x l ∙ P.words x l;
         blocks = λ j l m. by j l m (ℕ_discrete (k - 1) j);
@@ -90,30 +84,25 @@ module _ {z : Size} {k : ℕ} {work work₁ : List ℕ} (P : PlacedFrom z k work
       }
 
 -- Words copied in.
-abbrev pub CopiedTo : List ℤ → Size → ℕ → List ℕ → List ℕ → Type 0
-CopiedTo v z k work work₁ = (k ≤ z.n) × LevelsCopied v z k work work₁
+pub copied_none : {v : List ℤ} {z : Size} {work : List ℕ} → Blocks z work → LevelsCopied v z z.n work work
+copied_none B = record { same = refl; words = λ x h l m. absurd (omega arith); blocks = B }
 
-pub copied_none : {v : List ℤ} {z : Size} {work : List ℕ} → Blocks z work → CopiedTo v z z.n work work
-copied_none B = (omega arith, record { same = refl; words = λ x h l m. absurd (omega arith); blocks = B })
-
-module _ {v : List ℤ} {z : Size} {k : ℕ} {work work₁ : List ℕ} (C : CopiedTo v z k work work₁) where
-  pub copied_more : 0 < k → {work₂ : List ℕ} → LevelCopied v z k work₁ work₂ → CopiedTo v z (k - 1) work work₂
-  copied_more h {work₂} L = (
-    omega (arith, C.0),
-    record {
-      same = L.same ∙ C.1.same;
-      words = λ x l m n. by x l m n (ℕ_discrete (tree_level z x) k);
-      blocks = L.blocks C.1.blocks;
-    },
-  )
+module _ {v : List ℤ} {z : Size} {k : ℕ} {work work₁ : List ℕ} (C : LevelsCopied v z k work work₁) where
+  pub copied_more : {work₂ : List ℕ} → LevelCopied v z k work₁ work₂ → LevelsCopied v z (k - 1) work work₂
+  copied_more {work₂} L =
+      record {
+        same = L.same ∙ C.same;
+        words = λ x l m n. by x l m n (ℕ_discrete (tree_level z x) k);
+        blocks = L.blocks C.blocks;
+      }
     where
       by : (x : ℕ) → x < area z → k - 1 < tree_level z x → tree_level z x ≤ z.n → Dec (tree_level z x ≡ k)
           → word_in z work₂ x ≡ worded (get_or v (coefficient_of z x) (pos 0))
       by x l m n (yes e) = L.own x l e
-      by x l m n (no e) = L.others x l e ∙ C.1.words x l (omega arith) n
+      by x l m n (no e) = L.others x l e ∙ C.words x l (omega arith) n
 
-  pub copied_end : k ≤ 0 → LevelsCopied v z 0 work work₁
-  copied_end h = record { same = C.1.same; words = λ x l m n. C.1.words x l (omega arith) n; blocks = C.1.blocks }
+  pub copied_end : k < 1 → LevelsCopied v z 0 work work₁
+  copied_end h = record { same = C.same; words = λ x l m n. C.words x l (omega arith) n; blocks = C.blocks }
 
 -- when the blocks are placed, and when the levels are copied
 pub given_copied : {v : List ℤ} {z : Size} {work work₁ work₂ : List ℕ} → Given v z work → Placed z work work₁ → LevelsCopied v z 0 work₁ work₂
@@ -130,24 +119,20 @@ copied_all {v} {z} Z {work} {work₁} {work₂} {work₃} P C L =
     by x l N (no e) = L.others x l e ∙ C.words x l (omega (arith, N.some)) (omega (arith, N.most))
 
 -- Values laid out.
-abbrev pub LaidTo : Size → ℕ → List ℕ → List ℤ → List ℤ → Type 0
-LaidTo z k work out out₁ = (k ≤ z.n) × LevelsLaid z k work out out₁
+pub laid_none : {z : Size} {work : List ℕ} {out : List ℤ} → LevelsLaid z z.n work out out
+laid_none = record { same = refl; values = λ q h l m. absurd (omega arith) }
 
-pub laid_none : {z : Size} {work : List ℕ} {out : List ℤ} → LaidTo z z.n work out out
-laid_none = (omega arith, record { same = refl; values = λ q h l m. absurd (omega arith) })
-
-module _ {z : Size} {k : ℕ} {work : List ℕ} {out out₁ : List ℤ} (C : LaidTo z k work out out₁) where
-  pub laid_more : 0 < k → {out₂ : List ℤ} → LevelLaid z k work out₁ out₂ → LaidTo z (k - 1) work out out₂
-  laid_more h {out₂} L =
-      (omega (arith, C.0), record { same = L.same ∙ C.1.same; values = λ q l m n. by q l m n (ℕ_discrete (level_of z q) k) })
+module _ {z : Size} {k : ℕ} {work : List ℕ} {out out₁ : List ℤ} (C : LevelsLaid z k work out out₁) where
+  pub laid_more : {out₂ : List ℤ} → LevelLaid z k work out₁ out₂ → LevelsLaid z (k - 1) work out out₂
+  laid_more {out₂} L = record { same = L.same ∙ C.same; values = λ q l m n. by q l m n (ℕ_discrete (level_of z q) k) }
     where
       by : (q : ℕ) → q < area z → k - 1 < level_of z q → level_of z q ≤ z.n → Dec (level_of z q ≡ k)
           → get_or out₂ q (pos 0) ≡ value_of (word_in z work (number_of z q))
       by q l m n (yes e) = L.own q l e
-      by q l m n (no e) = L.others q l e ∙ C.1.values q l (omega arith) n
+      by q l m n (no e) = L.others q l e ∙ C.values q l (omega arith) n
 
-  pub laid_end : k ≤ 0 → LevelsLaid z 0 work out out₁
-  laid_end h = record { same = C.1.same; values = λ q l m n. C.1.values q l (omega arith) n }
+  pub laid_end : k < 1 → LevelsLaid z 0 work out out₁
+  laid_end h = record { same = C.same; values = λ q l m n. C.values q l (omega arith) n }
 
 pub laid_all : {z : Size} (Z : Legal z) {work work' : List ℕ} {out out₁ out₂ : List ℤ} → Placed z work work' → LevelsLaid z 0 work' out out₁
     → LevelLaid z (levels z) work' out₁ out₂ → LaidOut z work out work' out₂
@@ -168,24 +153,22 @@ laid_all {z} Z {work} {work'} {out} {out₁} {out₂} P C L =
 
 -- Words zeroed.
 pub record ClearedOver (z : Size) (k : ℕ) (work work' : List ℕ) : Type 0 where
-  pub most : k ≤ levels z
   pub same : length work' ≡ length work
   pub words : (x : ℕ) → x < area z → k < tree_level z x → word_in z work' x ≡ 0
 
 pub cleared_none : {z : Size} {work : List ℕ} → Roomy z work → ClearedOver z (z.n + 1) work work
 cleared_none {z} R =
-    record { most = omega arith; same = refl; words = λ x h l. absurd (omega (arith, (numbered z (legal z R.legal) x h).most)) }
+    record { same = refl; words = λ x h l. absurd (omega (arith, (numbered z (legal z R.legal) x h).most)) }
 
 module _ {z : Size} {k : ℕ} {work work₁ : List ℕ} (C : ClearedOver z k work work₁) where
-  pub cleared_more : 0 < k → {work₂ : List ℕ} → LevelCleared z k work₁ work₂ → ClearedOver z (k - 1) work work₂
-  cleared_more h {work₂} L =
-      record { most = omega (arith, C.most); same = L.same ∙ C.same; words = λ x l m. by x l m (ℕ_discrete (tree_level z x) k) }
+  pub cleared_more : {work₂ : List ℕ} → LevelCleared z k work₁ work₂ → ClearedOver z (k - 1) work work₂
+  cleared_more {work₂} L = record { same = L.same ∙ C.same; words = λ x l m. by x l m (ℕ_discrete (tree_level z x) k) }
     where
       by : (x : ℕ) → x < area z → k - 1 < tree_level z x → Dec (tree_level z x ≡ k) → word_in z work₂ x ≡ 0
       by x l m (yes e) = L.own x l e
       by x l m (no e) = L.others x l e ∙ C.words x l (omega arith)
 
-  pub cleared_all : Roomy z work → k ≤ 0 → Cleared z work work₁
+  pub cleared_all : Roomy z work → k < 1 → Cleared z work work₁
   cleared_all R h =
       record { same = C.same; words = λ x l. C.words x l (omega (arith, (numbered z (legal z R.legal) x l).some)) }
 

@@ -51,32 +51,8 @@ fn place_row(work: &mut [u32], to: usize, across: usize, p: u32, right: u32, bel
     requires { (to + 3 * across ≤ length work.old) × (p + 2 * across < 2 ^ 20) × (right < 2 ^ 20) × (below < 2 ^ 20) }
     ensures { Put 0 (λ t. to + t) (3 * across) (λ t. rank_of right below (p + 2 * (t / 3)) (t % 3)) work.old work.new }
 {
-    let mut j = 0;
-    while j < across {
-        let own = j;
-        j += 1;
-        set_roots(work, to + 3 * own, p + 2 * (own as u32), right, below);
-    }
-}
-
-// So many rows of groups, in a pyramid with rows of w.
-fn place_groups(work: &mut [u32], to: usize, rows: usize, across: usize, w: usize)
-    requires { (to + 3 * (rows * across) ≤ length work.old) × (rows ≤ 512) × (across ≤ 512) × (w ≤ 512) }
-    ensures { Put 0 (λ t. to + t) (3 * (rows * across))
-        (λ t. rank_of (2 * across) (2 * rows * w) (2 * (t / 3 / across) * w + 2 * (t / 3 % across)) (t % 3)) work.old work.new }
-{
-    let mut i = 0;
-    while i < rows {
-        let own = i;
-        i += 1;
-        place_row(
-            work,
-            to + 3 * (own * across),
-            across,
-            (2 * own * w) as u32,
-            (2 * across) as u32,
-            (2 * rows * w) as u32,
-        );
+    for j in 0..across {
+        set_roots(work, to + 3 * j, p + 2 * (j as u32), right, below);
     }
 }
 
@@ -86,13 +62,19 @@ fn place_roots(z: Size, work: &mut [u32])
     ensures { LevelPlaced z z.n work.old work.new }
 {
     let half = z.n + 1;
-    place_groups(
-        work,
-        blocks_from(z, Level(z.n)),
-        z.h >> half,
-        z.w >> half,
-        z.w,
-    );
+    let rows = z.h >> half;
+    let across = z.w >> half;
+    let to = blocks_from(z, Level(z.n));
+    for i in 0..rows {
+        place_row(
+            work,
+            to + 3 * (i * across),
+            across,
+            (2 * i * z.w) as u32,
+            (2 * across) as u32,
+            (2 * rows * z.w) as u32,
+        );
+    }
 }
 
 // The four blocks under one whose place is p.
@@ -106,21 +88,6 @@ fn set_under(work: &mut [u32], at: usize, p: u32, w: u32)
     work[at + 3] = 2 * (p + w + 1);
 }
 
-// Those under so many.
-fn place_under(work: &mut [u32], from: usize, blocks: usize, to: usize, w: u32)
-    requires { (from + blocks ≤ to) × (to + 4 * blocks ≤ length work.old) × Under (2 ^ 20) blocks work.old from × (w < 2 ^ 20) }
-    ensures { Put 0 (λ t. to + t) (4 * blocks) (λ t. 2 * corner_of w (get_or work.old (from + t / 4) 0) (t % 4)) work.old
-        work.new }
-{
-    let mut b = 0;
-    while b < blocks {
-        let own = b;
-        b += 1;
-        let p = work[from + own];
-        set_under(work, to + 4 * own, p, w);
-    }
-}
-
 // The blocks of a level, from those of the next coarser one.
 fn place_level(z: Size, k: Level, work: &mut [u32])
     requires { Roomy z work.old × (1 ≤ k.0) × (k.0 < z.n) × BlocksOf z (k.0 + 1) work.old }
@@ -128,13 +95,12 @@ fn place_level(z: Size, k: Level, work: &mut [u32])
 {
     let coarser = Level(k.0 + 1);
     let blocks = shape::level_size(z, coarser) / 4;
-    place_under(
-        work,
-        blocks_from(z, coarser),
-        blocks,
-        blocks_from(z, k),
-        z.w as u32,
-    );
+    let from = blocks_from(z, coarser);
+    let to = blocks_from(z, k);
+    for b in 0..blocks {
+        let p = work[from + b];
+        set_under(work, to + 4 * b, p, z.w as u32);
+    }
 }
 
 // Where the blocks stand, for all levels, coarsest first.
@@ -143,9 +109,7 @@ fn place_blocks(z: Size, work: &mut [u32])
     ensures { Placed z work.old work.new }
 {
     place_roots(z, work);
-    let mut k = z.n;
-    while 1 < k {
-        k -= 1;
+    for k in (1..z.n).rev() {
         place_level(z, Level(k), work);
     }
 }
@@ -168,45 +132,25 @@ fn copy_block(pyramid: &[i32], p: usize, w: usize, work: &mut [u32], at: usize)
     work[at + 3] = word_at(pyramid, p + w + 1);
 }
 
-// Those of so many blocks, whose places stand from `from` on.
-fn copy_blocks(pyramid: &[i32], w: usize, work: &mut [u32], from: usize, blocks: usize, to: usize)
-    requires { Small pyramid.now × (w < 2 ^ 20) × (to + 4 * blocks ≤ from) × (from + blocks ≤ length work.old) × Under (2 ^ 20) blocks work.old from }
-    ensures { Put 0 (λ t. to + t) (4 * blocks)
-        (λ t. worded (get_or pyramid.now (corner_of w (get_or work.old (from + t / 4) 0) (t % 4)) (pos 0))) work.old
-        work.new }
-{
-    let mut b = 0;
-    while b < blocks {
-        let own = b;
-        b += 1;
-        let p = work[from + own] as usize;
-        copy_block(pyramid, p, w, work, to + 4 * own);
-    }
-}
-
 fn copy_level(pyramid: &[i32], z: Size, k: Level, work: &mut [u32])
     requires { Given pyramid.now z work.old × (1 ≤ k.0) × (k.0 ≤ z.n) × BlocksOf z k.0 work.old }
     ensures { LevelCopied pyramid.now z k.0 work.old work.new }
 {
     let blocks = shape::level_size(z, k) / 4;
-    copy_blocks(
-        pyramid,
-        z.w,
-        work,
-        blocks_from(z, k),
-        blocks,
-        stretches::stretch_from(z, k),
-    );
+    let from = blocks_from(z, k);
+    let to = stretches::stretch_from(z, k);
+    for b in 0..blocks {
+        let p = work[from + b] as usize;
+        copy_block(pyramid, p, z.w, work, to + 4 * b);
+    }
 }
 
 fn copy_levels(pyramid: &[i32], z: Size, work: &mut [u32])
     requires { Given pyramid.now z work.old × Blocks z work.old }
     ensures { LevelsCopied pyramid.now z 0 work.old work.new }
 {
-    let mut k = z.n;
-    while 0 < k {
+    for k in (1..=z.n).rev() {
         copy_level(pyramid, z, Level(k), work);
-        k -= 1;
     }
 }
 
@@ -216,13 +160,9 @@ fn copy_row(pyramid: &[i32], z: Size, row: usize, work: &mut [u32])
     ensures { Put 0 (λ j. number_of z (index z row j)) (band_width z) (λ j. worded (get_or pyramid.now (index z row j) (pos 0)))
         work.old work.new }
 {
-    let end = z.w >> z.n;
-    let mut column = 0;
-    while column < end {
-        let own = column;
-        column += 1;
-        let x = band_number(z, row, own);
-        work[x] = word_at(pyramid, row * z.w + own);
+    for column in 0..z.w >> z.n {
+        let x = band_number(z, row, column);
+        work[x] = word_at(pyramid, row * z.w + column);
     }
 }
 
@@ -230,12 +170,8 @@ fn copy_band(pyramid: &[i32], z: Size, work: &mut [u32])
     requires { Given pyramid.now z work.old }
     ensures { LevelCopied pyramid.now z (levels z) work.old work.new }
 {
-    let end = z.h >> z.n;
-    let mut row = 0;
-    while row < end {
-        let own = row;
-        row += 1;
-        copy_row(pyramid, z, own, work);
+    for row in 0..z.h >> z.n {
+        copy_row(pyramid, z, row, work);
     }
 }
 
@@ -267,44 +203,24 @@ fn lay_block(work: &[u32], from: usize, out: &mut [i32], p: usize, w: usize)
     out[p + w + 1] = value_in(work, from + 3);
 }
 
-// Those of so many blocks, whose places stand from `from` on.
-fn lay_blocks(work: &[u32], from: usize, blocks: usize, words: usize, out: &mut [i32], w: usize)
-    requires { (from + blocks ≤ length work.now) × (words + 4 * blocks ≤ from) × (2 ≤ w)
-        × Apart (λ t. corner_of w (get_or work.now (from + t / 4) 0) (t % 4)) (4 * blocks) (length out.old) }
-    ensures { Put (pos 0) (λ t. corner_of w (get_or work.now (from + t / 4) 0) (t % 4)) (4 * blocks)
-        (λ t. value_of (get_or work.now (words + t) 0)) out.old out.new }
-{
-    let mut b = 0;
-    while b < blocks {
-        let own = b;
-        b += 1;
-        lay_block(work, words + 4 * own, out, work[from + own] as usize, w);
-    }
-}
-
 fn lay_level(z: Size, k: Level, work: &[u32], out: &mut [i32])
     requires { Roomy z work.now × (length out.old ≡ area z) × (1 ≤ k.0) × (k.0 ≤ z.n) × BlocksOf z k.0 work.now }
     ensures { LevelLaid z k.0 work.now out.old out.new }
 {
     let blocks = shape::level_size(z, k) / 4;
-    lay_blocks(
-        work,
-        blocks_from(z, k),
-        blocks,
-        stretches::stretch_from(z, k),
-        out,
-        z.w,
-    );
+    let from = blocks_from(z, k);
+    let words = stretches::stretch_from(z, k);
+    for b in 0..blocks {
+        lay_block(work, words + 4 * b, out, work[from + b] as usize, z.w);
+    }
 }
 
 fn lay_levels(z: Size, work: &[u32], out: &mut [i32])
     requires { Roomy z work.now × (length out.old ≡ area z) × Blocks z work.now }
     ensures { LevelsLaid z 0 work.now out.old out.new }
 {
-    let mut k = z.n;
-    while 0 < k {
+    for k in (1..=z.n).rev() {
         lay_level(z, Level(k), work, out);
-        k -= 1;
     }
 }
 
@@ -314,13 +230,9 @@ fn lay_row(z: Size, row: usize, work: &[u32], out: &mut [i32])
     ensures { Put (pos 0) (index z row) (band_width z) (λ j. value_of (get_or work.now (number_of z (index z row j)) 0)) out.old
         out.new }
 {
-    let end = z.w >> z.n;
-    let mut column = 0;
-    while column < end {
-        let own = column;
-        column += 1;
-        let x = band_number(z, row, own);
-        let q = row * z.w + own;
+    for column in 0..z.w >> z.n {
+        let x = band_number(z, row, column);
+        let q = row * z.w + column;
         out[q] = value_in(work, x);
     }
 }
@@ -329,12 +241,8 @@ fn lay_band(z: Size, work: &[u32], out: &mut [i32])
     requires { Roomy z work.now × (length out.old ≡ area z) }
     ensures { LevelLaid z (levels z) work.now out.old out.new }
 {
-    let end = z.h >> z.n;
-    let mut row = 0;
-    while row < end {
-        let own = row;
-        row += 1;
-        lay_row(z, own, work, out);
+    for row in 0..z.h >> z.n {
+        lay_row(z, row, work, out);
     }
 }
 
@@ -361,9 +269,7 @@ pub fn clear(z: Size, work: &mut [u32])
     requires { Roomy z work.old }
     ensures { Cleared z work.old work.new }
 {
-    let mut k = z.n + 1;
-    while 0 < k {
+    for k in (1..=z.n + 1).rev() {
         clear_level(z, Level(k), work);
-        k -= 1;
     }
 }

@@ -4,8 +4,8 @@ use Rattle.placing.proofs.Band.{few}
 use Rattle.placing.proofs.Loops.{cleared_none, cleared_more, cleared_all, roomy_same}
 use Rattle.placing.proofs.clear.Goals as goal
 
-pub overflow_add-k : goal.overflow_add-k
-overflow_add-k c = omega (arith, few)
+pub overflow_step-k : goal.overflow_step-k
+overflow_step-k c = omega (arith, few)
 
 pub loop-k-init : goal.loop-k-init
 loop-k-init c = search (rules, cleared_none)

@@ -1,19 +1,16 @@
 use native.Mathlib.Omega.{arith}
 use borrow.Author.Rules.{rules}
-use Rattle.placing.proofs.Band.{few, all, band_columns}
+use Rattle.placing.proofs.Band.{few, all}
 use Rattle.placing.proofs.Calls.{row_numbers, number_inside, row_inside}
 use Rattle.placing.proofs.Blocks.{rowing_none, rowing_more, rowing_all}
 use Rattle.placing.proofs.Loops.{given_small}
 use Rattle.placing.proofs.copy_row.Goals as goal
 
-pub overflow_shr-end : goal.overflow_shr-end
-overflow_shr-end c = omega (arith, few)
+pub overflow_shr-column-end : goal.overflow_shr-column-end
+overflow_shr-column-end c = omega (arith, few)
 
 pub loop-column-init : goal.loop-column-init
 loop-column-init c = let p = c.requires in rowing_none (row_inside p.0.roomy p.1) (row_numbers p.0.roomy p.1)
-
-pub overflow_add-column : goal.overflow_add-column
-overflow_add-column c = omega (arith, band_columns)
 
 pub overflow_mul-row : goal.overflow_mul-row
 overflow_mul-row c = omega (arith, all)
@@ -31,4 +28,4 @@ pub loop-column-preserved : goal.loop-column-preserved
 loop-column-preserved c = search (rules, rowing_more)
 
 pub returns : goal.returns
-returns c = search (rules, rowing_all)
+returns c = rowing_all c.loop-column.invariant (omega arith)

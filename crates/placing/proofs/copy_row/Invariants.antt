@@ -1,4 +1,4 @@
-use Prim.Native.Nat.{◌-◌, ◌*◌}
+use Prim.Native.Nat.{◌*◌}
 use lib.ListN.{get_or}
 use lib.IntN.{pos}
 use Rattle.rules.specs.Document.Pyramid.{index, area}
@@ -12,6 +12,3 @@ abbrev pub invariant-loop-column : goal.invariant-loop-column
 invariant-loop-column l =
     Rowing 0 (λ j. number_of l.z (index l.z l.row j)) (l.row * l.z.w) (band_width l.z) (area l.z)
     (λ j. worded (get_or l.pyramid (index l.z l.row j) (pos 0))) l.initial.work l.column l.work
-
-abbrev pub decreases-loop-column : goal.decreases-loop-column
-decreases-loop-column l = band_width l.z - l.column

@@ -1,6 +1,11 @@
+use native.Mathlib.Omega.{arith}
 use borrow.Author.Rules.{rules}
+use Rattle.placing.proofs.Band.{few}
 use Rattle.placing.proofs.Loops.{laid_none, laid_more, laid_end, blocks_of}
 use Rattle.placing.proofs.lay_levels.Goals as goal
+
+pub overflow_step-k : goal.overflow_step-k
+overflow_step-k c = omega (arith, few)
 
 pub loop-k-init : goal.loop-k-init
 loop-k-init c = search (rules, laid_none)

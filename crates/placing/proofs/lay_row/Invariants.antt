@@ -1,4 +1,4 @@
-use Prim.Native.Nat.{◌-◌, ◌*◌}
+use Prim.Native.Nat.{◌*◌}
 use lib.ListN.{get_or}
 use lib.IntN.{pos}
 use Rattle.rules.specs.Document.Pyramid.{index, area}
@@ -12,6 +12,3 @@ abbrev pub invariant-loop-column : goal.invariant-loop-column
 invariant-loop-column l =
     Rowing (pos 0) (index l.z l.row) (l.row * l.z.w) (band_width l.z) (area l.z)
     (λ j. value_of (get_or l.work (number_of l.z (index l.z l.row j)) 0)) l.initial.out l.column l.out
-
-abbrev pub decreases-loop-column : goal.decreases-loop-column
-decreases-loop-column l = band_width l.z - l.column

@@ -1,9 +1,6 @@
-use Prim.Native.Nat.{◌+◌, ◌-◌, ◌*◌, ◌/◌, ◌%◌, ◌≤◌}
+use Prim.Native.Nat.{◌+◌, ◌*◌, ◌/◌, ◌%◌}
 use Rattle.placing.specs.Stores.{Put, rank_of}
 use Rattle.placing.proofs.place_row.Given as goal
 
 abbrev pub invariant-loop-j : goal.invariant-loop-j
-invariant-loop-j l = (l.j ≤ l.across) × Put 0 (λ t. l.to + t) (3 * l.j) (λ t. rank_of l.right l.below (l.p + 2 * (t / 3)) (t % 3)) l.initial.work l.work
-
-abbrev pub decreases-loop-j : goal.decreases-loop-j
-decreases-loop-j l = l.across - l.j
+invariant-loop-j l = Put 0 (λ t. l.to + t) (3 * l.j) (λ t. rank_of l.right l.below (l.p + 2 * (t / 3)) (t % 3)) l.initial.work l.work

@@ -1,0 +1,10 @@
+use Prim.Native.Nat.{ℕ}
+use lib.ListN.{get_or}
+use lib.IntN.{pos}
+use Rattle.coefficients.specs.Words.{worded}
+use Rattle.placing.specs.Stores.{corner_of}
+use Rattle.placing.proofs.Blocks.{Storing}
+use Rattle.placing.proofs.copy_level.Given as goal
+
+abbrev pub invariant-loop-b : goal.invariant-loop-b
+invariant-loop-b l = Storing (λ (p f : ℕ). worded (get_or l.pyramid (corner_of l.z.w p f) (pos 0))) l.from l.blocks l.to l.initial.work l.b l.work
