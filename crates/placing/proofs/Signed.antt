@@ -11,7 +11,6 @@ use mir.Val.{to_z, of_z}
 use mir.ValLaws.{to_z-of_z}
 use Rattle.coefficients.specs.Words.{worded, value_of}
 use Rattle.placing.specs.Stores.{Put, Small, corner_of}
-use Rattle.placing.proofs.Stores.{put_four, corners_apart}
 
 pub handed : (r v : ℤ) → mag r < 2 ^ 31 → r ≡ v → to_z w32 (of_z w32 r) ≡ v
 handed r v h e = to_z-of_z w32 r (record { sfits = h }) ∙ e
@@ -25,14 +24,3 @@ module _ (pyramid : List ℤ) (q : ℕ) (r : ℤ) (h : mag r < 2 ^ 31) (e : r �
 
 pub value_read : (s : List ℕ) (r : ℤ) (at to : ℕ) → mag r < 2 ^ 31 → r ≡ value_of (get_or s at 0) → at ≡ to → to_z w32 (of_z w32 r) ≡ value_of (get_or s to 0)
 value_read s r at to h e i = handed r (value_of (get_or s at 0)) h e ∙ ap (λ (x : ℕ). value_of (get_or s x 0)) i
-
--- the four values of a block
-pub four_laid : (s : List ℕ) (from p w : ℕ) (out : List ℤ) (a b c d : ℤ) → 2 ≤ w → p + w + 1 < length out
-    → mag a < 2 ^ 31 → a ≡ value_of (get_or s from 0) → mag b < 2 ^ 31 → b ≡ value_of (get_or s (from + 1) 0)
-    → mag c < 2 ^ 31 → c ≡ value_of (get_or s (from + 2) 0) → mag d < 2 ^ 31 → d ≡ value_of (get_or s (from + 3) 0)
-    → Put (pos 0) (corner_of w p) 4 (λ f. value_of (get_or s (from + f) 0)) out
-    (set (set (set (set out p (to_z w32 (of_z w32 a))) (p + 1) (to_z w32 (of_z w32 b))) (p + w) (to_z w32 (of_z w32 c))) (p + w + 1) (to_z w32 (of_z w32 d)))
-unfolding corner_of
-four_laid s from p w out a b c d h l ma ea mb eb mc ec md ed =
-    put_four (corners_apart w p _ h l) _ _ _ _ (omega arith) (omega arith) (omega arith) (omega arith) _ _ _ _ (value_read s a _ _ ma ea (omega arith))
-    (value_read s b _ _ mb eb (omega arith)) (value_read s c _ _ mc ec (omega arith)) (value_read s d _ _ md ed (omega arith))

@@ -1,7 +1,7 @@
 -- Runs of stores: none, a few, one run behind another.
 use mathlib.Core.Path.{◌≡◌, refl, sym, ap, ap₂, ◌∙◌}
 use mathlib.Core.Logic.{◌⊎◌, inl, inr}
-use mathlib.Core.List.{List}
+use mathlib.Core.List.{List, [], ◌∷◌}
 use Prim.Native.Nat.{ℕ, zero, suc, ◌+◌, ◌-◌, ◌*◌, ◌/◌, ◌%◌, ◌≤◌, ◌<◌}
 use native.Mathlib.Omega.{arith}
 use native.Mathlib.Nat.{mul-le-mul}
@@ -62,17 +62,11 @@ module _ {A : Type 0} {d : A} where
           let y : t - a < n = omega arith in
           ap (λ (u : ℕ). get_or s₂ (P u) d) (sym x) ∙ ap (λ (u : ℕ). get_or s₂ u d) (sym (p (t - a) y)) ∙ J.put (t - a) y ∙ i (t - a) y ∙ ap v x
 
-  -- three and four stores
+  -- three stores
   pub put_three : {P : ℕ → ℕ} {v : ℕ → A} {s : List A} → Apart P 3 (length s) → (p q r : ℕ) → p ≡ P 0 → q ≡ P 1 → r ≡ P 2
       → (a b c : A) → a ≡ v 0 → b ≡ v 1 → c ≡ v 2 → Put d P 3 v s (set (set (set s p a) q b) r c)
   put_three I p q r e f g a b c i j k =
       put_more I (omega arith) (put_more I (omega arith) (put_more I (omega arith) (put_none refl) p e a i) q f b j) r g c k
-
-  pub put_four : {P : ℕ → ℕ} {v : ℕ → A} {s : List A} → Apart P 4 (length s) → (p q r u : ℕ) → p ≡ P 0 → q ≡ P 1 → r ≡ P 2 → u ≡ P 3
-      → (a b c x : A) → a ≡ v 0 → b ≡ v 1 → c ≡ v 2 → x ≡ v 3 → Put d P 4 v s (set (set (set (set s p a) q b) r c) u x)
-  put_four I p q r u e f g h a b c x i j k l =
-      put_more I (omega arith)
-      (put_more I (omega arith) (put_more I (omega arith) (put_more I (omega arith) (put_none refl) p e a i) q f b j) r g c k) u h x l
 
 -- places one after another
 pub apart_row : (to n m : ℕ) → to + n ≤ m → Apart (λ t. to + t) n m
@@ -107,13 +101,22 @@ module _ (from blocks b p : ℕ) (s : List ℕ) (l : b < blocks) (e : p ≡ get_
       → Put d (g p) 4 w o₁ o₂ → ((f : ℕ) → f < 4 → w f ≡ v (4 * b + f)) → Put d (λ t. g (get_or s (from + t / 4) 0) (t % 4)) (4 * (b + 1)) v o o₂
   block_laid g I H K i = put_join I H K (4 * (b + 1)) (omega arith) (omega arith) (by_block g) i
 
--- the corners of a block are four places
-corner_under : (w p m f : ℕ) → p + w + 1 < m → f < 4 → p + f % 2 + f / 2 * w < m
-corner_under w p m zero l k = omega arith
-corner_under w p m (suc zero) l k = omega arith
-corner_under w p m (suc (suc zero)) l k = omega arith
-corner_under w p m (suc (suc (suc zero))) l k = omega arith
-corner_under w p m (suc (suc (suc (suc f)))) l k = absurd (omega arith)
+-- the corners of a block, as a list, are four places
+pub corners_listed : (p w f : ℕ) → f < 4 → get_or (p ∷ (p + 1) ∷ (p + w) ∷ (p + w + 1) ∷ []) f 0 ≡ corner_of w p f
+unfolding corner_of
+corners_listed p w zero l = omega arith
+corners_listed p w (suc zero) l = omega arith
+corners_listed p w (suc (suc zero)) l = omega arith
+corners_listed p w (suc (suc (suc zero))) l = omega arith
+corners_listed p w (suc (suc (suc (suc f)))) l = absurd (omega arith)
+
+pub corner_most : (w p f : ℕ) → f < 4 → corner_of w p f ≤ p + w + 1
+unfolding corner_of
+corner_most w p zero l = omega arith
+corner_most w p (suc zero) l = omega arith
+corner_most w p (suc (suc zero)) l = omega arith
+corner_most w p (suc (suc (suc zero))) l = omega arith
+corner_most w p (suc (suc (suc (suc f)))) l = absurd (omega arith)
 
 upper : (f : ℕ) → f < 4 → (f / 2 ≡ 0) ⊎ (f / 2 ≡ 1)
 upper zero k = inl refl
@@ -133,7 +136,7 @@ corner_one w p f g h k n e = by (upper f k) (upper g n)
 
 pub corners_apart : (w p m : ℕ) → 2 ≤ w → p + w + 1 < m → Apart (corner_of w p) 4 m
 unfolding corner_of
-corners_apart w p m h l = record { inside = λ f k. corner_under w p m f l k; one = λ f g k n e. corner_one w p f g h k n e }
+corners_apart w p m h l = record { inside = λ f k. omega (arith, corner_most w p f k); one = λ f g k n e. corner_one w p f g h k n e }
 
 -- the greatest corner
 corner_last : (w p : ℕ) → corner_of w p 3 ≡ p + w + 1
@@ -170,18 +173,6 @@ pub band_stored : {A : Type 0} {d : A} {P : ℕ → ℕ} {v : ℕ → A} (rows a
 band_stored rows across i I l H K p w =
     let r : (i + 1) * across ≤ rows * across = mul-le-mul (omega arith) (omega arith) in
     put_join I H K ((i + 1) * across) (omega arith) (omega arith) p w
-
--- the four words of a block
-corner_read : (v : List ℤ) (q p : ℕ) → q ≡ p → worded (get_or v q (pos 0)) ≡ worded (get_or v p (pos 0))
-corner_read v q p e = ap (λ (x : ℕ). worded (get_or v x (pos 0))) e
-
-pub four_copied : (v : List ℤ) (p w at : ℕ) (s : List ℕ) (a b c d : ℕ) → at + 4 ≤ length s → a ≡ worded (get_or v p (pos 0))
-    → b ≡ worded (get_or v (p + 1) (pos 0)) → c ≡ worded (get_or v (p + w) (pos 0)) → d ≡ worded (get_or v (p + w + 1) (pos 0))
-    → Put 0 (λ f. at + f) 4 (λ f. worded (get_or v (corner_of w p f) (pos 0))) s (set (set (set (set s at a) (at + 1) b) (at + 2) c) (at + 3) d)
-unfolding corner_of
-four_copied v p w at s a b c d h i j k l =
-    put_four (apart_row at 4 _ h) _ _ _ _ (omega arith) (omega arith) (omega arith) (omega arith) _ _ _ _ (i ∙ corner_read v _ _ (omega arith))
-    (j ∙ corner_read v _ _ (omega arith)) (k ∙ corner_read v _ _ (omega arith)) (l ∙ corner_read v _ _ (omega arith))
 
 -- the last corner of a block among the places of all
 pub block_inside : (from blocks b w m : ℕ) (s : List ℕ) → Apart (λ t. corner_of w (get_or s (from + t / 4) 0) (t % 4)) (4 * blocks) m → b < blocks

@@ -1,7 +1,7 @@
 // Between the pyramid, row by row, and the workspace, in tree order: the pyramid copied in, and what was drawn laid out.
 #![tactic(auto)]
 
-ghost use Rattle.std.specs.Prelude.{◌≡◌, true, ◌+◌, ◌*◌, ◌/◌, ◌%◌, ◌^◌, ◌≤◌, ◌<◌, length, get_or, pos};
+ghost use Rattle.std.specs.Prelude.{◌≡◌, true, ℕ, ◌+◌, ◌*◌, ◌/◌, ◌%◌, ◌^◌, ◌≤◌, ◌<◌, length, get_or, pos};
 ghost use Rattle.rules.specs.Document.Pyramid.{legal_size, levels, area, index};
 ghost use Rattle.trees.specs.Places.{band_width};
 ghost use Rattle.trees.specs.Run.{number_of};
@@ -77,15 +77,23 @@ fn place_roots(z: Size, work: &mut [u32])
     }
 }
 
+// The places of the four of a block, whose first is p.
+fn corners(p: usize, w: usize) -> [usize; 4]
+    requires { p + w + 1 < 2 ^ 63 }
+    ensures { (f : ℕ) → f < 4 → get_or result f 0 ≡ corner_of w p f }
+{
+    [p, p + 1, p + w, p + w + 1]
+}
+
 // The four blocks under one whose place is p.
-fn set_under(work: &mut [u32], at: usize, p: u32, w: u32)
+fn set_under(work: &mut [u32], at: usize, p: usize, w: usize)
     requires { (at + 4 ≤ length work.old) × (p < 2 ^ 20) × (w < 2 ^ 20) }
     ensures { Put 0 (λ f. at + f) 4 (λ f. 2 * corner_of w p f) work.old work.new }
 {
-    work[at] = 2 * p;
-    work[at + 1] = 2 * (p + 1);
-    work[at + 2] = 2 * (p + w);
-    work[at + 3] = 2 * (p + w + 1);
+    let four = corners(p, w);
+    for (f, q) in four.iter().enumerate() {
+        work[at + f] = (2 * *q) as u32;
+    }
 }
 
 // The blocks of a level, from those of the next coarser one.
@@ -98,8 +106,8 @@ fn place_level(z: Size, k: Level, work: &mut [u32])
     let from = blocks_from(z, coarser);
     let to = blocks_from(z, k);
     for b in 0..blocks {
-        let p = work[from + b];
-        set_under(work, to + 4 * b, p, z.w as u32);
+        let p = work[from + b] as usize;
+        set_under(work, to + 4 * b, p, z.w);
     }
 }
 
@@ -126,10 +134,10 @@ fn copy_block(pyramid: &[i32], p: usize, w: usize, work: &mut [u32], at: usize)
     requires { Small pyramid.now × (p < 2 ^ 20) × (w < 2 ^ 20) × (at + 4 ≤ length work.old) }
     ensures { Put 0 (λ f. at + f) 4 (λ f. worded (get_or pyramid.now (corner_of w p f) (pos 0))) work.old work.new }
 {
-    work[at] = word_at(pyramid, p);
-    work[at + 1] = word_at(pyramid, p + 1);
-    work[at + 2] = word_at(pyramid, p + w);
-    work[at + 3] = word_at(pyramid, p + w + 1);
+    let four = corners(p, w);
+    for (f, q) in four.iter().enumerate() {
+        work[at + f] = word_at(pyramid, *q);
+    }
 }
 
 fn copy_level(pyramid: &[i32], z: Size, k: Level, work: &mut [u32])
@@ -197,10 +205,10 @@ fn lay_block(work: &[u32], from: usize, out: &mut [i32], p: usize, w: usize)
     requires { (from + 4 ≤ length work.now) × (p + w + 1 < length out.old) × (2 ≤ w) }
     ensures { Put (pos 0) (corner_of w p) 4 (λ f. value_of (get_or work.now (from + f) 0)) out.old out.new }
 {
-    out[p] = value_in(work, from);
-    out[p + 1] = value_in(work, from + 1);
-    out[p + w] = value_in(work, from + 2);
-    out[p + w + 1] = value_in(work, from + 3);
+    let four = corners(p, w);
+    for (f, q) in four.iter().enumerate() {
+        out[*q] = value_in(work, from + f);
+    }
 }
 
 fn lay_level(z: Size, k: Level, work: &[u32], out: &mut [i32])

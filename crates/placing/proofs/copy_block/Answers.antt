@@ -1,17 +1,20 @@
+use mathlib.Core.Path.{refl, ap, ◌∙◌}
+use Prim.Native.Nat.{ℕ}
 use native.Mathlib.Omega.{arith}
-use lib.ListN.{length-set}
-use Rattle.placing.proofs.Stores.{four_copied}
+use lib.ListN.{get_or}
+use lib.IntN.{pos}
+use Rattle.coefficients.specs.Words.{worded}
+use Rattle.placing.proofs.Stores.{put_none, put_more, apart_row}
+use Rattle.placing.proofs.Blocks.{put_count}
 use Rattle.placing.proofs.copy_block.Goals as goal
 
-pub bounds-work-at-2 : goal.bounds-work-at-2
-bounds-work-at-2 c = simp length-set (omega arith)
+pub loop-f-init : goal.loop-f-init
+loop-f-init c = put_none refl
 
-pub bounds-work-at-3 : goal.bounds-work-at-3
-bounds-work-at-3 c = simp length-set (omega arith)
-
-pub bounds-work-at-4 : goal.bounds-work-at-4
-bounds-work-at-4 c = simp length-set (omega arith)
+pub loop-f-preserved : goal.loop-f-preserved
+loop-f-preserved c = let t = c.loop-f-test.true in
+    put_more (apart_row _ 4 _ c.requires.3) t c.loop-f.invariant _ refl _
+    (c.word_at.ensures ∙ ap (λ (q : ℕ). worded (get_or c.args.pyramid.now q (pos 0))) (c.corners-four.ensures _ t))
 
 pub returns : goal.returns
-returns c = four_copied c.args.pyramid.now _ _ _ _ _ _ _ _ c.requires.3 c.word_at.ensures
-    c.word_at-2.ensures c.word_at-3.ensures c.word_at-4.ensures
+returns c = put_count c.loop-f.invariant 4 (omega arith)

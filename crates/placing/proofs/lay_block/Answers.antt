@@ -1,20 +1,23 @@
+use mathlib.Core.Path.{refl}
 use native.Mathlib.Omega.{arith}
-use lib.ListN.{length-set}
-use Rattle.placing.proofs.Signed.{four_laid}
+use Rattle.placing.proofs.Stores.{put_none, put_more, corners_apart, corner_most}
+use Rattle.placing.proofs.Blocks.{put_count}
+use Rattle.placing.proofs.Signed.{handed}
 use Rattle.placing.proofs.lay_block.Goals as goal
 
-pub bounds-out-p-2 : goal.bounds-out-p-2
-bounds-out-p-2 c = simp length-set (omega arith)
+pub loop-f-init : goal.loop-f-init
+loop-f-init c = put_none refl
 
-pub bounds-out-p-3 : goal.bounds-out-p-3
-bounds-out-p-3 c = simp length-set (omega arith)
+pub offset_bounds-out-q : goal.offset_bounds-out-q
+offset_bounds-out-q c = omega (arith, corner_most)
 
-pub bounds-out-p-4 : goal.bounds-out-p-4
-bounds-out-p-4 c = simp length-set (omega arith)
+pub bounds-out-q : goal.bounds-out-q
+bounds-out-q c = omega (arith, corner_most, c.loop-f.invariant.same)
+
+pub loop-f-preserved : goal.loop-f-preserved
+loop-f-preserved c = let t = c.loop-f-test.true in
+    put_more (corners_apart _ _ _ c.requires.2 c.requires.1) t c.loop-f.invariant _ (c.corners-four.ensures _ t) _
+    (handed _ _ c.value_in.type_inv c.value_in.ensures)
 
 pub returns : goal.returns
-returns c = let first = c.value_in in
-    let second = c.value_in-2 in
-    let third = c.value_in-3 in
-    four_laid c.args.work.now _ _ _ _ _ _ _ _ c.requires.2 c.requires.1 first.type_inv first.ensures second.type_inv second.ensures
-    third.type_inv third.ensures c.value_in-4.type_inv c.value_in-4.ensures
+returns c = put_count c.loop-f.invariant 4 (omega arith)

@@ -3,6 +3,7 @@ use borrow.Author.Rules.{rules}
 use Rattle.placing.proofs.Band.{few, wide}
 use Rattle.placing.proofs.Blocks.{storing_under, storing_more, storing_all}
 use Rattle.placing.proofs.Calls.{level_begun, level_under}
+use Rattle.placing.proofs.Stores.{word_fits}
 use Rattle.placing.proofs.place_level.Goals as goal
 
 pub overflow_add-coarser : goal.overflow_add-coarser
@@ -15,8 +16,8 @@ loop-b-init c = let size = c.level_size-blocks.ensures in
 pub bounds-work-from : goal.bounds-work-from
 bounds-work-from c = omega (arith, c.loop-b.invariant.stored.same)
 
-pub overflow_cast-z : goal.overflow_cast-z
-overflow_cast-z c = omega (arith, wide)
+pub overflow_cast-p : goal.overflow_cast-p
+overflow_cast-p c = search (rules, word_fits, c.type_inv.work)
 
 pub set_under-requires : goal.set_under-requires
 set_under-requires c = let S = c.loop-b.invariant in
