@@ -33,6 +33,9 @@ module _ {g : ℕ → ℕ → ℕ} {from blocks to : ℕ} {s : List ℕ} {b : �
   pub storing_under : b < blocks → get_or s₁ (from + b) 0 < 2 ^ 20
   storing_under l = omega (arith, read_before l, S.places.under b l)
 
+  pub storing_apart : b < blocks → Apart (λ f. to + 4 * b + f) 4 (length s₁)
+  storing_apart l = apart_row (to + 4 * b) 4 (length s₁) (omega (arith, S.room, S.stored.same))
+
   pub storing_more : b < blocks → {s₂ : List ℕ} → Put 0 (λ f. to + 4 * b + f) 4 (g (get_or s₁ (from + b) 0)) s₁ s₂ → Storing g from blocks to s (b + 1) s₂
   storing_more l K =
       record {

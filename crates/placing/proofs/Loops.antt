@@ -105,7 +105,7 @@ module _ {v : List ℤ} {z : Size} {k : ℕ} {work work₁ : List ℕ} (C : Leve
   copied_end h = record { same = C.same; words = λ x l m n. C.words x l (omega arith) n; blocks = C.blocks }
 
 -- when the blocks are placed, and when the levels are copied
-pub given_copied : {v : List ℤ} {z : Size} {work work₁ work₂ : List ℕ} → Given v z work → Placed z work work₁ → LevelsCopied v z 0 work₁ work₂
+pub given_copied : {v : List ℤ} {z : Size} {k : ℕ} {work work₁ work₂ : List ℕ} → Given v z work → Placed z work work₁ → LevelsCopied v z k work₁ work₂
     → Given v z work₂
 given_copied G P C = given_same G (C.same ∙ P.same)
 

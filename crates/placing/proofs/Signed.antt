@@ -1,16 +1,15 @@
 -- A signed number of 32 bits that a call gave, handed on or stored.
 use mathlib.Core.Path.{◌≡◌, ap, ◌∙◌}
 use mathlib.Core.List.{List}
-use Prim.Native.Nat.{ℕ, ◌+◌, ◌^◌, ◌≤◌, ◌<◌}
-use native.Mathlib.Omega.{arith}
-use lib.ListN.{length, get_or, set}
+use Prim.Native.Nat.{ℕ, ◌^◌, ◌<◌}
+use lib.ListN.{get_or}
 use lib.IntN.{ℤ, pos, nat_abs}
 use lib.Signed.{mag}
 use mir.Syntax.{w32}
 use mir.Val.{to_z, of_z}
 use mir.ValLaws.{to_z-of_z}
 use Rattle.coefficients.specs.Words.{worded, value_of}
-use Rattle.placing.specs.Stores.{Put, Small, corner_of}
+use Rattle.placing.specs.Stores.{Small}
 
 pub handed : (r v : ℤ) → mag r < 2 ^ 31 → r ≡ v → to_z w32 (of_z w32 r) ≡ v
 handed r v h e = to_z-of_z w32 r (record { sfits = h }) ∙ e

@@ -8,11 +8,9 @@ use native.Mathlib.Nat.{mul-le-mul}
 use native.Mathlib.Decide.{dec_lt}
 use lib.Arith.{digits_div, digits_mod}
 use lib.ListN.{length, get_or, set, length-set}
-use lib.IntN.{ℤ, pos}
 use lib.Seq.{get_or-set_same, get_or-set_other}
 use mir.Syntax.{w32, w64}
 use mir.Val.{Fits}
-use Rattle.coefficients.specs.Words.{worded}
 use Rattle.placing.specs.Stores.{Put, Apart, corner_of}
 
 module _ {A : Type 0} {d : A} where

@@ -85,17 +85,6 @@ fn corners(p: usize, w: usize) -> [usize; 4]
     [p, p + 1, p + w, p + w + 1]
 }
 
-// The four blocks under one whose place is p.
-fn set_under(work: &mut [u32], at: usize, p: usize, w: usize)
-    requires { (at + 4 ≤ length work.old) × (p < 2 ^ 20) × (w < 2 ^ 20) }
-    ensures { Put 0 (λ f. at + f) 4 (λ f. 2 * corner_of w p f) work.old work.new }
-{
-    let four = corners(p, w);
-    for (f, q) in four.iter().enumerate() {
-        work[at + f] = (2 * *q) as u32;
-    }
-}
-
 // The blocks of a level, from those of the next coarser one.
 fn place_level(z: Size, k: Level, work: &mut [u32])
     requires { Roomy z work.old × (1 ≤ k.0) × (k.0 < z.n) × BlocksOf z (k.0 + 1) work.old }
@@ -107,7 +96,10 @@ fn place_level(z: Size, k: Level, work: &mut [u32])
     let to = blocks_from(z, k);
     for b in 0..blocks {
         let p = work[from + b] as usize;
-        set_under(work, to + 4 * b, p, z.w);
+        let four = corners(p, z.w);
+        for (f, q) in four.iter().enumerate() {
+            work[to + 4 * b + f] = (2 * *q) as u32;
+        }
     }
 }
 
@@ -129,17 +121,6 @@ fn word_at(pyramid: &[i32], q: usize) -> u32
     coefficients::word_of(coefficients::coefficient_at(pyramid, q))
 }
 
-// The words of the block whose place is p.
-fn copy_block(pyramid: &[i32], p: usize, w: usize, work: &mut [u32], at: usize)
-    requires { Small pyramid.now × (p < 2 ^ 20) × (w < 2 ^ 20) × (at + 4 ≤ length work.old) }
-    ensures { Put 0 (λ f. at + f) 4 (λ f. worded (get_or pyramid.now (corner_of w p f) (pos 0))) work.old work.new }
-{
-    let four = corners(p, w);
-    for (f, q) in four.iter().enumerate() {
-        work[at + f] = word_at(pyramid, *q);
-    }
-}
-
 fn copy_level(pyramid: &[i32], z: Size, k: Level, work: &mut [u32])
     requires { Given pyramid.now z work.old × (1 ≤ k.0) × (k.0 ≤ z.n) × BlocksOf z k.0 work.old }
     ensures { LevelCopied pyramid.now z k.0 work.old work.new }
@@ -149,16 +130,10 @@ fn copy_level(pyramid: &[i32], z: Size, k: Level, work: &mut [u32])
     let to = stretches::stretch_from(z, k);
     for b in 0..blocks {
         let p = work[from + b] as usize;
-        copy_block(pyramid, p, z.w, work, to + 4 * b);
-    }
-}
-
-fn copy_levels(pyramid: &[i32], z: Size, work: &mut [u32])
-    requires { Given pyramid.now z work.old × Blocks z work.old }
-    ensures { LevelsCopied pyramid.now z 0 work.old work.new }
-{
-    for k in (1..=z.n).rev() {
-        copy_level(pyramid, z, Level(k), work);
+        let four = corners(p, z.w);
+        for (f, q) in four.iter().enumerate() {
+            work[to + 4 * b + f] = word_at(pyramid, *q);
+        }
     }
 }
 
@@ -174,23 +149,18 @@ fn copy_row(pyramid: &[i32], z: Size, row: usize, work: &mut [u32])
     }
 }
 
-fn copy_band(pyramid: &[i32], z: Size, work: &mut [u32])
-    requires { Given pyramid.now z work.old }
-    ensures { LevelCopied pyramid.now z (levels z) work.old work.new }
-{
-    for row in 0..z.h >> z.n {
-        copy_row(pyramid, z, row, work);
-    }
-}
-
 // The words of a pyramid, each at its tree number.
 pub fn copy_in(pyramid: &[i32], z: Size, work: &mut [u32])
     requires { Given pyramid.now z work.old }
     ensures { CopiedIn pyramid.now z work.old work.new }
 {
     place_blocks(z, work);
-    copy_levels(pyramid, z, work);
-    copy_band(pyramid, z, work);
+    for k in (1..=z.n).rev() {
+        copy_level(pyramid, z, Level(k), work);
+    }
+    for row in 0..z.h >> z.n {
+        copy_row(pyramid, z, row, work);
+    }
 }
 
 fn value_in(work: &[u32], at: usize) -> i32
@@ -198,17 +168,6 @@ fn value_in(work: &[u32], at: usize) -> i32
     ensures { result ≡ value_of (get_or work.now at 0) }
 {
     coefficients::value_of(work[at])
-}
-
-// The values of a block's words, where it stands.
-fn lay_block(work: &[u32], from: usize, out: &mut [i32], p: usize, w: usize)
-    requires { (from + 4 ≤ length work.now) × (p + w + 1 < length out.old) × (2 ≤ w) }
-    ensures { Put (pos 0) (corner_of w p) 4 (λ f. value_of (get_or work.now (from + f) 0)) out.old out.new }
-{
-    let four = corners(p, w);
-    for (f, q) in four.iter().enumerate() {
-        out[*q] = value_in(work, from + f);
-    }
 }
 
 fn lay_level(z: Size, k: Level, work: &[u32], out: &mut [i32])
@@ -219,16 +178,10 @@ fn lay_level(z: Size, k: Level, work: &[u32], out: &mut [i32])
     let from = blocks_from(z, k);
     let words = stretches::stretch_from(z, k);
     for b in 0..blocks {
-        lay_block(work, words + 4 * b, out, work[from + b] as usize, z.w);
-    }
-}
-
-fn lay_levels(z: Size, work: &[u32], out: &mut [i32])
-    requires { Roomy z work.now × (length out.old ≡ area z) × Blocks z work.now }
-    ensures { LevelsLaid z 0 work.now out.old out.new }
-{
-    for k in (1..=z.n).rev() {
-        lay_level(z, Level(k), work, out);
+        let four = corners(work[from + b] as usize, z.w);
+        for (f, q) in four.iter().enumerate() {
+            out[*q] = value_in(work, words + 4 * b + f);
+        }
     }
 }
 
@@ -245,23 +198,18 @@ fn lay_row(z: Size, row: usize, work: &[u32], out: &mut [i32])
     }
 }
 
-fn lay_band(z: Size, work: &[u32], out: &mut [i32])
-    requires { Roomy z work.now × (length out.old ≡ area z) }
-    ensures { LevelLaid z (levels z) work.now out.old out.new }
-{
-    for row in 0..z.h >> z.n {
-        lay_row(z, row, work, out);
-    }
-}
-
 // The values of the words, row by row.
 pub fn lay_out(z: Size, work: &mut [u32], out: &mut [i32])
     requires { Roomy z work.old × (length out.old ≡ area z) }
     ensures { LaidOut z work.old out.old work.new out.new }
 {
     place_blocks(z, work);
-    lay_levels(z, work, out);
-    lay_band(z, work, out);
+    for k in (1..=z.n).rev() {
+        lay_level(z, Level(k), work, out);
+    }
+    for row in 0..z.h >> z.n {
+        lay_row(z, row, work, out);
+    }
 }
 
 fn clear_level(z: Size, k: Level, work: &mut [u32])

@@ -1,10 +1,14 @@
-use Prim.Native.Nat.{ℕ}
+use Prim.Native.Nat.{ℕ, ◌+◌, ◌*◌}
 use lib.ListN.{get_or}
 use lib.IntN.{pos}
 use Rattle.coefficients.specs.Words.{worded}
-use Rattle.placing.specs.Stores.{corner_of}
+use Rattle.placing.specs.Stores.{Put, corner_of}
 use Rattle.placing.proofs.Blocks.{Storing}
 use Rattle.placing.proofs.copy_level.Given as goal
 
 abbrev pub invariant-loop-b : goal.invariant-loop-b
 invariant-loop-b l = Storing (λ (p f : ℕ). worded (get_or l.pyramid (corner_of l.z.w p f) (pos 0))) l.from l.blocks l.to l.initial.work l.b l.work
+
+abbrev pub invariant-loop-f : goal.invariant-loop-f
+invariant-loop-f l =
+    Put 0 (λ f. l.to + 4 * l.b + f) l.f (λ f. worded (get_or l.pyramid (corner_of l.z.w l.p f) (pos 0))) l.initial.work l.work

@@ -1,9 +1,11 @@
+use mathlib.Core.Path.{refl, ap}
+use Prim.Native.Nat.{ℕ, ◌*◌}
 use native.Mathlib.Omega.{arith}
 use borrow.Author.Rules.{rules}
 use Rattle.placing.proofs.Band.{few, wide}
-use Rattle.placing.proofs.Blocks.{storing_under, storing_more, storing_all}
+use Rattle.placing.proofs.Blocks.{put_count, storing_under, storing_apart, storing_more, storing_all}
 use Rattle.placing.proofs.Calls.{level_begun, level_under}
-use Rattle.placing.proofs.Stores.{word_fits}
+use Rattle.placing.proofs.Stores.{put_none, put_more, corner_most, word_fits}
 use Rattle.placing.proofs.place_level.Goals as goal
 
 pub overflow_add-coarser : goal.overflow_add-coarser
@@ -19,12 +21,25 @@ bounds-work-from c = omega (arith, c.loop-b.invariant.stored.same)
 pub overflow_cast-p : goal.overflow_cast-p
 overflow_cast-p c = search (rules, word_fits, c.type_inv.work)
 
-pub set_under-requires : goal.set_under-requires
-set_under-requires c = let S = c.loop-b.invariant in
-    (omega (arith, S.stored.same), storing_under S c.loop-b-test.true, omega (arith, wide))
+pub corners-four-requires : goal.corners-four-requires
+corners-four-requires c = omega (arith, wide, storing_under c.loop-b.invariant c.loop-b-test.true)
+
+pub loop-f-init : goal.loop-f-init
+loop-f-init c = put_none refl
+
+pub overflow_mul-work : goal.overflow_mul-work
+overflow_mul-work c = omega (arith, corner_most, wide, storing_under c.loop-b.invariant c.loop-b-test.true)
+
+pub overflow_cast-work : goal.overflow_cast-work
+overflow_cast-work c = omega (arith, corner_most, wide, storing_under c.loop-b.invariant c.loop-b-test.true)
+
+pub loop-f-preserved : goal.loop-f-preserved
+loop-f-preserved c = let t = c.loop-f-test.true in
+    put_more (storing_apart c.loop-b.invariant c.loop-b-test.true) t c.loop-f.invariant _ refl _
+    (ap (λ (q : ℕ). 2 * q) (c.corners-four.ensures _ t))
 
 pub loop-b-preserved : goal.loop-b-preserved
-loop-b-preserved c = search (rules, storing_more)
+loop-b-preserved c = storing_more c.loop-b.invariant c.loop-b-test.true (put_count c.loop-f.invariant 4 (omega arith))
 
 pub returns : goal.returns
 returns c = let size = c.level_size-blocks.ensures in
