@@ -28,7 +28,7 @@ use Rattle.placing.proofs.Blocks.{Storing, Laying, Grouping, grouping_none, corn
 use Rattle.placing.proofs.Grid.{raster_root}
 use Rattle.placing.proofs.Levels.{level_placed, blocks_under, blocks_next, words_copied, values_laid, corners_in, places_under, level_apart, band_apart}
 use Rattle.placing.proofs.Levels.{band_laid, band_copied}
-use Rattle.placing.proofs.Band.{across, down, across_half, down_half, raster_row, numbers_apart, row_apart, number_under}
+use Rattle.placing.proofs.Band.{across, down, across_half, down_half, raster_row, numbers_apart, number_under}
 use Rattle.placing.proofs.Band.{wide, least, all, rows, columns}
 
 -- places under one bound are under a larger
@@ -217,9 +217,6 @@ module _ {z : Size} {work : List ℕ} (R : Roomy z work) {i : ℕ} (h : i < band
   row_inside =
       let n : suc i * z.w ≤ z.h * z.w = mul-le-mul (omega (arith, shr_le z.h z.n)) (omega arith) in
       omega (arith, shr_le z.w z.n)
-
-pub row_places : {z : Size} {work : List ℕ} {i m : ℕ} → Roomy z work × (m ≡ area z) × (i < band_rows z) → Apart (index z i) (band_width z) m
-row_places {z} {i = i} p = rw p.1 (row_apart z (legal z p.0.legal) i p.2)
 
 abbrev pub CopyingBand : List ℤ → Size → List ℕ → ℕ → List ℕ → Type 0
 CopyingBand v z work i work₁ =

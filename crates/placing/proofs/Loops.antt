@@ -1,5 +1,5 @@
 -- Level after level: what stands when the levels over k are done, and when all are.
-use mathlib.Core.Path.{◌≡◌, refl, sym, ap, subst, ◌∙◌}
+use mathlib.Core.Path.{◌≡◌, refl, sym, ap, ◌∙◌}
 use mathlib.Core.Logic.{◌≢◌}
 use mathlib.Core.List.{List}
 use Prim.Native.Nat.{ℕ, ◌+◌, ◌-◌, ◌*◌, ◌≤◌, ◌<◌}
@@ -23,7 +23,7 @@ use Rattle.coefficients.specs.Words.{worded, value_of}
 use Rattle.stretches.specs.Workspace.{word_in, drawn_at}
 use Rattle.stretches.specs.Levels.{words_from, level_before, stretch_room, Numbered, numbered, word_level, word_numbered, put_inside, put_before, put_behind}
 use Rattle.placing.specs.Stores.{Small}
-use Rattle.placing.specs.Placing.{Roomy, Given, BlocksOf, Blocks, LevelPlaced, Placed, LevelCopied, LevelsCopied, CopiedIn, LevelLaid, LevelsLaid}
+use Rattle.placing.specs.Placing.{Roomy, Given, BlocksOf, Placed, LevelCopied, LevelsCopied, CopiedIn, LevelLaid, LevelsLaid}
 use Rattle.placing.specs.Placing.{LaidOut, LevelCleared, Cleared}
 
 -- A workspace and what is given stay in order.
@@ -39,68 +39,14 @@ given_small {v} G =
     record { small = λ q. omega (arith, magnitude_most v q, range_greatest most_magnitude v G.range) }
 
 -- Blocks.
-pub blocks_of : {z : Size} {k : ℕ} {work : List ℕ} → Blocks z work → 1 ≤ k → k ≤ z.n → BlocksOf z k work
-blocks_of {k = k} B h l = B.of k h l
-
 pub record PlacedFrom (z : Size) (k : ℕ) (work work' : List ℕ) : Type 0 where
   pub roomy : Roomy z work'
   pub same : length work' ≡ length work
   pub words : (x : ℕ) → x < area z → word_in z work' x ≡ word_in z work x
   pub blocks : (j : ℕ) → k ≤ j → j ≤ z.n → BlocksOf z j work'
 
-pub placed_first : {z : Size} {work work' : List ℕ} → Roomy z work → LevelPlaced z z.n work work' → PlacedFrom z z.n work' work'
-placed_first {z} {work} {work'} R L =
-    record {
-      roomy = roomy_same R L.same;
-      same = refl;
-      words = λ x h. refl;
-      blocks = λ j h l. subst (λ (i : ℕ). BlocksOf z i work') (omega arith) L.own;
-    }
-
-module _ {z : Size} {k : ℕ} {work work₁ : List ℕ} (P : PlacedFrom z k work work₁) where
-  -- those over the level that comes next
-  pub placed_over : 1 < k → k ≤ z.n → BlocksOf z (k - 1 + 1) work₁
-  placed_over h l = subst (λ (i : ℕ). BlocksOf z i work₁) (omega arith) (P.blocks k (omega arith) l)
-
-  pub placed_more : 1 < k → {work₂ : List ℕ} → LevelPlaced z (k - 1) work₁ work₂ → PlacedFrom z (k - 1) work work₂
-  placed_more h {work₂} L =
-      record {
-        roomy = roomy_same P.roomy L.same;
-        same = L.same ∙ P.same;
-        words = λ x l. L.words x l ∙ P.words x l;
-        blocks = λ j l m. by j l m (ℕ_discrete (k - 1) j);
-      }
-    where
-      by : (j : ℕ) → k - 1 ≤ j → j ≤ z.n → Dec (k - 1 ≡ j) → BlocksOf z j work₂
-      by j l m (yes e) = rw e at L.own
-      by j l m (no e) = L.others j (omega arith) m (λ i. e (sym i)) (P.blocks j (omega arith) m)
-
-  pub placed_all : k ≤ 1 → {work₀ : List ℕ} → LevelPlaced z z.n work₀ work → Placed z work₀ work₁
-  placed_all h L =
-      record {
-        same = P.same ∙ L.same;
-        words = λ x l. P.words x l ∙ L.words x l;
-        blocks = record { of = λ j l m. P.blocks j (omega arith) m };
-      }
-
 -- Words copied in.
-pub copied_none : {v : List ℤ} {z : Size} {work : List ℕ} → Blocks z work → LevelsCopied v z z.n work work
-copied_none B = record { same = refl; words = λ x h l m. absurd (omega arith); blocks = B }
-
 module _ {v : List ℤ} {z : Size} {k : ℕ} {work work₁ : List ℕ} (C : LevelsCopied v z k work work₁) where
-  pub copied_more : {work₂ : List ℕ} → LevelCopied v z k work₁ work₂ → LevelsCopied v z (k - 1) work work₂
-  copied_more {work₂} L =
-      record {
-        same = L.same ∙ C.same;
-        words = λ x l m n. by x l m n (ℕ_discrete (tree_level z x) k);
-        blocks = L.blocks C.blocks;
-      }
-    where
-      by : (x : ℕ) → x < area z → k - 1 < tree_level z x → tree_level z x ≤ z.n → Dec (tree_level z x ≡ k)
-          → word_in z work₂ x ≡ worded (get_or v (coefficient_of z x) (pos 0))
-      by x l m n (yes e) = L.own x l e
-      by x l m n (no e) = L.others x l e ∙ C.words x l (omega arith) n
-
   pub copied_end : k < 1 → LevelsCopied v z 0 work work₁
   copied_end h = record { same = C.same; words = λ x l m n. C.words x l (omega arith) n; blocks = C.blocks }
 
@@ -119,18 +65,7 @@ copied_all {v} {z} Z {work} {work₁} {work₂} {work₃} P C L =
     by x l N (no e) = L.others x l e ∙ C.words x l (omega (arith, N.some)) (omega (arith, N.most))
 
 -- Values laid out.
-pub laid_none : {z : Size} {work : List ℕ} {out : List ℤ} → LevelsLaid z z.n work out out
-laid_none = record { same = refl; values = λ q h l m. absurd (omega arith) }
-
 module _ {z : Size} {k : ℕ} {work : List ℕ} {out out₁ : List ℤ} (C : LevelsLaid z k work out out₁) where
-  pub laid_more : {out₂ : List ℤ} → LevelLaid z k work out₁ out₂ → LevelsLaid z (k - 1) work out out₂
-  laid_more {out₂} L = record { same = L.same ∙ C.same; values = λ q l m n. by q l m n (ℕ_discrete (level_of z q) k) }
-    where
-      by : (q : ℕ) → q < area z → k - 1 < level_of z q → level_of z q ≤ z.n → Dec (level_of z q ≡ k)
-          → get_or out₂ q (pos 0) ≡ value_of (word_in z work (number_of z q))
-      by q l m n (yes e) = L.own q l e
-      by q l m n (no e) = L.others q l e ∙ C.values q l (omega arith) n
-
   pub laid_end : k < 1 → LevelsLaid z 0 work out out₁
   laid_end h = record { same = C.same; values = λ q l m n. C.values q l (omega arith) n }
 
@@ -161,13 +96,6 @@ cleared_none {z} R =
     record { same = refl; words = λ x h l. absurd (omega (arith, (numbered z (legal z R.legal) x h).most)) }
 
 module _ {z : Size} {k : ℕ} {work work₁ : List ℕ} (C : ClearedOver z k work work₁) where
-  pub cleared_more : {work₂ : List ℕ} → LevelCleared z k work₁ work₂ → ClearedOver z (k - 1) work work₂
-  cleared_more {work₂} L = record { same = L.same ∙ C.same; words = λ x l m. by x l m (ℕ_discrete (tree_level z x) k) }
-    where
-      by : (x : ℕ) → x < area z → k - 1 < tree_level z x → Dec (tree_level z x ≡ k) → word_in z work₂ x ≡ 0
-      by x l m (yes e) = L.own x l e
-      by x l m (no e) = L.others x l e ∙ C.words x l (omega arith)
-
   pub cleared_all : Roomy z work → k < 1 → Cleared z work work₁
   cleared_all R h =
       record { same = C.same; words = λ x l. C.words x l (omega (arith, (numbered z (legal z R.legal) x l).some)) }

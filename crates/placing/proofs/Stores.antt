@@ -9,8 +9,6 @@ use native.Mathlib.Decide.{dec_lt}
 use lib.Arith.{digits_div, digits_mod}
 use lib.ListN.{length, get_or, set, length-set}
 use lib.Seq.{get_or-set_same, get_or-set_other}
-use mir.Syntax.{w32, w64}
-use mir.Val.{Fits}
 use Rattle.placing.specs.Stores.{Put, Apart, corner_of}
 
 module _ {A : Type 0} {d : A} where
@@ -180,7 +178,3 @@ block_inside from blocks b w m s A h =
     let e : corner_of w (get_or s (from + (4 * b + 3) / 4) 0) ((4 * b + 3) % 4) ≡ get_or s (from + b) 0 + w + 1 =
     ap₂ (λ (u f : ℕ). corner_of w (get_or s (from + u) 0) f) x.0 x.1 ∙ corner_last w (get_or s (from + b) 0) in
     omega (arith, A.inside (4 * b + 3) (omega arith))
-
--- a word fits an index
-pub word_fits : {n : ℕ} → Fits w32 n → Fits w64 n
-word_fits f = omega arith

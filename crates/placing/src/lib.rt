@@ -46,17 +46,7 @@ fn set_roots(work: &mut [u32], at: usize, p: u32, right: u32, below: u32)
     work[at + 2] = p + below + right;
 }
 
-// A row of groups, the first one's place at p.
-fn place_row(work: &mut [u32], to: usize, across: usize, p: u32, right: u32, below: u32)
-    requires { (to + 3 * across ≤ length work.old) × (p + 2 * across < 2 ^ 20) × (right < 2 ^ 20) × (below < 2 ^ 20) }
-    ensures { Put 0 (λ t. to + t) (3 * across) (λ t. rank_of right below (p + 2 * (t / 3)) (t % 3)) work.old work.new }
-{
-    for j in 0..across {
-        set_roots(work, to + 3 * j, p + 2 * (j as u32), right, below);
-    }
-}
-
-// The blocks of level N, under the roots of the LL band.
+// The blocks of level N, under the roots of the LL band. Size and workspace stay two, as the contracts of copy_in, lay_out and clear take them.
 fn place_roots(z: Size, work: &mut [u32])
     requires { Roomy z work.old }
     ensures { LevelPlaced z z.n work.old work.new }
@@ -65,15 +55,14 @@ fn place_roots(z: Size, work: &mut [u32])
     let rows = z.h >> half;
     let across = z.w >> half;
     let to = blocks_from(z, Level(z.n));
+    let right = (2 * across) as u32;
+    let below = (2 * rows * z.w) as u32;
     for i in 0..rows {
-        place_row(
-            work,
-            to + 3 * (i * across),
-            across,
-            (2 * i * z.w) as u32,
-            (2 * across) as u32,
-            (2 * rows * z.w) as u32,
-        );
+        for j in 0..across {
+            let at = to + 3 * (i * across) + 3 * j;
+            let p = 2 * i * z.w + 2 * j;
+            set_roots(work, at, p as u32, right, below);
+        }
     }
 }
 
@@ -96,8 +85,7 @@ fn place_level(z: Size, k: Level, work: &mut [u32])
     let to = blocks_from(z, k);
     for b in 0..blocks {
         let p = work[from + b] as usize;
-        let four = corners(p, z.w);
-        for (f, q) in four.iter().enumerate() {
+        for (f, q) in corners(p, z.w).iter().enumerate() {
             work[to + 4 * b + f] = (2 * *q) as u32;
         }
     }
@@ -121,6 +109,7 @@ fn word_at(pyramid: &[i32], q: usize) -> u32
     coefficients::word_of(coefficients::coefficient_at(pyramid, q))
 }
 
+// Apart from place_level and lay_level, as copy_row from lay_row: closures for their buffers, values and places would be longer than the loops.
 fn copy_level(pyramid: &[i32], z: Size, k: Level, work: &mut [u32])
     requires { Given pyramid.now z work.old × (1 ≤ k.0) × (k.0 ≤ z.n) × BlocksOf z k.0 work.old }
     ensures { LevelCopied pyramid.now z k.0 work.old work.new }
@@ -130,8 +119,7 @@ fn copy_level(pyramid: &[i32], z: Size, k: Level, work: &mut [u32])
     let to = stretches::stretch_from(z, k);
     for b in 0..blocks {
         let p = work[from + b] as usize;
-        let four = corners(p, z.w);
-        for (f, q) in four.iter().enumerate() {
+        for (f, q) in corners(p, z.w).iter().enumerate() {
             work[to + 4 * b + f] = word_at(pyramid, *q);
         }
     }
@@ -178,8 +166,7 @@ fn lay_level(z: Size, k: Level, work: &[u32], out: &mut [i32])
     let from = blocks_from(z, k);
     let words = stretches::stretch_from(z, k);
     for b in 0..blocks {
-        let four = corners(work[from + b] as usize, z.w);
-        for (f, q) in four.iter().enumerate() {
+        for (f, q) in corners(work[from + b] as usize, z.w).iter().enumerate() {
             out[*q] = value_in(work, words + 4 * b + f);
         }
     }

@@ -1,7 +1,7 @@
 use native.Mathlib.Omega.{arith}
 use borrow.Author.Rules.{rules}
-use Rattle.placing.proofs.Band.{few, all}
-use Rattle.placing.proofs.Calls.{row_numbers, number_inside, row_inside}
+use Rattle.placing.proofs.Band.{few}
+use Rattle.placing.proofs.Calls.{row_numbers, row_inside}
 use Rattle.placing.proofs.Blocks.{rowing_none, rowing_more, rowing_all}
 use Rattle.placing.proofs.Loops.{given_small}
 use Rattle.placing.proofs.copy_row.Goals as goal
@@ -12,17 +12,8 @@ overflow_shr-column-end c = omega (arith, few)
 pub loop-column-init : goal.loop-column-init
 loop-column-init c = let p = c.requires in rowing_none (row_inside p.0.roomy p.1) (row_numbers p.0.roomy p.1)
 
-pub overflow_mul-row : goal.overflow_mul-row
-overflow_mul-row c = omega (arith, all)
-
-pub overflow_add-row : goal.overflow_add-row
-overflow_add-row c = omega (arith, all)
-
 pub word_at-requires : goal.word_at-requires
 word_at-requires c = search (rules, given_small)
-
-pub bounds-work-x : goal.bounds-work-x
-bounds-work-x c = search (rules, number_inside)
 
 pub loop-column-preserved : goal.loop-column-preserved
 loop-column-preserved c = search (rules, rowing_more)

@@ -1,14 +1,7 @@
 use native.Mathlib.Omega.{arith}
-use lib.ListN.{length-set}
 use Rattle.placing.proofs.Stores.{put_three, apart_row}
 use Rattle.placing.specs.Stores.{rank_of}
 use Rattle.placing.proofs.set_roots.Goals as goal
-
-pub bounds-work-at-2 : goal.bounds-work-at-2
-bounds-work-at-2 c = simp length-set (omega arith)
-
-pub bounds-work-at-3 : goal.bounds-work-at-3
-bounds-work-at-3 c = simp length-set (omega arith)
 
 pub returns : goal.returns
 unfolding rank_of
