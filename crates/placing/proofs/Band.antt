@@ -166,11 +166,8 @@ module _ (z : Size) (i j : ℕ) (p : InBand z i j) where
       ∙ ap₂ (λ (d a : ℕ). d * a + 3 * (i / 2 * a + j / 2) + (i % 2 * 2 + j % 2 - 1)) (sym (down_half z)) (sym (across_half z))) in
       (e, rw e number_small)
 
--- a row of the band: its places, and its numbers
+-- the numbers of a row of the band
 module _ (z : Size) (Z : Legal z) (i : ℕ) (h : i < z.h / 2 ^ z.n) where
-  pub row_apart : Apart (index z i) (band_width z) (area z)
-  row_apart = record { inside = λ j l. index_area z Z i j h l; one = λ j k l m e. omega arith }
-
   pub numbers_apart : (m : ℕ) → area z ≤ m → Apart (λ j. number_of z (index z i j)) (band_width z) m
   numbers_apart m g =
       record {
