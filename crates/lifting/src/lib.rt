@@ -17,11 +17,7 @@ ghost use Rattle.lifting.specs.Pictures.{Splitting, Split, Joining, Joined};
 
 use rules::Size;
 
-const BIAS: u32 = 268435456;
-
-const HALF_BIAS: u32 = 134217728;
-
-const SIGNED_BIAS: i32 = 268435456;
+const BIAS: u32 = 1 << 28;
 
 // A turn: half the sides of its block, the width of a row of the pyramid, and where in the workspace the lines stand.
 #[derive(Clone, Copy)]
@@ -43,14 +39,14 @@ fn tone_low(x: u32, d: u32, e: u32) -> u32
     requires { (x ≤ bias + reach) × (bias ≤ x + reach) × (d ≤ 2 * bias) × (e ≤ 2 * bias) }
     ensures { result ≡ tone_low x d e }
 {
-    x + (d + e + 2) / 4 - HALF_BIAS
+    x + (d + e + 2) / 4 - BIAS / 2
 }
 
 fn coefficient_of(t: u32) -> i32
     requires { t ≤ 2 * bias }
     ensures { result ≡ toned t }
 {
-    t as i32 - SIGNED_BIAS
+    t as i32 - BIAS as i32
 }
 
 // The row of highs of three rows.
@@ -58,11 +54,9 @@ fn high_line(work: &mut [u32], a: usize, b: usize, c: usize, to: usize, width: u
     requires { ForHighs work.old a b c to width }
     ensures { Filled 0 work.old (along to) (row_high work.old a b c) width work.new }
 {
-    let mut j = 0;
-    while j < width {
+    for j in 0..width {
         let high = tone_high(work[a + j], work[b + j], work[c + j]);
         work[to + j] = high;
-        j += 1;
     }
 }
 
@@ -72,14 +66,12 @@ fn lift_rows(work: &mut [u32], a: usize, b: usize, c: usize, d: usize, e: usize,
     ensures { Both work.old (along e) (row_low work.old a b c d) (along d)
         (row_high work.old a b c) width work.new }
 {
-    let mut j = 0;
-    while j < width {
+    for j in 0..width {
         let even = work[a + j];
         let high = tone_high(even, work[b + j], work[c + j]);
         let low = tone_low(even, work[d + j], high);
         work[e + j] = low;
         work[d + j] = high;
-        j += 1;
     }
 }
 
@@ -90,15 +82,13 @@ fn split_line(work: &mut [u32], x: usize, lows: usize, highs: usize, m: usize)
         (high_of (line work.old x)) m work.new }
 {
     let mut before = tone_high(work[x], work[x + 1], work[x + 2]);
-    let mut j = 0;
-    while j < m {
+    for j in 0..m {
         let even = work[x + 2 * j];
         let high = tone_high(even, work[x + (2 * j + 1)], work[x + (2 * j + 2)]);
         let low = tone_low(even, before, high);
         work[lows + j] = low;
         work[highs + j] = high;
         before = high;
-        j += 1;
     }
 }
 
@@ -115,11 +105,9 @@ fn store_line(work: &[u32], from: usize, out: &mut [i32], at: usize, count: usiz
     requires { ForStore work.now from out.old at count }
     ensures { Filled (pos 0) out.old (along at) (λ c. toned (line work.now from c)) count out.new }
 {
-    let mut j = 0;
-    while j < count {
+    for j in 0..count {
         let v = coefficient_of(work[from + j]);
         out[at + j] = v;
-        j += 1;
     }
 }
 
@@ -152,17 +140,6 @@ fn split_high_row(turn: Turn, work: &mut [u32], out: &mut [i32], i: usize)
     store_line(work, spare, out, at, 2 * m);
 }
 
-// The even row after pair i; behind the last one it is that pair's own.
-fn pair_after(i: usize, pairs: usize) -> usize
-    requires { i < pairs }
-    ensures { result ≡ min (i + 1) (pairs - 1) }
-{
-    if i + 1 < pairs {
-        return i + 1;
-    }
-    i
-}
-
 // Rows 2i and 2i + 1 of the picture, with the highs before.
 fn split_pair(turn: Turn, work: &mut [u32], out: &mut [i32], i: usize)
     requires { ForPair turn work.old out.old i }
@@ -170,7 +147,8 @@ fn split_pair(turn: Turn, work: &mut [u32], out: &mut [i32], i: usize)
 {
     let w = 2 * turn.half;
     let a = 2 * i * w;
-    let c = 2 * pair_after(i, turn.pairs) * w;
+    let after = (i + 1).min(turn.pairs - 1);
+    let c = 2 * after * w;
     lift_rows(work, a, a + w, c, turn.lines, turn.lines + (w + 1), w);
     split_low_row(turn, work, out, i);
     split_high_row(turn, work, out, i);
@@ -182,12 +160,11 @@ fn split_turn(turn: Turn, work: &mut [u32], out: &mut [i32])
     ensures { TurnSplit turn work.old out.old work.new out.new }
 {
     let w = 2 * turn.half;
-    let c = 2 * pair_after(0, turn.pairs) * w;
+    let after = (turn.pairs - 1).min(1);
+    let c = 2 * after * w;
     high_line(work, 0, w, c, turn.lines, w);
-    let mut i = 0;
-    while i < turn.pairs {
+    for i in 0..turn.pairs {
         split_pair(turn, work, out, i);
-        i += 1;
     }
 }
 
@@ -208,10 +185,8 @@ fn store_block(work: &[u32], out: &mut [i32], height: usize, width: usize, strid
     requires { ForBlock work.now out.old height width stride }
     ensures { BlockStored work.now out.old height width stride out.new }
 {
-    let mut i = 0;
-    while i < height {
+    for i in 0..height {
         store_line(work, i * width, out, i * stride, width);
-        i += 1;
     }
 }
 
@@ -219,10 +194,8 @@ pub fn split_picture(z: Size, work: &mut [u32], out: &mut [i32])
     requires { Splitting z work.old out.old }
     ensures { Split z work.old out.old work.new out.new }
 {
-    let mut l = 0;
-    while l < z.n {
+    for l in 0..z.n {
         split_turn(turn_of(z, l), work, out);
-        l += 1;
     }
     store_block(work, out, z.h >> z.n, z.w >> z.n, z.w);
 }
@@ -231,7 +204,7 @@ fn tone_even(s: u32, d: u32, e: u32) -> u32
     requires { (bias ≤ s + reach) × (s ≤ bias + reach) × (d ≤ bias + reach) × (e ≤ bias + reach) }
     ensures { result ≡ tone_even s d e }
 {
-    s + HALF_BIAS - (d + e + 2) / 4
+    s + BIAS / 2 - (d + e + 2) / 4
 }
 
 fn tone_odd(d: u32, x: u32, y: u32) -> u32
@@ -245,18 +218,16 @@ fn tone_of(v: i32) -> u32
     requires { nat_abs v ≤ most_back }
     ensures { result ≡ tone_of v }
 {
-    (v + SIGNED_BIAS) as u32
+    (v + BIAS as i32) as u32
 }
 
 fn load_line(pyramid: &[i32], at: usize, work: &mut [u32], to: usize, count: usize)
     requires { ForLoad pyramid.now at work.old to count }
     ensures { Filled 0 work.old (along to) (tones_at pyramid.now at) count work.new }
 {
-    let mut j = 0;
-    while j < count {
+    for j in 0..count {
         let t = tone_of(pyramid[at + j]);
         work[to + j] = t;
-        j += 1;
     }
 }
 
@@ -267,13 +238,11 @@ fn even_line(work: &mut [u32], lows: usize, highs: usize, to: usize, m: usize)
         (even_t (line work.old lows) (line work.old highs)) m work.new }
 {
     let mut before = work[highs];
-    let mut j = 0;
-    while j < m {
+    for j in 0..m {
         let high = work[highs + j];
         let even = tone_even(work[lows + j], before, high);
         work[to + 2 * j] = even;
         before = high;
-        j += 1;
     }
 }
 
@@ -282,11 +251,9 @@ fn odd_line(work: &mut [u32], highs: usize, to: usize, m: usize)
     requires { ForOdds work.old highs to m }
     ensures { Filled 0 work.old (λ c. to + (2 * c + 1)) (between work.old highs to) m work.new }
 {
-    let mut j = 0;
-    while j < m {
+    for j in 0..m {
         let odd = tone_odd(work[highs + j], work[to + 2 * j], work[to + (2 * j + 2)]);
         work[to + (2 * j + 1)] = odd;
-        j += 1;
     }
 }
 
@@ -329,11 +296,9 @@ fn even_rows(work: &mut [u32], e: usize, p: usize, d: usize, to: usize, width: u
     requires { ForEvenRow work.old e p d to width }
     ensures { Filled 0 work.old (along to) (row_even work.old e p d) width work.new }
 {
-    let mut j = 0;
-    while j < width {
+    for j in 0..width {
         let even = tone_even(work[e + j], work[p + j], work[d + j]);
         work[to + j] = even;
-        j += 1;
     }
 }
 
@@ -343,23 +308,12 @@ fn odd_rows(work: &mut [u32], d: usize, p: usize, next: usize, to: usize, width:
     ensures { Both work.old (along (to + width)) (row_odd work.old d to next) (along d)
         (line work.old p) width work.new }
 {
-    let mut j = 0;
-    while j < width {
+    for j in 0..width {
         let odd = tone_odd(work[d + j], work[to + j], work[next + j]);
         let before = work[p + j];
         work[to + width + j] = odd;
         work[d + j] = before;
-        j += 1;
     }
-}
-
-fn pair_before(i: usize) -> usize
-    ensures { result ≡ i - 1 }
-{
-    if 0 < i {
-        return i - 1;
-    }
-    0
 }
 
 // Rows 2i and 2i + 1 of the picture, whose own row of highs stands in its line; then the one before stands there.
@@ -369,8 +323,9 @@ fn join_pair(turn: Turn, pyramid: &[i32], work: &mut [u32], i: usize)
 {
     let w = 2 * turn.half;
     let to = 2 * i * w;
-    let next = 2 * pair_after(i, turn.pairs) * w;
-    let before = pair_before(i);
+    let after = (i + 1).min(turn.pairs - 1);
+    let next = 2 * after * w;
+    let before = i.saturating_sub(1);
     let d = turn.lines;
     let p = d + (w + 1);
     let e = d + (4 * turn.half + 2);
@@ -387,9 +342,7 @@ fn join_turn(turn: Turn, pyramid: &[i32], work: &mut [u32])
 {
     let last = turn.pairs - 1;
     join_high_row(turn, pyramid, work, last, turn.lines);
-    let mut i = turn.pairs;
-    while 0 < i {
-        i -= 1;
+    for i in (0..turn.pairs).rev() {
         join_pair(turn, pyramid, work, i);
     }
 }
@@ -399,12 +352,10 @@ fn load_block(pyramid: &[i32], work: &mut [u32], height: usize, width: usize, st
     requires { ForBlockLoad pyramid.now work.old height width stride }
     ensures { BlockLoaded pyramid.now work.old height width stride work.new }
 {
-    let mut i = 0;
-    while i < height {
+    for i in 0..height {
         let from = i * stride;
         let to = i * width;
         load_line(pyramid, from, work, to, width);
-        i += 1;
     }
 }
 
@@ -413,9 +364,7 @@ pub fn join_pyramid(z: Size, pyramid: &[i32], work: &mut [u32])
     ensures { Joined z pyramid.now work.old work.new }
 {
     load_block(pyramid, work, z.h >> z.n, z.w >> z.n, z.w);
-    let mut l = z.n;
-    while 0 < l {
-        l -= 1;
+    for l in (0..z.n).rev() {
         join_turn(turn_of(z, l), pyramid, work);
     }
 }

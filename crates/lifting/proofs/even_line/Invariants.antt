@@ -1,5 +1,5 @@
 use mathlib.Core.Path.{◌≡◌}
-use Prim.Native.Nat.{◌-◌, ◌≤◌, ◌+◌, ◌*◌}
+use Prim.Native.Nat.{◌-◌, ◌+◌, ◌*◌}
 use Rattle.lifting.specs.Fills.{Filled}
 use Rattle.lifting.specs.Lines.{line}
 use Rattle.lifting.specs.Joins.{even_t}
@@ -7,8 +7,5 @@ use Rattle.lifting.proofs.even_line.Given as goal
 
 abbrev pub invariant-loop-j : goal.invariant-loop-j
 invariant-loop-j l =
-    (l.j ≤ l.m) × Filled 0 l.initial.work (λ c. l.to + 2 * c) (even_t (line l.initial.work l.lows) (line l.initial.work l.highs)) l.j l.work
+    Filled 0 l.initial.work (λ c. l.to + 2 * c) (even_t (line l.initial.work l.lows) (line l.initial.work l.highs)) l.j l.work
     × (l.before ≡ line l.initial.work l.highs (l.j - 1))
-
-abbrev pub decreases-loop-j : goal.decreases-loop-j
-decreases-loop-j l = l.m - l.j

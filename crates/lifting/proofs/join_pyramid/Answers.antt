@@ -15,13 +15,13 @@ pub load_block-requires : goal.load_block-requires
 load_block-requires c = search (rules, back_block)
 
 pub loop-l-init : goal.loop-l-init
-loop-l-init c = (omega arith, search (rules, block_joining), search (rules, back_start))
+loop-l-init c = (search (rules, block_joining), search (rules, back_start))
 
 pub join_turn-requires : goal.join_turn-requires
 join_turn-requires c = search (rules, turn_asks)
 
 pub loop-l-preserved : goal.loop-l-preserved
-loop-l-preserved c = (omega arith, search rules, search (rules, turn_next))
+loop-l-preserved c = (search rules, search (rules, turn_next))
 
 pub returns : goal.returns
 returns c = search (rules, back_end)

@@ -1,20 +1,16 @@
 -- `lifting::join_turn`: rows from 2i on are the picture; what is before them is as it was.
-use native.Mathlib.Omega.{arith}
 use borrow.Author.Rules.{rules}
-use Rattle.lifting.proofs.JoinTurns.{last_row, join_still, rejoined_none, rejoin_pair, rejoin_more, turn_joined}
+use Rattle.lifting.proofs.JoinTurns.{join_still, rejoined_none, rejoin_pair, rejoin_more, turn_joined}
 use Rattle.lifting.proofs.join_turn.Goals as goal
 
-pub join_high_row-requires : goal.join_high_row-requires
-join_high_row-requires c = search (rules, last_row)
-
 pub loop-i-init : goal.loop-i-init
-loop-i-init c = (omega arith, search (rules, join_still), search (rules, rejoined_none))
+loop-i-init c = (search (rules, join_still), search (rules, rejoined_none))
 
 pub join_pair-requires : goal.join_pair-requires
 join_pair-requires c = search (rules, rejoin_pair)
 
 pub loop-i-preserved : goal.loop-i-preserved
-loop-i-preserved c = (omega arith, search rules, search (rules, rejoin_more))
+loop-i-preserved c = (search rules, search (rules, rejoin_more))
 
 pub returns : goal.returns
 returns c = search (rules, turn_joined)

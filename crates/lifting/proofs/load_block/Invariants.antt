@@ -1,9 +1,5 @@
-use Prim.Native.Nat.{◌-◌, ◌≤◌}
 use Rattle.lifting.specs.Joins.{BlockLoaded}
 use Rattle.lifting.proofs.load_block.Given as goal
 
 abbrev pub invariant-loop-i : goal.invariant-loop-i
-invariant-loop-i l = (l.i ≤ l.height) × BlockLoaded l.pyramid l.initial.work l.i l.width l.stride l.work
-
-abbrev pub decreases-loop-i : goal.decreases-loop-i
-decreases-loop-i l = l.height - l.i
+invariant-loop-i l = BlockLoaded l.pyramid l.initial.work l.i l.width l.stride l.work

@@ -1,10 +1,6 @@
-use Prim.Native.Nat.{◌-◌, ◌≤◌}
 use Rattle.lifting.specs.Fills.{along, Filled}
 use Rattle.lifting.specs.Joins.{tones_at}
 use Rattle.lifting.proofs.load_line.Given as goal
 
 abbrev pub invariant-loop-j : goal.invariant-loop-j
-invariant-loop-j l = (l.j ≤ l.count) × Filled 0 l.initial.work (along l.to) (tones_at l.pyramid l.at) l.j l.work
-
-abbrev pub decreases-loop-j : goal.decreases-loop-j
-decreases-loop-j l = l.count - l.j
+invariant-loop-j l = Filled 0 l.initial.work (along l.to) (tones_at l.pyramid l.at) l.j l.work

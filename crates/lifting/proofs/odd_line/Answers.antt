@@ -1,18 +1,15 @@
 -- `lifting::odd_line`: one more odd number each turn.
 use native.Mathlib.Omega.{arith}
 use borrow.Author.Rules.{rules}
-use Rattle.lifting.proofs.Filling.{filled_none, filled_end}
+use Rattle.lifting.proofs.Filling.{filled_end}
 use Rattle.lifting.proofs.JoinLines.{odd_asks, odd_more}
 use Rattle.lifting.proofs.odd_line.Goals as goal
 
-pub loop-j-init : goal.loop-j-init
-loop-j-init c = (omega arith, filled_none)
-
 pub tone_odd-odd-requires : goal.tone_odd-odd-requires
-tone_odd-odd-requires c = odd_asks c.requires c.loop-j.invariant.1 (omega arith)
+tone_odd-odd-requires c = odd_asks c.requires c.loop-j.invariant (omega arith)
 
 pub loop-j-preserved : goal.loop-j-preserved
-loop-j-preserved c = (omega arith, search (rules, odd_more))
+loop-j-preserved c = search (rules, odd_more)
 
 pub returns : goal.returns
-returns c = filled_end c.loop-j.invariant.1 (omega arith)
+returns c = filled_end c.loop-j.invariant (omega arith)

@@ -1,4 +1,4 @@
-use Prim.Native.Nat.{◌-◌, ◌≤◌, ◌+◌}
+use Prim.Native.Nat.{◌+◌}
 use Rattle.lifting.specs.Fills.{along, Both}
 use Rattle.lifting.specs.Lines.{line}
 use Rattle.lifting.specs.Joins.{row_odd}
@@ -6,8 +6,5 @@ use Rattle.lifting.proofs.odd_rows.Given as goal
 
 abbrev pub invariant-loop-j : goal.invariant-loop-j
 invariant-loop-j l =
-    (l.j ≤ l.width) × Both l.initial.work (along (l.to + l.width)) (row_odd l.initial.work l.d l.to l.next) (along l.d)
+    Both l.initial.work (along (l.to + l.width)) (row_odd l.initial.work l.d l.to l.next) (along l.d)
     (line l.initial.work l.p) l.j l.work
-
-abbrev pub decreases-loop-j : goal.decreases-loop-j
-decreases-loop-j l = l.width - l.j

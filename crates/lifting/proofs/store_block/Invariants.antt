@@ -1,9 +1,5 @@
-use Prim.Native.Nat.{◌-◌, ◌≤◌}
 use Rattle.lifting.specs.Turns.{BlockStored}
 use Rattle.lifting.proofs.store_block.Given as goal
 
 abbrev pub invariant-loop-i : goal.invariant-loop-i
-invariant-loop-i l = (l.i ≤ l.height) × BlockStored l.work l.initial.out l.i l.width l.stride l.out
-
-abbrev pub decreases-loop-i : goal.decreases-loop-i
-decreases-loop-i l = l.height - l.i
+invariant-loop-i l = BlockStored l.work l.initial.out l.i l.width l.stride l.out

@@ -1,4 +1,3 @@
-use Prim.Native.Nat.{◌-◌, ◌≤◌}
 use lib.IntN.{pos}
 use Rattle.pictures.specs.Laws.Tones.{toned}
 use Rattle.lifting.specs.Fills.{along, Filled}
@@ -6,7 +5,4 @@ use Rattle.lifting.specs.Lines.{line}
 use Rattle.lifting.proofs.store_line.Given as goal
 
 abbrev pub invariant-loop-j : goal.invariant-loop-j
-invariant-loop-j l = (l.j ≤ l.count) × Filled (pos 0) l.initial.out (along l.at) (λ c. toned (line l.work l.from c)) l.j l.out
-
-abbrev pub decreases-loop-j : goal.decreases-loop-j
-decreases-loop-j l = l.count - l.j
+invariant-loop-j l = Filled (pos 0) l.initial.out (along l.at) (λ c. toned (line l.work l.from c)) l.j l.out
