@@ -15,6 +15,7 @@ use Rattle.lifting.specs.Fills.{along, Off, Filled, Both}
 use Rattle.lifting.specs.Lines.{reach, line, Near}
 use Rattle.lifting.specs.Joins.{tones_at, even_t, odd_t, joined_t, BackRoom, highs_before, lows_joined, low_row, high_row, LowRowJoined, ForHighRow}
 use Rattle.lifting.specs.Joins.{HighRowJoined, ForEvenRow, row_even, ForOddRow, row_odd, ForJoinPair, pair_even, PairJoined}
+use Rattle.lifting.specs.Rows.{after_row}
 use Rattle.lifting.proofs.JoinLines.{even_t_near, joined_t_even, joined_t_odd}
 use Rattle.lifting.proofs.JoinRows.{bands_there, cells_inside, tones_near}
 use Rattle.lifting.proofs.PairLaws.{stands_near}
@@ -141,7 +142,10 @@ module _ {t : Turn} {pyramid : List ℤ} {s₀ : List ℕ} {i : ℕ} (F : ForJoi
           }
 
       module _ {s₃ : List ℕ} (f : Filled 0 s₂ (along to) (row_even s₂ (lows_joined t) (highs_before t) t.lines) w s₃)
-          {a : ℕ} (ea : a ≡ min (i + 1) (t.pairs - 1)) where
+          {next : ℕ} (en : next ≡ after_row t i) where
+        abbrev a : ℕ
+        a = min (i + 1) (t.pairs - 1)
+
         even_at : (c : ℕ) → c < w → line s₃ to c ≡ pair_even t pyramid s₀ i c
         even_at c h = f.done c h ∙ rw (lows_at_lem c h, before_at c h, own_at c h) refl
 
@@ -173,31 +177,37 @@ module _ {t : Turn} {pyramid : List ℤ} {s₀ : List ℕ} {i : ℕ} (F : ForJoi
             let q : (2 * a + 1) * w ≤ 2 * t.pairs * w = mul-le-mul {n₁ = 2 * a + 1} {n₂ = 2 * t.pairs} (omega arith) (le_refl w) in
             omega (arith, R.picture)
 
-        pub pair_odds : ForOddRow s₃ t.lines (highs_before t) (2 * a * w) to w
-        pair_odds =
-            let l = R.lines in
-            let c = cells_inside R F.below in
-            let e = f.same ∙ same₂ in
-            record {
-              own = stands_near s₃ t.lines (high_row t pyramid i) (λ c h. lines_at (t.lines + c) (omega arith) ∙ own_at c h)
-                  (high_row_near R i F.below);
-              even = even_near_lem;
-              after = after_case (dec_lt (i + 1) t.pairs);
-              next_off = next_off_lem (dec_lt (i + 1) t.pairs);
-              next_before = next_inside;
-              apart = omega arith;
-              order = omega arith;
-              room = omega arith;
-            }
+        pub pair_odds : ForOddRow s₃ t.lines (highs_before t) next to w
+        pair_odds = rw en odds
+          where
+            odds : ForOddRow s₃ t.lines (highs_before t) (after_row t i) to w
+            odds =
+                let l = R.lines in
+                let c = cells_inside R F.below in
+                let e = f.same ∙ same₂ in
+                record {
+                  own = stands_near s₃ t.lines (high_row t pyramid i) (λ c h. lines_at (t.lines + c) (omega arith) ∙ own_at c h)
+                      (high_row_near R i F.below);
+                  even = even_near_lem;
+                  after = after_case (dec_lt (i + 1) t.pairs);
+                  next_off = next_off_lem (dec_lt (i + 1) t.pairs);
+                  next_before = next_inside;
+                  apart = omega arith;
+                  order = omega arith;
+                  room = omega arith;
+                }
 
-        module _ {s₄ : List ℕ} (g : Both s₃ (along (to + w)) (row_odd s₃ t.lines to (2 * a * w)) (along t.lines) (line s₃ (highs_before t)) w s₄) where
+        module _ {s₄ : List ℕ} (g₀ : Both s₃ (along (to + w)) (row_odd s₃ t.lines to next) (along t.lines) (line s₃ (highs_before t)) w s₄) where
+          g : Both s₃ (along (to + w)) (row_odd s₃ t.lines to (after_row t i)) (along t.lines) (line s₃ (highs_before t)) w s₄
+          g = rw en at g₀
+
           even_stays : (c : ℕ) → c < w → line s₄ to c ≡ line s₃ to c
           even_stays c h = let k = cells_inside R F.below in g.kept (to + c) (λ d j. omega arith) (λ d j. omega arith)
 
-          next_stays : (c : ℕ) → c < w → line s₃ (2 * a * w) c ≡ line s₄ (2 * min (i + 1) (t.pairs - 1) * w) c
+          next_stays : (c : ℕ) → c < w → line s₃ (after_row t i) c ≡ line s₄ (after_row t i) c
           next_stays c h =
               let k = next_inside in
-              sym (g.kept (2 * a * w + c) (next_off_lem (dec_lt (i + 1) t.pairs) c h) (λ d j. omega arith)) ∙ ap (λ r. line s₄ (2 * r * w) c) ea
+              sym (g.kept (after_row t i + c) (next_off_lem (dec_lt (i + 1) t.pairs) c h) (λ d j. omega arith))
 
           pub pair_joined : PairJoined t pyramid s₀ i s₄
           pair_joined =

@@ -118,13 +118,13 @@ module _ {t : Turn} {s₀ : List ℕ} {out₀ : List ℤ} {i : ℕ} (F : ForPair
             low_most_lem shallow _ _ _ (omega arith) (A.least c h) (A.most c h) (D.least c h) (D.most c h) (H.least c h) (H.most c h);
       }
 
-  pub pair_lifts : (a : ℕ) → a ≡ min (i + 1) (t.pairs - 1)
-      → ForRows s₀ (even_row t i) (even_row t i + w) (2 * a * w) t.lines (t.lines + (w + 1)) w
+  pub pair_lifts : (a : ℕ) → a ≡ after_row t i
+      → ForRows s₀ (even_row t i) (even_row t i + w) a t.lines (t.lines + (w + 1)) w
   pair_lifts a e = rw e lifts
 
-  module _ {a : ℕ} (e : a ≡ min (i + 1) (t.pairs - 1)) {s₁ : List ℕ}
-      (b₀ : Both s₀ (along (t.lines + (w + 1))) (row_low s₀ (even_row t i) (even_row t i + w) (2 * a * w) t.lines)
-      (along t.lines) (row_high s₀ (even_row t i) (even_row t i + w) (2 * a * w)) w s₁) where
+  module _ {a : ℕ} (e : a ≡ after_row t i) {s₁ : List ℕ}
+      (b₀ : Both s₀ (along (t.lines + (w + 1))) (row_low s₀ (even_row t i) (even_row t i + w) a t.lines)
+      (along t.lines) (row_high s₀ (even_row t i) (even_row t i + w) a) w s₁) where
     b : Both s₀ (along (t.lines + (w + 1))) (pair_low t s₀ i) (along t.lines) (pair_high t s₀ i) w s₁
     b = rw e at b₀
 

@@ -111,13 +111,12 @@ module _ {t : Turn} {s₀ : List ℕ} {out₀ : List ℤ} (F : ForTurn t s₀ ou
         room = omega arith;
       }
 
-  pub first_line : (a : ℕ) → a ≡ min (k - 1) 1 → ForHighs s₀ 0 (2 * m) (2 * a * (2 * m)) t.lines (2 * m)
-  first_line a e = let p : a ≡ min (0 + 1) (k - 1) = omega arith in rw p first_three
+  pub first_line : (a : ℕ) → a ≡ after_row t 0 → ForHighs s₀ 0 (2 * m) a t.lines (2 * m)
+  first_line a e = rw e first_three
 
-  module _ {a : ℕ} (e : a ≡ min (k - 1) 1) {s₁ : List ℕ}
-      (f₀ : Filled 0 s₀ (along t.lines) (row_high s₀ 0 (2 * m) (2 * a * (2 * m))) (2 * m) s₁) where
+  module _ {a : ℕ} (e : a ≡ after_row t 0) {s₁ : List ℕ} (f₀ : Filled 0 s₀ (along t.lines) (row_high s₀ 0 (2 * m) a) (2 * m) s₁) where
     f : Filled 0 s₀ (along t.lines) (row_high s₀ 0 (2 * m) (after_row t 0)) (2 * m) s₁
-    f = let p : a ≡ min (0 + 1) (k - 1) = omega arith in rw p at f₀
+    f = rw e at f₀
 
     cell_kept : (r c : ℕ) → r < 2 * k → c < 2 * m → picture t s₁ r c ≡ picture t s₀ r c
     cell_kept r c h l = f.kept (r * (2 * m) + c) (λ d g. omega (arith, cell_inside r c h l, R.picture))

@@ -7,7 +7,7 @@ ghost use Rattle.pictures.specs.Laws.Tones.{bias, toned, tone_high, tone_low, to
 ghost use Rattle.pictures.specs.Laws.Room.{most_back};
 ghost use Rattle.lifting.specs.Fills.{along, Filled, Both};
 ghost use Rattle.lifting.specs.Lines.{reach, line, ForHighs, ForRows, row_high, row_low, ForSplit, high_of, low_of, ForStore};
-ghost use Rattle.lifting.specs.Rows.{ForRow, lows_at, LowRow, HighRow, ForPair, Pair};
+ghost use Rattle.lifting.specs.Rows.{ForRow, lows_at, LowRow, HighRow, ForPair, Pair, after_row};
 ghost use Rattle.lifting.specs.Turns.{ForTurn, TurnSplit, turn_at, ForBlock, BlockStored};
 ghost use Rattle.lifting.specs.Joins.{OddAsks, tone_of, tones_at, even_t, between, ForLoad, ForJoin, ForOdds, LineJoined};
 ghost use Rattle.lifting.specs.Joins.{ForLowRow, LowRowJoined, ForHighRow, HighRowJoined, ForEvenRow, row_even, ForOddRow, row_odd};
@@ -111,72 +111,82 @@ fn store_line(work: &[u32], from: usize, out: &mut [i32], at: usize, count: usiz
     }
 }
 
-// The row of lows: its lows are the next picture's, its highs the pyramid's.
-fn split_low_row(turn: Turn, work: &mut [u32], out: &mut [i32], i: usize)
-    requires { ForRow turn work.old out.old i (lows_at turn) }
-    ensures { LowRow turn work.old out.old i work.new out.new }
-{
-    let m = turn.half;
-    let row = i * m;
-    let at = i * turn.stride + m;
-    let x = turn.lines + (2 * m + 1);
-    let spare = turn.lines + (4 * m + 2);
-    mirror(work, x, 2 * m);
-    split_line(work, x, row, spare, m);
-    store_line(work, spare, out, at, m);
-}
-
-// The row of highs: all of it is the pyramid's.
-fn split_high_row(turn: Turn, work: &mut [u32], out: &mut [i32], i: usize)
-    requires { ForRow turn work.old out.old i turn.lines }
-    ensures { HighRow turn work.old out.old i work.new out.new }
-{
-    let m = turn.half;
-    let at = (turn.pairs + i) * turn.stride;
-    let x = turn.lines;
-    let spare = x + (4 * m + 2);
-    mirror(work, x, 2 * m);
-    split_line(work, x, spare, spare + m, m);
-    store_line(work, spare, out, at, 2 * m);
-}
-
-// Rows 2i and 2i + 1 of the picture, with the highs before.
-fn split_pair(turn: Turn, work: &mut [u32], out: &mut [i32], i: usize)
-    requires { ForPair turn work.old out.old i }
-    ensures { Pair turn work.old out.old i work.new out.new }
-{
-    let w = 2 * turn.half;
-    let a = 2 * i * w;
-    let after = (i + 1).min(turn.pairs - 1);
-    let c = 2 * after * w;
-    lift_rows(work, a, a + w, c, turn.lines, turn.lines + (w + 1), w);
-    split_low_row(turn, work, out, i);
-    split_high_row(turn, work, out, i);
-}
-
-// One turn: the picture's block before it, at the start of the workspace, becomes the next picture there, and the three bands in the pyramid.
-fn split_turn(turn: Turn, work: &mut [u32], out: &mut [i32])
-    requires { ForTurn turn work.old out.old }
-    ensures { TurnSplit turn work.old out.old work.new out.new }
-{
-    let w = 2 * turn.half;
-    let after = (turn.pairs - 1).min(1);
-    let c = 2 * after * w;
-    high_line(work, 0, w, c, turn.lines, w);
-    for i in 0..turn.pairs {
-        split_pair(turn, work, out, i);
+impl Turn {
+    // Turn l of a picture.
+    fn new(z: Size, l: usize) -> Turn
+        requires { (legal_size z ≡ true) × (l < z.n) }
+        ensures { result ≡ turn_at z l }
+    {
+        Turn {
+            half: z.w >> (l + 1),
+            pairs: z.h >> (l + 1),
+            stride: z.w,
+            lines: z.w * z.h,
+        }
     }
-}
 
-fn turn_of(z: Size, l: usize) -> Turn
-    requires { (legal_size z ≡ true) × (l < z.n) }
-    ensures { result ≡ turn_at z l }
-{
-    Turn {
-        half: z.w >> (l + 1),
-        pairs: z.h >> (l + 1),
-        stride: z.w,
-        lines: z.w * z.h,
+    // Where the even row after pair i stands; behind the last pair it is that pair's own.
+    fn after_row(self, i: usize) -> usize
+        requires { (i < self.pairs) × (1 ≤ self.half) × (4 * (self.pairs * self.half) ≤ self.lines) }
+        ensures { result ≡ after_row self i }
+    {
+        let after = (i + 1).min(self.pairs - 1);
+        2 * after * (2 * self.half)
+    }
+
+    // The row of lows: its lows are the next picture's, its highs the pyramid's.
+    fn split_low_row(self, work: &mut [u32], out: &mut [i32], i: usize)
+        requires { ForRow self work.old out.old i (lows_at self) }
+        ensures { LowRow self work.old out.old i work.new out.new }
+    {
+        let m = self.half;
+        let row = i * m;
+        let at = i * self.stride + m;
+        let x = self.lines + (2 * m + 1);
+        let spare = self.lines + (4 * m + 2);
+        mirror(work, x, 2 * m);
+        split_line(work, x, row, spare, m);
+        store_line(work, spare, out, at, m);
+    }
+
+    // The row of highs: all of it is the pyramid's.
+    fn split_high_row(self, work: &mut [u32], out: &mut [i32], i: usize)
+        requires { ForRow self work.old out.old i self.lines }
+        ensures { HighRow self work.old out.old i work.new out.new }
+    {
+        let m = self.half;
+        let at = (self.pairs + i) * self.stride;
+        let x = self.lines;
+        let spare = x + (4 * m + 2);
+        mirror(work, x, 2 * m);
+        split_line(work, x, spare, spare + m, m);
+        store_line(work, spare, out, at, 2 * m);
+    }
+
+    // Rows 2i and 2i + 1 of the picture, with the highs before.
+    fn split_pair(self, work: &mut [u32], out: &mut [i32], i: usize)
+        requires { ForPair self work.old out.old i }
+        ensures { Pair self work.old out.old i work.new out.new }
+    {
+        let w = 2 * self.half;
+        let a = 2 * i * w;
+        let c = self.after_row(i);
+        lift_rows(work, a, a + w, c, self.lines, self.lines + (w + 1), w);
+        self.split_low_row(work, out, i);
+        self.split_high_row(work, out, i);
+    }
+
+    // The picture's block before it, at the start of the workspace, becomes the next picture there, and the three bands in the pyramid.
+    fn split(self, work: &mut [u32], out: &mut [i32])
+        requires { ForTurn self work.old out.old }
+        ensures { TurnSplit self work.old out.old work.new out.new }
+    {
+        let w = 2 * self.half;
+        let c = self.after_row(0);
+        high_line(work, 0, w, c, self.lines, w);
+        for i in 0..self.pairs {
+            self.split_pair(work, out, i);
+        }
     }
 }
 
@@ -195,7 +205,7 @@ pub fn split_picture(z: Size, work: &mut [u32], out: &mut [i32])
     ensures { Split z work.old out.old work.new out.new }
 {
     for l in 0..z.n {
-        split_turn(turn_of(z, l), work, out);
+        Turn::new(z, l).split(work, out);
     }
     store_block(work, out, z.h >> z.n, z.w >> z.n, z.w);
 }
@@ -266,32 +276,6 @@ fn join_line(work: &mut [u32], lows: usize, highs: usize, to: usize, m: usize)
     odd_line(work, highs, to, m);
 }
 
-// The row of lows: its lows are of the picture, its highs of the pyramid.
-fn join_low_row(turn: Turn, pyramid: &[i32], work: &mut [u32], i: usize)
-    requires { ForLowRow turn pyramid.now work.old i }
-    ensures { LowRowJoined turn pyramid.now work.old i work.new }
-{
-    let m = turn.half;
-    let row = i * m;
-    let at = i * turn.stride + m;
-    let to = turn.lines + (4 * m + 2);
-    let spare = turn.lines + (6 * m + 3);
-    load_line(pyramid, at, work, spare, m);
-    join_line(work, row, spare, to, m);
-}
-
-// The row of highs: all of it is of the pyramid.
-fn join_high_row(turn: Turn, pyramid: &[i32], work: &mut [u32], i: usize, to: usize)
-    requires { ForHighRow turn pyramid.now work.old i to }
-    ensures { HighRowJoined turn pyramid.now work.old i to work.new }
-{
-    let m = turn.half;
-    let at = (turn.pairs + i) * turn.stride;
-    let spare = turn.lines + (6 * m + 3);
-    load_line(pyramid, at, work, spare, 2 * m);
-    join_line(work, spare, spare + m, to, m);
-}
-
 fn even_rows(work: &mut [u32], e: usize, p: usize, d: usize, to: usize, width: usize)
     requires { ForEvenRow work.old e p d to width }
     ensures { Filled 0 work.old (along to) (row_even work.old e p d) width work.new }
@@ -316,34 +300,61 @@ fn odd_rows(work: &mut [u32], d: usize, p: usize, next: usize, to: usize, width:
     }
 }
 
-// Rows 2i and 2i + 1 of the picture, whose own row of highs stands in its line; then the one before stands there.
-fn join_pair(turn: Turn, pyramid: &[i32], work: &mut [u32], i: usize)
-    requires { ForJoinPair turn pyramid.now work.old i }
-    ensures { PairJoined turn pyramid.now work.old i work.new }
-{
-    let w = 2 * turn.half;
-    let to = 2 * i * w;
-    let after = (i + 1).min(turn.pairs - 1);
-    let next = 2 * after * w;
-    let before = i.saturating_sub(1);
-    let d = turn.lines;
-    let p = d + (w + 1);
-    let e = d + (4 * turn.half + 2);
-    join_low_row(turn, pyramid, work, i);
-    join_high_row(turn, pyramid, work, before, p);
-    even_rows(work, e, p, d, to, w);
-    odd_rows(work, d, p, next, to, w);
-}
+impl Turn {
+    // The row of lows: its lows are of the picture, its highs of the pyramid.
+    fn join_low_row(self, pyramid: &[i32], work: &mut [u32], i: usize)
+        requires { ForLowRow self pyramid.now work.old i }
+        ensures { LowRowJoined self pyramid.now work.old i work.new }
+    {
+        let m = self.half;
+        let row = i * m;
+        let at = i * self.stride + m;
+        let to = self.lines + (4 * m + 2);
+        let spare = self.lines + (6 * m + 3);
+        load_line(pyramid, at, work, spare, m);
+        join_line(work, row, spare, to, m);
+    }
 
-// One turn back: the last pair of rows first, so that what is still to be read lies before what is written.
-fn join_turn(turn: Turn, pyramid: &[i32], work: &mut [u32])
-    requires { ForJoinTurn turn pyramid.now work.old }
-    ensures { TurnJoined turn pyramid.now work.old work.new }
-{
-    let last = turn.pairs - 1;
-    join_high_row(turn, pyramid, work, last, turn.lines);
-    for i in (0..turn.pairs).rev() {
-        join_pair(turn, pyramid, work, i);
+    // The row of highs: all of it is of the pyramid.
+    fn join_high_row(self, pyramid: &[i32], work: &mut [u32], i: usize, to: usize)
+        requires { ForHighRow self pyramid.now work.old i to }
+        ensures { HighRowJoined self pyramid.now work.old i to work.new }
+    {
+        let m = self.half;
+        let at = (self.pairs + i) * self.stride;
+        let spare = self.lines + (6 * m + 3);
+        load_line(pyramid, at, work, spare, 2 * m);
+        join_line(work, spare, spare + m, to, m);
+    }
+
+    // Rows 2i and 2i + 1 of the picture, whose own row of highs stands in its line; then the one before stands there.
+    fn join_pair(self, pyramid: &[i32], work: &mut [u32], i: usize)
+        requires { ForJoinPair self pyramid.now work.old i }
+        ensures { PairJoined self pyramid.now work.old i work.new }
+    {
+        let w = 2 * self.half;
+        let to = 2 * i * w;
+        let next = self.after_row(i);
+        let before = i.saturating_sub(1);
+        let d = self.lines;
+        let p = d + (w + 1);
+        let e = d + (4 * self.half + 2);
+        self.join_low_row(pyramid, work, i);
+        self.join_high_row(pyramid, work, before, p);
+        even_rows(work, e, p, d, to, w);
+        odd_rows(work, d, p, next, to, w);
+    }
+
+    // Back: the last pair of rows first, so that what is still to be read lies before what is written.
+    fn join(self, pyramid: &[i32], work: &mut [u32])
+        requires { ForJoinTurn self pyramid.now work.old }
+        ensures { TurnJoined self pyramid.now work.old work.new }
+    {
+        let last = self.pairs - 1;
+        self.join_high_row(pyramid, work, last, self.lines);
+        for i in (0..self.pairs).rev() {
+            self.join_pair(pyramid, work, i);
+        }
     }
 }
 
@@ -365,6 +376,6 @@ pub fn join_pyramid(z: Size, pyramid: &[i32], work: &mut [u32])
 {
     load_block(pyramid, work, z.h >> z.n, z.w >> z.n, z.w);
     for l in (0..z.n).rev() {
-        join_turn(turn_of(z, l), pyramid, work);
+        Turn::new(z, l).join(pyramid, work);
     }
 }

@@ -17,8 +17,8 @@ load_block-requires c = search (rules, back_block)
 pub loop-l-init : goal.loop-l-init
 loop-l-init c = (search (rules, block_joining), search (rules, back_start))
 
-pub join_turn-requires : goal.join_turn-requires
-join_turn-requires c = search (rules, turn_asks)
+pub join-requires : goal.join-requires
+join-requires c = search (rules, turn_asks)
 
 pub loop-l-preserved : goal.loop-l-preserved
 loop-l-preserved c = (search rules, search (rules, turn_next))

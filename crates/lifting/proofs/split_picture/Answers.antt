@@ -6,8 +6,8 @@ use Rattle.lifting.proofs.split_picture.Goals as goal
 pub loop-l-init : goal.loop-l-init
 loop-l-init c = (search (rules, few_turns), stage_none)
 
-pub split_turn-requires : goal.split_turn-requires
-split_turn-requires c = search (rules, stage_asks)
+pub split-requires : goal.split-requires
+split-requires c = search (rules, stage_asks)
 
 pub loop-l-preserved : goal.loop-l-preserved
 loop-l-preserved c = (search rules, search (rules, stage_next))

@@ -1,7 +1,7 @@
--- `lifting::split_turn`: rows before i are done, the picture from row i of the next one on is as it was, the last row of highs stands in its line.
+-- `lifting::Turn::split`: rows before i are done, the picture from row i of the next one on is as it was, the last row of highs stands in its line.
 use borrow.Author.Rules.{rules}
 use Rattle.lifting.proofs.TurnLaws.{first_line, turn_still, begun_none, begun_pair, begun_more, turn_done}
-use Rattle.lifting.proofs.split_turn.Goals as goal
+use Rattle.lifting.proofs.Turn.split.Goals as goal
 
 pub high_line-requires : goal.high_line-requires
 high_line-requires c = search (rules, first_line)

@@ -1,7 +1,7 @@
--- `lifting::join_turn`: rows from 2i on are the picture; what is before them is as it was.
+-- `lifting::Turn::join`: rows from 2i on are the picture; what is before them is as it was.
 use borrow.Author.Rules.{rules}
 use Rattle.lifting.proofs.JoinTurns.{join_still, rejoined_none, rejoin_pair, rejoin_more, turn_joined}
-use Rattle.lifting.proofs.join_turn.Goals as goal
+use Rattle.lifting.proofs.Turn.join.Goals as goal
 
 pub loop-i-init : goal.loop-i-init
 loop-i-init c = (search (rules, join_still), search (rules, rejoined_none))

@@ -1,7 +1,7 @@
--- `lifting::turn_of`: the sides are small enough.
+-- `lifting::Turn::new`: the sides are small enough.
 use native.Mathlib.Omega.{arith}
 use Rattle.rules.proofs.Laws.Family.Sizes.{legal, area_bound}
-use Rattle.lifting.proofs.turn_of.Goals as goal
+use Rattle.lifting.proofs.Turn.new.Goals as goal
 
 pub overflow_shr-result : goal.overflow_shr-result
 overflow_shr-result c = omega (arith, (legal _ c.requires.0).few)

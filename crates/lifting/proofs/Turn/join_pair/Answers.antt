@@ -1,6 +1,6 @@
--- `lifting::join_pair`: rows of lows and highs joined, then columns.
+-- `lifting::Turn::join_pair`: rows of lows and highs joined, then columns.
 use Rattle.lifting.proofs.JoinPairs.{pair_evens, pair_odds, pair_joined}
-use Rattle.lifting.proofs.join_pair.Goals as goal
+use Rattle.lifting.proofs.Turn.join_pair.Goals as goal
 
 pub even_rows-requires : goal.even_rows-requires
 even_rows-requires c =
@@ -12,10 +12,10 @@ odd_rows-requires c =
     let asked = c.requires in
     let even = c.even_rows in
     pair_odds asked c.join_low_row.ensures c.saturating_sub-before.ensures c.join_high_row.ensures even.ensures
-    c.min-after.ensures
+    c.after_row-next.ensures
 
 pub returns : goal.returns
 returns c =
     let odd = c.odd_rows in
     pair_joined c.requires c.join_low_row.ensures c.saturating_sub-before.ensures c.join_high_row.ensures
-    c.even_rows.ensures c.min-after.ensures odd.ensures
+    c.even_rows.ensures c.after_row-next.ensures odd.ensures

@@ -1,7 +1,7 @@
--- `lifting::join_high_row`: loaded, then joined.
+-- `lifting::Turn::join_high_row`: loaded, then joined.
 use borrow.Author.Rules.{rules}
 use Rattle.lifting.proofs.JoinRows.{high_joins, high_row_joined}
-use Rattle.lifting.proofs.join_high_row.Goals as goal
+use Rattle.lifting.proofs.Turn.join_high_row.Goals as goal
 
 pub join_line-requires : goal.join_line-requires
 join_line-requires c = search (rules, high_joins)

@@ -1,6 +1,0 @@
-use Rattle.lifting.specs.Turns.{ForTurn}
-use Rattle.lifting.proofs.TurnLaws.{Begun}
-use Rattle.lifting.proofs.split_turn.Given as goal
-
-abbrev pub invariant-loop-i : goal.invariant-loop-i
-invariant-loop-i l = ForTurn l.turn l.initial.work l.initial.out × Begun l.turn l.initial.work l.initial.out l.i l.work l.out
