@@ -1,5 +1,5 @@
 -- What one more turn of a loop that fills a line leaves.
-use mathlib.Core.Path.{◌≡◌, refl, sym, subst, ◌∙◌}
+use mathlib.Core.Path.{◌≡◌, sym, subst, ◌∙◌}
 use mathlib.Core.List.{List}
 use Prim.Native.Nat.{ℕ, ◌+◌, ◌<◌}
 use native.Mathlib.Decide.{dec_lt}
@@ -9,9 +9,6 @@ use lib.Seq.{get_or-set_same, get_or-set_other}
 use Rattle.lifting.specs.Fills.{Off, Filled, Both}
 
 module _ {A : Type 0} {z : A} {s₀ : List A} {place : ℕ → ℕ} {new : ℕ → A} where
-  pub filled_none : Filled z s₀ place new 0 s₀
-  filled_none = record { same = refl; done = λ c h. absurd (omega arith); kept = λ q o. refl }
-
   pub filled_more : {n : ℕ} {s : List A} {v : A} → Filled z s₀ place new n s → place n < length s₀ → Off (place n) place n → v ≡ new n
       → Filled z s₀ place new (n + 1) (set s (place n) v)
   filled_more {n} {s} {v} f h o e =
@@ -31,9 +28,6 @@ module _ {A : Type 0} {z : A} {s₀ : List A} {place : ℕ → ℕ} {new : ℕ �
   filled_end {s = s} f e = subst (λ n. Filled z s₀ place new n s) e f
 
 module _ {s₀ : List ℕ} {p f q g : ℕ → ℕ} where
-  pub both_none : Both s₀ p f q g 0 s₀
-  both_none = record { same = refl; one = λ c h. absurd (omega arith); other = λ c h. absurd (omega arith); kept = λ r o o'. refl }
-
   pub both_more : {n : ℕ} {s : List ℕ} {v u : ℕ} → Both s₀ p f q g n s → p n < length s₀ → q n < length s₀
       → Off (p n) p n → Off (q n) q n → Off (p n) q n → Off (q n) p (n + 1) → v ≡ f n → u ≡ g n
       → Both s₀ p f q g (n + 1) (set (set s (p n) v) (q n) u)

@@ -3,17 +3,16 @@ use mathlib.Core.Path.{◌≡◌, refl, sym, ap, subst, ◌∙◌}
 use mathlib.Core.List.{List}
 use mathlib.Core.Bool.{cond}
 use Prim.Native.Nat.{ℕ, ◌+◌, ◌-◌, ◌*◌, ◌/◌, ◌%◌, ◌≤◌, ◌<◌, min}
-use native.Mathlib.Nat.{add-zero}
 use native.Mathlib.Decide.{dec_lt}
 use native.Mathlib.Omega.{arith}
 use lib.Dec.{eqb}
 use lib.ListN.{get_or, set}
-use lib.IntN.{ℤ, pos, nat_abs}
+use lib.IntN.{ℤ, pos}
 use mir.Syntax.{w32}
 use mir.Val.{to_z, of_z}
 use borrow.Author.Tests.{eq-eqb}
 use Rattle.pictures.specs.Laws.Tones.{bias, tone_even, tone_odd}
-use Rattle.pictures.specs.Laws.Room.{shallow, most_back}
+use Rattle.pictures.specs.Laws.Room.{shallow}
 use Rattle.lifting.specs.Fills.{along, Filled}
 use Rattle.lifting.specs.Lines.{reach, line, Near}
 use Rattle.lifting.specs.Joins.{tone_of, tones_at, even_t, odd_t, joined_t, ForLoad, ForJoin, ForOdds, OddAsks, between, LineJoined}
@@ -24,9 +23,6 @@ use Rattle.lifting.proofs.RowLaws.{Mirrored, mirror_same, mirror_kept, mirror_be
 -- coefficients loaded
 module _ {pyramid : List ℤ} {at : ℕ} {s₀ : List ℕ} {to count : ℕ} (F : ForLoad pyramid at s₀ to count) where
   module _ {j : ℕ} {s : List ℕ} (f : Filled 0 s₀ (along to) (tones_at pyramid at) j s) (h : j < count) where
-    pub load_asks : nat_abs (to_z w32 (of_z w32 (get_or pyramid (at + j) (pos 0)))) ≤ most_back
-    load_asks = rw (read_back (get_or pyramid (at + j) (pos 0)) (F.small j h)) (F.small j h)
-
     pub load_more : (v : ℕ) → v ≡ tone_of (to_z w32 (of_z w32 (get_or pyramid (at + j) (pos 0))))
         → Filled 0 s₀ (along to) (tones_at pyramid at) (j + 1) (set s (to + j) v)
     load_more v e =
@@ -39,9 +35,6 @@ EvenAsks s d e = (bias ≤ s + reach) × (s ≤ bias + reach) × (d ≤ bias + r
 
 -- the even numbers
 module _ {s₀ : List ℕ} {lows highs to m : ℕ} (F : ForJoin s₀ lows highs to m) where
-  pub first_before : get_or s₀ highs 0 ≡ line s₀ highs (0 - 1)
-  first_before = rw (add-zero highs) refl
-
   module _ {j : ℕ} {s : List ℕ} (f : Filled 0 s₀ (λ c. to + 2 * c) (even_t (line s₀ lows) (line s₀ highs)) j s) (h : j < m) where
     low_kept : get_or s (lows + j) 0 ≡ line s₀ lows j
     low_kept = f.kept (lows + j) (λ i l. F.lows_off j h (2 * i) (omega arith))

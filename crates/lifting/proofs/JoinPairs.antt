@@ -13,7 +13,7 @@ use Rattle.pictures.specs.Laws.Room.{shallow}
 use Rattle.lifting.specs.declared.Turn.{Turn}
 use Rattle.lifting.specs.Fills.{along, Off, Filled, Both}
 use Rattle.lifting.specs.Lines.{reach, line, Near}
-use Rattle.lifting.specs.Joins.{tones_at, even_t, odd_t, joined_t, BackRoom, highs_before, lows_joined, low_row, high_row, LowRowJoined, ForHighRow}
+use Rattle.lifting.specs.Joins.{tones_at, even_t, odd_t, joined_t, BackRoom, highs_before, lows_joined, low_row, high_row, LowRowJoined}
 use Rattle.lifting.specs.Joins.{HighRowJoined, ForEvenRow, row_even, ForOddRow, row_odd, ForJoinPair, pair_even, PairJoined}
 use Rattle.lifting.specs.Rows.{after_row}
 use Rattle.lifting.proofs.JoinLines.{even_t_near, joined_t_even, joined_t_odd}
@@ -105,10 +105,6 @@ module _ {t : Turn} {pyramid : List ℤ} {s₀ : List ℕ} {i : ℕ} (F : ForJoi
       omega arith
 
   module _ {s₁ : List ℕ} (L : LowRowJoined t pyramid s₀ i s₁) {b : ℕ} (eb : b ≡ i - 1) where
-    pub pair_high_lem : ForHighRow t pyramid s₁ b (highs_before t)
-    pair_high_lem =
-        record { room = back_room R L.same; below = omega (arith, F.below); from = omega arith; end = omega arith }
-
     module _ {s₂ : List ℕ} (H : HighRowJoined t pyramid s₁ b (highs_before t) s₂) where
       same₂ : length s₂ ≡ length s₀
       same₂ = H.same ∙ L.same

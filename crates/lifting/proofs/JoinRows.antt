@@ -11,10 +11,10 @@ use Rattle.pictures.specs.Laws.Room.{shallow, most_back}
 use Rattle.lifting.specs.declared.Turn.{Turn}
 use Rattle.lifting.specs.Fills.{along, Filled, Both}
 use Rattle.lifting.specs.Lines.{line, Near}
-use Rattle.lifting.specs.Joins.{tone_of, tones_at, ForLoad, ForJoin, OddAsks, LineJoined, BackRoom, lows_joined, loaded, ForLowRow, LowRowJoined}
+use Rattle.lifting.specs.Joins.{tone_of, tones_at, ForJoin, OddAsks, LineJoined, BackRoom, lows_joined, loaded, ForLowRow, LowRowJoined}
 use Rattle.lifting.specs.Joins.{ForHighRow, HighRowJoined, ForEvenRow, row_even, ForOddRow, row_odd}
 use Rattle.lifting.proofs.Filling.{filled_more, both_more}
-use Rattle.lifting.proofs.JoinLines.{EvenAsks, joined_t_same}
+use Rattle.lifting.proofs.JoinLines.{joined_t_same}
 
 tone_of_least : (v : ℤ) → nat_abs v ≤ most_back → bias ≤ tone_of v + shallow
 tone_of_least (pos m) h = omega arith
@@ -33,11 +33,6 @@ module _ {t : Turn} {pyramid : List ℤ} {s₀ : List ℕ} {i : ℕ} (R : BackRo
   pub bands_there : (t.pairs + i) * t.stride + t.stride ≤ length pyramid
   bands_there =
       let p : (i + 1) * t.stride ≤ t.pairs * t.stride = mul-le-mul {n₁ = i + 1} {n₂ = t.pairs} (omega arith) (le_refl t.stride) in
-      omega (arith, R.rows)
-
-  pub bands_count : t.pairs + i ≤ length pyramid
-  bands_count =
-      let p : t.pairs * 1 ≤ t.pairs * t.stride = mul-le-mul {n₁ = t.pairs} {m₁ = 1} (le_refl t.pairs) (omega (arith, R.some, R.wide)) in
       omega (arith, R.rows)
 
   pub cells_inside : 2 * i * (2 * t.half) + 2 * (2 * t.half) ≤ t.lines
@@ -66,33 +61,12 @@ module _ {t : Turn} {pyramid : List ℤ} {s₀ : List ℕ} {i : ℕ} (F : ForLow
   at_there : at + m ≤ length pyramid
   at_there = omega (arith, bands_there F.room F.below, F.room.wide)
 
-  pub low_loads : ForLoad pyramid at s₀ (loaded t) m
-  low_loads =
-      let l = F.room.lines in
-      record { there = at_there; room = omega arith; small = λ c h. F.room.small (at + c) (omega (arith, at_there)) }
-
   module _ {s₁ : List ℕ} (f : Filled 0 s₀ (along (loaded t)) (tones_at pyramid at) m s₁) where
     own_lows : (c : ℕ) → c < m → line s₁ (i * m) c ≡ line s₀ (i * m) c
     own_lows c h = let p = low_inside F.room F.below in f.kept (i * m + c) (λ d k. omega arith)
 
     N : Near (tones_at pyramid at) m shallow
     N = tones_near F.room F.below at m at_there
-
-    pub low_joins : ForJoin s₁ (i * m) (loaded t) (lows_joined t) m
-    low_joins =
-        let l = F.room.lines in
-        let p = low_inside F.room F.below in
-        let e = f.same in
-        record {
-          some = F.room.some;
-          low_near = record { least = λ c h. rw (own_lows c h) (F.near.least c h); most = λ c h. rw (own_lows c h) (F.near.most c h) };
-          high_near = record { least = λ c h. rw (f.done c h) (N.least c h); most = λ c h. rw (f.done c h) (N.most c h) };
-          lows_room = omega arith;
-          highs_room = omega arith;
-          room = omega arith;
-          lows_off = λ c h d k. omega arith;
-          highs_off = λ c h d k. omega arith;
-        }
 
     pub low_row_joined : {s₂ : List ℕ} → LineJoined s₁ (i * m) (loaded t) (lows_joined t) m s₂ → LowRowJoined t pyramid s₀ i s₂
     low_row_joined J =
@@ -114,11 +88,6 @@ module _ {t : Turn} {pyramid : List ℤ} {s₀ : List ℕ} {i to : ℕ} (F : For
 
   from_there : from + 2 * n ≤ length pyramid
   from_there = omega (arith, bands_there F.room F.below, F.room.wide)
-
-  pub high_loads : ForLoad pyramid from s₀ (loaded t) (2 * n)
-  high_loads =
-      let l = F.room.lines in
-      record { there = from_there; room = omega arith; small = λ c h. F.room.small (from + c) (omega (arith, from_there)) }
 
   module _ {s₁ : List ℕ} (f : Filled 0 s₀ (along (loaded t)) (tones_at pyramid from) (2 * n) s₁) where
     right_band : (c : ℕ) → c < n → line s₁ (loaded t + n) c ≡ tones_at pyramid (from + n) c
@@ -173,9 +142,6 @@ module _ {s₀ : List ℕ} {e p d to w : ℕ} (F : ForEvenRow s₀ e p d to w) {
 
   own_stay : get_or s (d + j) 0 ≡ line s₀ d j
   own_stay = stays d F.apart
-
-  pub even_row_asks : EvenAsks (get_or s (e + j) 0) (get_or s (p + j) 0) (get_or s (d + j) 0)
-  even_row_asks = rw (lows_stay, before_stay, own_stay) (F.lows.least j h, F.lows.most j h, F.before.most j h, F.own.most j h)
 
   pub even_row_more : (v : ℕ) → v ≡ tone_even (get_or s (e + j) 0) (get_or s (p + j) 0) (get_or s (d + j) 0)
       → Filled 0 s₀ (along to) (row_even s₀ e p d) (j + 1) (set s (to + j) v)

@@ -10,7 +10,7 @@ use lib.IntN.{ℤ}
 use Rattle.pictures.specs.Laws.Tones.{bias, tone_even, tone_odd}
 use Rattle.lifting.specs.declared.Turn.{Turn}
 use Rattle.lifting.specs.Lines.{reach, line, Near}
-use Rattle.lifting.specs.Joins.{tones_at, even_t, odd_t, BackRoom, low_row, high_row, ForHighRow, HighRowJoined, ForJoinPair, PairJoined}
+use Rattle.lifting.specs.Joins.{tones_at, even_t, odd_t, BackRoom, low_row, high_row, HighRowJoined, ForJoinPair, PairJoined}
 use Rattle.lifting.specs.Joins.{ForJoinTurn, returned_t, TurnJoined}
 use Rattle.lifting.proofs.JoinLines.{joined_t_same, joined_t_even, joined_t_odd}
 use Rattle.lifting.proofs.JoinRows.{low_inside, bands_there, cells_inside, tones_near}
@@ -33,9 +33,6 @@ module _ {t : Turn} {pyramid : List ℤ} {s₀ : List ℕ} (F : ForJoinTurn t py
 
   R : BackRoom t pyramid s₀
   R = F.room
-
-  pub last_row : ForHighRow t pyramid s₀ (t.pairs - 1) t.lines
-  last_row = record { room = R; below = omega (arith, F.some); from = omega arith; end = omega arith }
 
   even_of : (r c : ℕ) → returned_t t pyramid s₀ (2 * r) c ≡ tone_even (low_row t pyramid s₀ r c) (high_row t pyramid (r - 1) c) (high_row t pyramid r c)
   unfolding even_t

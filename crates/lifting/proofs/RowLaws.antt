@@ -15,7 +15,7 @@ use borrow.Author.Tests.{lt-ltb, le-ltb}
 use Rattle.pictures.specs.Laws.Tones.{bias, toned}
 use Rattle.lifting.specs.declared.Turn.{Turn}
 use Rattle.lifting.specs.Fills.{along, Filled, Both}
-use Rattle.lifting.specs.Lines.{reach, line, Near, ForSplit, high_of, low_of, ForStore, high_t, low_t, split_t}
+use Rattle.lifting.specs.Lines.{reach, line, Near, high_of, low_of, ForStore, high_t, low_t, split_t}
 use Rattle.lifting.specs.Rows.{Room, ForRow, lows_at, LowRow, HighRow}
 use Rattle.lifting.proofs.SplitLines.{high_most, low_most_lem, high_least}
 
@@ -124,12 +124,6 @@ module _ (x : ℕ → ℕ) (m : ℕ) (N : Near x (2 * m + 1) reach) where
       (N.least (2 * j) (omega arith)) (N.most (2 * j) (omega arith))
       (high_of_large (j - 1) (omega arith)) (high_of_small (j - 1) (omega arith)) (high_of_large j h) (high_of_small j h)
 
-pub row_there : {t : Turn} {s : List ℕ} {out : List ℤ} (r : ℕ) → Room t s out → r < 2 * t.pairs → r * (2 * t.half) + 2 * t.half ≤ t.lines
-row_there {t} r R h =
-    let w : ℕ = 2 * t.half in
-    let q : (r + 1) * w ≤ 2 * t.pairs * w = mul-le-mul {n₁ = r + 1} {n₂ = 2 * t.pairs} (omega arith) (le_refl w) in
-    omega (arith, R.picture)
-
 -- The rows' functions.
 module _ {t : Turn} {s₀ : List ℕ} {out₀ : List ℤ} {i : ℕ} where
   pub row_inside : Room t s₀ out₀ → i < t.pairs → i * t.half + t.half ≤ t.lines
@@ -142,11 +136,6 @@ module _ {t : Turn} {s₀ : List ℕ} {out₀ : List ℤ} {i : ℕ} where
       let p : (i + 1) * t.stride ≤ t.pairs * t.stride = mul-le-mul {n₁ = i + 1} {n₂ = t.pairs} (omega arith) (le_refl t.stride) in
       omega (arith, R.rows)
 
-  pub pairs_there : Room t s₀ out₀ → i < t.pairs → t.pairs + i ≤ length out₀
-  pairs_there R h =
-      let p : t.pairs * 1 ≤ t.pairs * t.stride = mul-le-mul {n₁ = t.pairs} {m₁ = 1} (le_refl t.pairs) (omega (arith, R.some, R.wide)) in
-      omega (arith, R.rows)
-
   module _ (F : ForRow t s₀ out₀ i (lows_at t)) {s₁ : List ℕ}
       (e : s₁ ≡ set s₀ (lows_at t + 2 * t.half) (get_or s₀ (lows_at t + (2 * t.half - 2)) 0)) where
     abbrev m : ℕ
@@ -155,44 +144,11 @@ module _ {t : Turn} {s₀ : List ℕ} {out₀ : List ℤ} {i : ℕ} where
     M₁ : Mirrored s₀ (lows_at t) m s₁
     M₁ = record { some = F.room.some; room = omega (arith, F.room.lines); list = e }
 
-    near₁ : Near (line s₁ (lows_at t)) (2 * m + 1) reach
-    near₁ = mirror_near M₁ F.near
-
     same₁ : length s₁ ≡ length s₀
     same₁ = mirror_same M₁
 
-    pub low_row_splits : ForSplit s₁ (lows_at t) (i * m) (t.lines + (4 * m + 2)) m
-    low_row_splits =
-        let R = F.room in
-        let p = row_inside R F.below in
-        let l = R.lines in
-        let q = same₁ in
-        record {
-          near = near₁;
-          some = R.some;
-          room = omega arith;
-          lows_room = omega arith;
-          highs_room = omega arith;
-          lows_off = λ c h d k. omega arith;
-          highs_off = λ c h d k. omega arith;
-          apart = λ c h d k. omega arith;
-        }
-
     module _ {s₂ : List ℕ}
         (b : Both s₁ (along (i * m)) (low_of (line s₁ (lows_at t))) (along (t.lines + (4 * m + 2))) (high_of (line s₁ (lows_at t))) m s₂) where
-      pub low_row_stores : ForStore s₂ (t.lines + (4 * m + 2)) out₀ (i * t.stride + m) m
-      low_row_stores =
-          let R = F.room in
-          let p = rows_there R F.below in
-          let l = R.lines in
-          let w = R.wide in
-          let q = b.same ∙ same₁ in
-          record {
-            there = omega arith;
-            room = omega arith;
-            small = λ c h. rw (b.other c h) (omega (arith, high_of_small (line s₁ (lows_at t)) m near₁ c h));
-          }
-
       pub low_row_lem : {out : List ℤ}
           → Filled (pos 0) out₀ (along (i * t.stride + m)) (λ c. toned (line s₂ (t.lines + (4 * m + 2)) c)) m out
           → LowRow t s₀ out₀ i s₂ out
@@ -222,22 +178,6 @@ module _ {t : Turn} {s₀ : List ℕ} {out₀ : List ℤ} {i : ℕ} where
 
     same₂ : length s₁ ≡ length s₀
     same₂ = mirror_same M₂
-
-    pub high_row_splits : ForSplit s₁ t.lines (t.lines + (4 * n + 2)) (t.lines + (4 * n + 2) + n) n
-    high_row_splits =
-        let R = F.room in
-        let l = R.lines in
-        let q = same₂ in
-        record {
-          near = near₂;
-          some = R.some;
-          room = omega arith;
-          lows_room = omega arith;
-          highs_room = omega arith;
-          lows_off = λ c h d k. omega arith;
-          highs_off = λ c h d k. omega arith;
-          apart = λ c h d k. omega arith;
-        }
 
     module _ {s₂ : List ℕ}
         (b : Both s₁ (along (t.lines + (4 * n + 2))) (low_of (line s₁ t.lines)) (along (t.lines + (4 * n + 2) + n))

@@ -2,7 +2,6 @@
 use mathlib.Core.Path.{◌≡◌, refl, sym, ap, ◌∙◌}
 use mathlib.Core.List.{List}
 use Prim.Native.Nat.{ℕ, ◌+◌, ◌-◌, ◌*◌, ◌≤◌, ◌<◌}
-use native.Mathlib.Nat.{add-zero}
 use native.Mathlib.Omega.{arith}
 use lib.ListN.{get_or, set}
 use Rattle.pictures.specs.Laws.Tones.{bias, tone_high, tone_low}
@@ -18,9 +17,6 @@ abbrev pub LowAsks : ℕ → ℕ → ℕ → Type 0
 LowAsks x d e = (x ≤ bias + reach) × (bias ≤ x + reach) × (d ≤ 2 * bias) × (e ≤ 2 * bias)
 
 module _ {s₀ : List ℕ} {a b c to w : ℕ} (F : ForHighs s₀ a b c to w) where
-  row_asks : (j : ℕ) → j < w → HighAsks (line s₀ a j) (line s₀ b j) (line s₀ c j)
-  row_asks j h = (F.above.most j h, F.own.most j h, F.below.most j h, F.own.least j h)
-
   module _ {j : ℕ} {s : List ℕ} (f : Filled 0 s₀ (along to) (row_high s₀ a b c) j s) (h : j < w) where
     same_above : get_or s (a + j) 0 ≡ line s₀ a j
     same_above = let p = F.above_apart in f.kept (a + j) (λ k l. omega arith)
@@ -30,9 +26,6 @@ module _ {s₀ : List ℕ} {a b c to w : ℕ} (F : ForHighs s₀ a b c to w) whe
 
     same_below : get_or s (c + j) 0 ≡ line s₀ c j
     same_below = let p = F.below_apart in f.kept (c + j) (λ k l. omega arith)
-
-    pub highs_ask : HighAsks (get_or s (a + j) 0) (get_or s (b + j) 0) (get_or s (c + j) 0)
-    highs_ask = rw (same_above, same_own, same_below) (row_asks j h)
 
     pub highs_more : (v : ℕ) → v ≡ tone_high (get_or s (a + j) 0) (get_or s (b + j) 0) (get_or s (c + j) 0)
         → Filled 0 s₀ (along to) (row_high s₀ a b c) (j + 1) (set s (to + j) v)
@@ -61,11 +54,6 @@ module _ {s₀ : List ℕ} {a b c d e w : ℕ} (F : ForRows s₀ a b c d e w) wh
   H : ForHighs s₀ a b c d w
   H = F.highs
 
-  row_high_most : (j : ℕ) → j < w → row_high s₀ a b c j ≤ bias + 2 * reach
-  row_high_most j h =
-      high_most reach (line s₀ a j) (line s₀ b j) (line s₀ c j) (omega arith) (H.above.least j h) (H.above.most j h)
-      (H.own.least j h) (H.own.most j h) (H.below.least j h) (H.below.most j h)
-
   module _ {j : ℕ} {s : List ℕ} (f : Both s₀ (along e) (row_low s₀ a b c d) (along d) (row_high s₀ a b c) j s) (h : j < w) where
     kept_at : (q : ℕ) → q + w ≤ d → get_or s (q + j) 0 ≡ line s₀ q j
     kept_at q k = let p = F.apart in f.kept (q + j) (λ i l. omega arith) (λ i l. omega arith)
@@ -76,16 +64,7 @@ module _ {s₀ : List ℕ} {a b c d e w : ℕ} (F : ForRows s₀ a b c d e w) wh
     kept_high : tone_high (get_or s (a + j) 0) (get_or s (b + j) 0) (get_or s (c + j) 0) ≡ row_high s₀ a b c j
     kept_high = rw (kept_at a H.above_apart, kept_at b H.own_apart, kept_at c H.below_apart) refl
 
-    pub rows_ask_high : HighAsks (get_or s (a + j) 0) (get_or s (b + j) 0) (get_or s (c + j) 0)
-    rows_ask_high = rw (kept_at a H.above_apart, kept_at b H.own_apart, kept_at c H.below_apart) (row_asks H j h)
-
     module _ (v : ℕ) (ev : v ≡ tone_high (get_or s (a + j) 0) (get_or s (b + j) 0) (get_or s (c + j) 0)) where
-      pub rows_ask_low : LowAsks (get_or s (a + j) 0) (get_or s (d + j) 0) v
-      rows_ask_low =
-          let m : v ≤ bias + 2 * reach = rw (ev ∙ kept_high) (row_high_most j h) in
-          let n : line s₀ d j ≤ bias + 2 * reach = F.before.most j h in
-          rw (kept_at a H.above_apart, kept_before) (H.above.most j h, H.above.least j h, omega arith, omega arith)
-
       pub rows_more : (u : ℕ) → u ≡ tone_low (get_or s (a + j) 0) (get_or s (d + j) 0) v
           → Both s₀ (along e) (row_low s₀ a b c d) (along d) (row_high s₀ a b c) (j + 1) (set (set s (e + j) u) (d + j) v)
       rows_more u eu =
@@ -111,12 +90,6 @@ module _ {s₀ : List ℕ} {x lows highs m : ℕ} (F : ForSplit s₀ x lows high
       (N.least (2 * j) (omega arith)) (N.most (2 * j) (omega arith))
       (N.least (2 * j + 1) (omega arith)) (N.most (2 * j + 1) (omega arith))
       (N.least (2 * j + 2) (omega arith)) (N.most (2 * j + 2) (omega arith))
-
-  pub first_asks : HighAsks (get_or s₀ x 0) (get_or s₀ (x + 1) 0) (get_or s₀ (x + 2) 0)
-  first_asks = rw (add-zero x) at (step_asks 0 F.some)
-
-  pub first_high : (v : ℕ) → v ≡ tone_high (get_or s₀ x 0) (get_or s₀ (x + 1) 0) (get_or s₀ (x + 2) 0) → v ≡ high_of own (0 - 1)
-  first_high v e = rw (add-zero x) e
 
   module _ {j : ℕ} {s : List ℕ} (f : Both s₀ (along lows) (low_of own) (along highs) (high_of own) j s) (h : j < m) where
     kept_own : (c : ℕ) → c < 2 * m + 1 → get_or s (x + c) 0 ≡ own c

@@ -28,8 +28,8 @@ use Rattle.pictures.proofs.Laws.Room.{room_in}
 use Rattle.lifting.specs.declared.Turn.{Turn}
 use Rattle.lifting.specs.Lines.{reach, Near, high_t, low_t, split_t}
 use Rattle.lifting.specs.Rows.{Room}
-use Rattle.lifting.specs.Turns.{picture, lows_of, highs_of, ForTurn, TurnSplit, turn_at, ForBlock, BlockStored}
-use Rattle.lifting.specs.Pictures.{TonesOf, Splitting, Split}
+use Rattle.lifting.specs.Turns.{picture, lows_of, highs_of, ForTurn, TurnSplit, turn_at, ForBlock}
+use Rattle.lifting.specs.Pictures.{TonesOf, Splitting}
 use Rattle.lifting.proofs.RowLaws.{high_t_same, low_t_same, split_t_same, split_t_low, split_t_high}
 use Rattle.lifting.proofs.TurnLaws.{high_t_near, low_t_near}
 
@@ -332,29 +332,9 @@ module _ {z : Size} {work : List ℕ} {out₀ : List ℤ} where
                 omega (arith, tone_most (get_or s (r * (z.w / 2 ^ z.n) + c) 0) shallow (stage_near T (omega arith) r c a b));
           }
 
-      pub stage_end : {out' : List ℤ} → BlockStored s out (z.h / 2 ^ z.n) (z.w / 2 ^ z.n) z.w out' → Split z work out₀ s out'
-      stage_end {out'} B =
-          record {
-            same_work = T.same;
-            same_out = B.same ∙ T.same_out;
-            pyramid = λ g t i j a b.
-                by_block (z.h / 2 ^ z.n) (z.w / 2 ^ z.n) i j
-                (λ c d. B.stored i j c d ∙ T.inside g t i j c d)
-                (λ o. kept i j b o (dec_lt i (z.h / 2 ^ z.n)) (dec_lt j (z.w / 2 ^ z.n)) ∙ T.outside g t i j a b o);
-          }
-        where
-          kept : (i j : ℕ) → j < z.w → (i < z.h / 2 ^ z.n → j < z.w / 2 ^ z.n → ⊥) → Dec (i < z.h / 2 ^ z.n) → Dec (j < z.w / 2 ^ z.n)
-              → get_or out' (i * z.w + j) (pos 0) ≡ get_or out (i * z.w + j) (pos 0)
-          kept i j b o (no c) d = B.kept_below i j (omega arith) b
-          kept i j b o (yes c) (no d) = B.kept_beside i j (omega arith) b
-          kept i j b o (yes c) (yes d) = absurd (o c d)
-
     module _ {l : ℕ} {s : List ℕ} {out : List ℤ} (T : Stage z work out₀ l s out) (a : l ≤ z.n) (b : z.n ≤ l) where
       last : Stage z work out₀ z.n s out
       last = let e : l ≡ z.n = omega arith in subst (λ l. Stage z work out₀ l s out) e T
 
       pub last_block : ForBlock s out (z.h / 2 ^ z.n) (z.w / 2 ^ z.n) z.w
       last_block = stage_block last
-
-      pub last_end : {out' : List ℤ} → BlockStored s out (z.h / 2 ^ z.n) (z.w / 2 ^ z.n) z.w out' → Split z work out₀ s out'
-      last_end = stage_end last

@@ -55,8 +55,7 @@ fn high_line(work: &mut [u32], a: usize, b: usize, c: usize, to: usize, width: u
     ensures { Filled 0 work.old (along to) (row_high work.old a b c) width work.new }
 {
     for j in 0..width {
-        let high = tone_high(work[a + j], work[b + j], work[c + j]);
-        work[to + j] = high;
+        work[to + j] = tone_high(work[a + j], work[b + j], work[c + j]);
     }
 }
 
@@ -85,8 +84,7 @@ fn split_line(work: &mut [u32], x: usize, lows: usize, highs: usize, m: usize)
     for j in 0..m {
         let even = work[x + 2 * j];
         let high = tone_high(even, work[x + (2 * j + 1)], work[x + (2 * j + 2)]);
-        let low = tone_low(even, before, high);
-        work[lows + j] = low;
+        work[lows + j] = tone_low(even, before, high);
         work[highs + j] = high;
         before = high;
     }
@@ -97,8 +95,7 @@ fn mirror(work: &mut [u32], x: usize, width: usize)
     requires { (2 ≤ width) × (x + width < length work.old) }
     ensures { work.new ≡ set work.old (x + width) (get_or work.old (x + (width - 2)) 0) }
 {
-    let v = work[x + (width - 2)];
-    work[x + width] = v;
+    work[x + width] = work[x + (width - 2)];
 }
 
 fn store_line(work: &[u32], from: usize, out: &mut [i32], at: usize, count: usize)
@@ -106,8 +103,7 @@ fn store_line(work: &[u32], from: usize, out: &mut [i32], at: usize, count: usiz
     ensures { Filled (pos 0) out.old (along at) (λ c. toned (line work.now from c)) count out.new }
 {
     for j in 0..count {
-        let v = coefficient_of(work[from + j]);
-        out[at + j] = v;
+        out[at + j] = coefficient_of(work[from + j]);
     }
 }
 
@@ -236,8 +232,7 @@ fn load_line(pyramid: &[i32], at: usize, work: &mut [u32], to: usize, count: usi
     ensures { Filled 0 work.old (along to) (tones_at pyramid.now at) count work.new }
 {
     for j in 0..count {
-        let t = tone_of(pyramid[at + j]);
-        work[to + j] = t;
+        work[to + j] = tone_of(pyramid[at + j]);
     }
 }
 
@@ -250,8 +245,7 @@ fn even_line(work: &mut [u32], lows: usize, highs: usize, to: usize, m: usize)
     let mut before = work[highs];
     for j in 0..m {
         let high = work[highs + j];
-        let even = tone_even(work[lows + j], before, high);
-        work[to + 2 * j] = even;
+        work[to + 2 * j] = tone_even(work[lows + j], before, high);
         before = high;
     }
 }
@@ -262,8 +256,11 @@ fn odd_line(work: &mut [u32], highs: usize, to: usize, m: usize)
     ensures { Filled 0 work.old (λ c. to + (2 * c + 1)) (between work.old highs to) m work.new }
 {
     for j in 0..m {
-        let odd = tone_odd(work[highs + j], work[to + 2 * j], work[to + (2 * j + 2)]);
-        work[to + (2 * j + 1)] = odd;
+        work[to + (2 * j + 1)] = tone_odd(
+            work[highs + j],
+            work[to + 2 * j],
+            work[to + (2 * j + 2)],
+        );
     }
 }
 
@@ -281,8 +278,7 @@ fn even_rows(work: &mut [u32], e: usize, p: usize, d: usize, to: usize, width: u
     ensures { Filled 0 work.old (along to) (row_even work.old e p d) width work.new }
 {
     for j in 0..width {
-        let even = tone_even(work[e + j], work[p + j], work[d + j]);
-        work[to + j] = even;
+        work[to + j] = tone_even(work[e + j], work[p + j], work[d + j]);
     }
 }
 
@@ -293,10 +289,8 @@ fn odd_rows(work: &mut [u32], d: usize, p: usize, next: usize, to: usize, width:
         (line work.old p) width work.new }
 {
     for j in 0..width {
-        let odd = tone_odd(work[d + j], work[to + j], work[next + j]);
-        let before = work[p + j];
-        work[to + width + j] = odd;
-        work[d + j] = before;
+        work[to + width + j] = tone_odd(work[d + j], work[to + j], work[next + j]);
+        work[d + j] = work[p + j];
     }
 }
 
@@ -350,8 +344,7 @@ impl Turn {
         requires { ForJoinTurn self pyramid.now work.old }
         ensures { TurnJoined self pyramid.now work.old work.new }
     {
-        let last = self.pairs - 1;
-        self.join_high_row(pyramid, work, last, self.lines);
+        self.join_high_row(pyramid, work, self.pairs - 1, self.lines);
         for i in (0..self.pairs).rev() {
             self.join_pair(pyramid, work, i);
         }
@@ -364,9 +357,7 @@ fn load_block(pyramid: &[i32], work: &mut [u32], height: usize, width: usize, st
     ensures { BlockLoaded pyramid.now work.old height width stride work.new }
 {
     for i in 0..height {
-        let from = i * stride;
-        let to = i * width;
-        load_line(pyramid, from, work, to, width);
+        load_line(pyramid, i * stride, work, i * width, width);
     }
 }
 

@@ -4,8 +4,8 @@ use Rattle.lifting.proofs.Filling.{filled_end}
 use Rattle.lifting.proofs.JoinLines.{even_asks, even_next, even_more}
 use Rattle.lifting.proofs.even_line.Goals as goal
 
-pub tone_even-even-requires : goal.tone_even-even-requires
-tone_even-even-requires c =
+pub tone_even-requires : goal.tone_even-requires
+tone_even-requires c =
     let I = c.loop-j.invariant in
     even_asks c.requires I.0 (omega arith) _ I.1
 
@@ -13,7 +13,7 @@ pub loop-j-preserved : goal.loop-j-preserved
 loop-j-preserved c =
     let F = c.requires in
     let I = c.loop-j.invariant in
-    (even_more F I.0 (omega arith) _ I.1 _ c.tone_even-even.ensures, even_next F I.0 (omega arith) _ I.1)
+    (even_more F I.0 (omega arith) _ I.1 _ c.tone_even.ensures, even_next F I.0 (omega arith) _ I.1)
 
 pub returns : goal.returns
 returns c = filled_end c.loop-j.invariant.0 (omega arith)

@@ -8,8 +8,8 @@ pub tone_high-high-requires : goal.tone_high-high-requires
 tone_high-high-requires c =
     split_ask_high c.requires c.loop-j.invariant.0 (omega arith)
 
-pub tone_low-low-requires : goal.tone_low-low-requires
-tone_low-low-requires c =
+pub tone_low-requires : goal.tone_low-requires
+tone_low-requires c =
     let I = c.loop-j.invariant in
     split_ask_low c.requires I.0 (omega arith) _ c.tone_high-high.result I.1 c.tone_high-high.ensures
 
@@ -18,7 +18,7 @@ loop-j-preserved c =
     let F = c.requires in
     let I = c.loop-j.invariant in
     let v = c.tone_high-high.ensures in (
-      split_more F I.0 (omega arith) _ _ I.1 v _ c.tone_low-low.ensures,
+      split_more F I.0 (omega arith) _ _ I.1 v _ c.tone_low.ensures,
       split_next F I.0 (omega arith) _ _ I.1 v,
     )
 

@@ -6,7 +6,7 @@ use Rattle.lifting.proofs.store_line.Goals as goal
 
 pub loop-j-preserved : goal.loop-j-preserved
 loop-j-preserved c =
-    let v = c.coefficient_of-v in
+    let v = c.coefficient_of in
     store_more c.requires c.loop-j.invariant (omega arith) _ v.ensures v.type_inv
 
 pub returns : goal.returns
