@@ -1,12 +1,14 @@
 -- What one more turn of a loop that fills a line leaves.
-use mathlib.Core.Path.{◌≡◌, sym, subst, ◌∙◌}
-use mathlib.Core.List.{List}
-use Prim.Native.Nat.{ℕ, ◌+◌, ◌<◌}
+use mathlib.Core.Path.{◌≡◌, sym, ap, subst, ◌∙◌}
+use mathlib.Core.List.{List, ◌++◌}
+use Prim.Native.Nat.{ℕ, ◌+◌, ◌-◌, ◌≤◌, ◌<◌}
 use native.Mathlib.Decide.{dec_lt}
 use native.Mathlib.Omega.{arith}
-use lib.ListN.{length, get_or, set, length-set}
-use lib.Seq.{get_or-set_same, get_or-set_other}
-use Rattle.lifting.specs.Fills.{Off, Filled, Both}
+use lib.ListN.{length, get_or, get_or-append, take, set, length-set}
+use lib.Seq.{get_or-set_same, get_or-set_other, get_or-take, get_or-drop, length-take-le}
+use borrow.Rule.Slice.PartMut.{put_mid, post_of, same_len_mid, mid_len, Post-is}
+use Rattle.std.proofs.lemmas.List.{get_or-append_right}
+use Rattle.lifting.specs.Fills.{along, Off, Filled, Both}
 
 module _ {A : Type 0} {z : A} {s₀ : List A} {place : ℕ → ℕ} {new : ℕ → A} where
   pub filled_more : {n : ℕ} {s : List A} {v : A} → Filled z s₀ place new n s → place n < length s₀ → Off (place n) place n → v ≡ new n
@@ -26,6 +28,36 @@ module _ {A : Type 0} {z : A} {s₀ : List A} {place : ℕ → ℕ} {new : ℕ �
 
   pub filled_end : {n m : ℕ} {s : List A} → Filled z s₀ place new n s → n ≡ m → Filled z s₀ place new m s
   filled_end {s = s} f e = subst (λ n. Filled z s₀ place new n s) e f
+
+module _ {A : Type 0} {z : A} {s₀ : List A} {new : ℕ → A} where
+  -- a part written, and put back where it stood
+  pub filled_part : (ys : List A) (at e m : ℕ) → e ≡ at + m → e ≤ length s₀ → length ys ≡ m → ((c : ℕ) → c < m → get_or ys c z ≡ new c)
+      → Filled z s₀ (along at) new m (put_mid at (e - at) s₀ ys)
+  filled_part ys at e m p h l w =
+      record {
+        same = same_len_mid at (e - at) s₀ ys (omega (arith, mid_len at e s₀ h));
+        done = λ c k. behind (at + c) (omega arith) ∙ inside c k;
+        kept = λ q o. by q o (dec_lt q at) (dec_lt q e);
+      }
+    where
+      front : length (take at s₀) ≡ at
+      front = length-take-le at s₀ (omega arith)
+
+      behind : (q : ℕ) → at ≤ q → get_or (put_mid at (e - at) s₀ ys) q z ≡ get_or (ys ++ post_of at (e - at) s₀) (q - at) z
+      behind q k = get_or-append_right (take at s₀) (ys ++ post_of at (e - at) s₀) at q z front k
+
+      inside : (c : ℕ) → c < m → get_or (ys ++ post_of at (e - at) s₀) (at + c - at) z ≡ new c
+      inside c k =
+          let i : at + c - at ≡ c = omega arith in
+          ap (λ q. get_or (ys ++ post_of at (e - at) s₀) q z) i ∙ get_or-append ys (post_of at (e - at) s₀) z c (omega arith) ∙ w c k
+
+      by : (q : ℕ) → Off q (along at) m → Dec (q < at) → Dec (q < e) → get_or (put_mid at (e - at) s₀ ys) q z ≡ get_or s₀ q z
+      by q o (yes k) d = get_or-append (take at s₀) (ys ++ post_of at (e - at) s₀) z q (omega (arith, front)) ∙ get_or-take at s₀ q z k
+      by q o (no k) (yes k') = absurd (o (q - at) (omega arith) (omega arith))
+      by q o (no k) (no k') =
+          let i : e + (q - at - m) ≡ q = omega arith in
+          behind q (omega arith) ∙ get_or-append_right ys (post_of at (e - at) s₀) m (q - at) z l (omega arith)
+          ∙ ap (λ l. get_or l (q - at - m) z) (Post-is at e s₀ (omega arith)) ∙ get_or-drop e s₀ (q - at - m) z ∙ ap (λ q. get_or s₀ q z) i
 
 module _ {s₀ : List ℕ} {p f q g : ℕ → ℕ} where
   pub both_more : {n : ℕ} {s : List ℕ} {v u : ℕ} → Both s₀ p f q g n s → p n < length s₀ → q n < length s₀

@@ -7,27 +7,14 @@ use native.Mathlib.Decide.{dec_lt}
 use native.Mathlib.Omega.{arith}
 use lib.Dec.{eqb}
 use lib.ListN.{get_or, set}
-use lib.IntN.{ℤ, pos}
-use mir.Syntax.{w32}
-use mir.Val.{to_z, of_z}
 use borrow.Author.Tests.{eq-eqb}
 use Rattle.pictures.specs.Laws.Tones.{bias, tone_even, tone_odd}
 use Rattle.pictures.specs.Laws.Room.{shallow}
-use Rattle.lifting.specs.Fills.{along, Filled}
+use Rattle.lifting.specs.Fills.{Filled}
 use Rattle.lifting.specs.Lines.{reach, line, Near}
-use Rattle.lifting.specs.Joins.{tone_of, tones_at, even_t, odd_t, joined_t, ForLoad, ForJoin, ForOdds, OddAsks, between, LineJoined}
+use Rattle.lifting.specs.Joins.{even_t, odd_t, joined_t, ForJoin, ForOdds, OddAsks, between, LineJoined}
 use Rattle.lifting.proofs.Filling.{filled_more}
-use Rattle.lifting.proofs.Signs.{read_back}
 use Rattle.lifting.proofs.RowLaws.{Mirrored, mirror_same, mirror_kept, mirror_behind}
-
--- coefficients loaded
-module _ {pyramid : List ℤ} {at : ℕ} {s₀ : List ℕ} {to count : ℕ} (F : ForLoad pyramid at s₀ to count) where
-  module _ {j : ℕ} {s : List ℕ} (f : Filled 0 s₀ (along to) (tones_at pyramid at) j s) (h : j < count) where
-    pub load_more : (v : ℕ) → v ≡ tone_of (to_z w32 (of_z w32 (get_or pyramid (at + j) (pos 0))))
-        → Filled 0 s₀ (along to) (tones_at pyramid at) (j + 1) (set s (to + j) v)
-    load_more v e =
-        let r = F.room in
-        filled_more f (omega arith) (λ i l. omega arith) (e ∙ ap tone_of (read_back (get_or pyramid (at + j) (pos 0)) (F.small j h)))
 
 -- what tone_even asks
 abbrev pub EvenAsks : ℕ → ℕ → ℕ → Type 0

@@ -11,7 +11,7 @@ use Rattle.pictures.specs.Laws.Room.{shallow, most_back}
 use Rattle.lifting.specs.declared.Turn.{Turn}
 use Rattle.lifting.specs.Fills.{along, Filled, Both}
 use Rattle.lifting.specs.Lines.{line, Near}
-use Rattle.lifting.specs.Joins.{tone_of, tones_at, ForJoin, OddAsks, LineJoined, BackRoom, lows_joined, loaded, ForLowRow, LowRowJoined}
+use Rattle.lifting.specs.Joins.{tone_of, tones_at, ForLoad, ForJoin, OddAsks, LineJoined, BackRoom, lows_joined, loaded, ForLowRow, LowRowJoined}
 use Rattle.lifting.specs.Joins.{ForHighRow, HighRowJoined, ForEvenRow, row_even, ForOddRow, row_odd}
 use Rattle.lifting.proofs.Filling.{filled_more, both_more}
 use Rattle.lifting.proofs.JoinLines.{joined_t_same}
@@ -61,12 +61,33 @@ module _ {t : Turn} {pyramid : List ℤ} {s₀ : List ℕ} {i : ℕ} (F : ForLow
   at_there : at + m ≤ length pyramid
   at_there = omega (arith, bands_there F.room F.below, F.room.wide)
 
+  pub low_loads : ForLoad pyramid at s₀ (loaded t) m
+  low_loads =
+      let l = F.room.lines in
+      record { there = at_there; room = omega arith; small = λ c h. F.room.small (at + c) (omega (arith, at_there)) }
+
   module _ {s₁ : List ℕ} (f : Filled 0 s₀ (along (loaded t)) (tones_at pyramid at) m s₁) where
     own_lows : (c : ℕ) → c < m → line s₁ (i * m) c ≡ line s₀ (i * m) c
     own_lows c h = let p = low_inside F.room F.below in f.kept (i * m + c) (λ d k. omega arith)
 
     N : Near (tones_at pyramid at) m shallow
     N = tones_near F.room F.below at m at_there
+
+    pub low_joins : ForJoin s₁ (i * m) (loaded t) (lows_joined t) m
+    low_joins =
+        let l = F.room.lines in
+        let p = low_inside F.room F.below in
+        let e = f.same in
+        record {
+          some = F.room.some;
+          low_near = record { least = λ c h. rw (own_lows c h) (F.near.least c h); most = λ c h. rw (own_lows c h) (F.near.most c h) };
+          high_near = record { least = λ c h. rw (f.done c h) (N.least c h); most = λ c h. rw (f.done c h) (N.most c h) };
+          lows_room = omega arith;
+          highs_room = omega arith;
+          room = omega arith;
+          lows_off = λ c h d k. omega arith;
+          highs_off = λ c h d k. omega arith;
+        }
 
     pub low_row_joined : {s₂ : List ℕ} → LineJoined s₁ (i * m) (loaded t) (lows_joined t) m s₂ → LowRowJoined t pyramid s₀ i s₂
     low_row_joined J =
@@ -88,6 +109,11 @@ module _ {t : Turn} {pyramid : List ℤ} {s₀ : List ℕ} {i to : ℕ} (F : For
 
   from_there : from + 2 * n ≤ length pyramid
   from_there = omega (arith, bands_there F.room F.below, F.room.wide)
+
+  pub high_loads : ForLoad pyramid from s₀ (loaded t) (2 * n)
+  high_loads =
+      let l = F.room.lines in
+      record { there = from_there; room = omega arith; small = λ c h. F.room.small (from + c) (omega (arith, from_there)) }
 
   module _ {s₁ : List ℕ} (f : Filled 0 s₀ (along (loaded t)) (tones_at pyramid from) (2 * n) s₁) where
     right_band : (c : ℕ) → c < n → line s₁ (loaded t + n) c ≡ tones_at pyramid (from + n) c

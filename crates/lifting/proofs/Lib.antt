@@ -1,5 +1,4 @@
 pub mod Filling
-pub mod Signs
 pub mod SplitLines
 pub mod Stored
 pub mod RowLaws

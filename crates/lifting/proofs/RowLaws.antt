@@ -144,11 +144,27 @@ module _ {t : Turn} {s₀ : List ℕ} {out₀ : List ℤ} {i : ℕ} where
     M₁ : Mirrored s₀ (lows_at t) m s₁
     M₁ = record { some = F.room.some; room = omega (arith, F.room.lines); list = e }
 
+    near₁ : Near (line s₁ (lows_at t)) (2 * m + 1) reach
+    near₁ = mirror_near M₁ F.near
+
     same₁ : length s₁ ≡ length s₀
     same₁ = mirror_same M₁
 
     module _ {s₂ : List ℕ}
         (b : Both s₁ (along (i * m)) (low_of (line s₁ (lows_at t))) (along (t.lines + (4 * m + 2))) (high_of (line s₁ (lows_at t))) m s₂) where
+      pub low_row_stores : ForStore s₂ (t.lines + (4 * m + 2)) out₀ (i * t.stride + m) m
+      low_row_stores =
+          let R = F.room in
+          let p = rows_there R F.below in
+          let l = R.lines in
+          let w = R.wide in
+          let q = b.same ∙ same₁ in
+          record {
+            there = omega arith;
+            room = omega arith;
+            small = λ c h. rw (b.other c h) (omega (arith, high_of_small (line s₁ (lows_at t)) m near₁ c h));
+          }
+
       pub low_row_lem : {out : List ℤ}
           → Filled (pos 0) out₀ (along (i * t.stride + m)) (λ c. toned (line s₂ (t.lines + (4 * m + 2)) c)) m out
           → LowRow t s₀ out₀ i s₂ out

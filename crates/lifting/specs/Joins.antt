@@ -29,6 +29,11 @@ pub record ForLoad (pyramid : List ℤ) (at : ℕ) (s : List ℕ) (to count : �
   pub room : to + count ≤ length s
   pub small : (c : ℕ) → c < count → nat_abs (get_or pyramid (at + c) (pos 0)) ≤ most_back
 
+-- coefficients as tones
+pub record Loaded (row : List ℤ) (line : List ℕ) : Type 0 where
+  pub same : length line ≡ length row
+  pub each : (c : ℕ) → c < length row → get_or line c 0 ≡ tone_of (get_or row c (pos 0))
+
 -- lows and highs apart from the line that they are joined to, and from the number behind it
 pub record ForJoin (s : List ℕ) (lows highs to m : ℕ) : Type 0 where
   pub some : 1 ≤ m

@@ -1,6 +1,6 @@
 -- Lines of tones in the workspace, lifted.
-use Rattle.std.specs.Prelude.{List, cond, ℕ, ◌+◌, ◌-◌, ◌*◌, ◌≤◌, ◌<◌, min, ltb, length, get_or, ℤ}
-use Rattle.pictures.specs.Laws.Tones.{bias, tone_high, tone_low}
+use Rattle.std.specs.Prelude.{◌≡◌, List, cond, ℕ, ◌+◌, ◌-◌, ◌*◌, ◌≤◌, ◌<◌, min, ltb, length, get_or, ℤ, pos}
+use Rattle.pictures.specs.Laws.Tones.{bias, toned, tone_high, tone_low}
 use Rattle.lifting.specs.Fills.{along, Off}
 
 -- How far from the bias the tones of a line may be, for what is made of them to be a tone.
@@ -71,3 +71,8 @@ pub record ForStore (s : List ℕ) (from : ℕ) (out : List ℤ) (at count : ℕ
   pub there : from + count ≤ length s
   pub room : at + count ≤ length out
   pub small : (c : ℕ) → c < count → line s from c ≤ 2 * bias
+
+-- a line's tones as coefficients
+pub record Stored (line : List ℕ) (out : List ℤ) : Type 0 where
+  pub same : length out ≡ length line
+  pub each : (c : ℕ) → c < length line → get_or out c (pos 0) ≡ toned (get_or line c 0)

@@ -1,15 +1,15 @@
 // The 5/3 lifting of pictures, forward and back, exact: in the workspace a number v stands as its tone, v + 2^28.
 #![tactic(auto)]
 
-ghost use Rattle.std.specs.Prelude.{◌≡◌, true, ◌+◌, ◌-◌, ◌*◌, ◌≤◌, ◌<◌, min, length, get_or, set, pos, nat_abs};
+ghost use Rattle.std.specs.Prelude.{◌≡◌, true, ℕ, ◌+◌, ◌-◌, ◌*◌, ◌≤◌, ◌<◌, min, length, get_or, set, pos, nat_abs};
 ghost use Rattle.rules.specs.Document.Pyramid.{legal_size};
 ghost use Rattle.pictures.specs.Laws.Tones.{bias, toned, tone_high, tone_low, tone_even, tone_odd};
 ghost use Rattle.pictures.specs.Laws.Room.{most_back};
 ghost use Rattle.lifting.specs.Fills.{along, Filled, Both};
-ghost use Rattle.lifting.specs.Lines.{reach, line, ForHighs, ForRows, row_high, row_low, ForSplit, high_of, low_of, ForStore};
+ghost use Rattle.lifting.specs.Lines.{reach, line, ForHighs, ForRows, row_high, row_low, ForSplit, high_of, low_of, Stored};
 ghost use Rattle.lifting.specs.Rows.{ForRow, lows_at, LowRow, HighRow, ForPair, Pair, after_row};
 ghost use Rattle.lifting.specs.Turns.{ForTurn, TurnSplit, turn_at, ForBlock, BlockStored};
-ghost use Rattle.lifting.specs.Joins.{OddAsks, tone_of, tones_at, even_t, between, ForLoad, ForJoin, ForOdds, LineJoined};
+ghost use Rattle.lifting.specs.Joins.{OddAsks, tone_of, even_t, between, Loaded, ForJoin, ForOdds, LineJoined};
 ghost use Rattle.lifting.specs.Joins.{ForLowRow, LowRowJoined, ForHighRow, HighRowJoined, ForEvenRow, row_even, ForOddRow, row_odd};
 ghost use Rattle.lifting.specs.Joins.{ForJoinPair, PairJoined};
 ghost use Rattle.lifting.specs.Joins.{ForJoinTurn, TurnJoined, ForBlockLoad, BlockLoaded};
@@ -28,6 +28,7 @@ pub struct Turn {
     pub lines: usize,
 }
 
+// The four tones have other signs and shares of the bias: one function for two of them would be told which by a parameter.
 fn tone_high(a: u32, b: u32, c: u32) -> u32
     requires { (a ≤ bias + reach) × (b ≤ bias + reach) × (c ≤ bias + reach) × (bias ≤ b + reach) }
     ensures { result ≡ tone_high a b c }
@@ -49,7 +50,8 @@ fn coefficient_of(t: u32) -> i32
     t as i32 - BIAS as i32
 }
 
-// The row of highs of three rows.
+// Rows and lines of the workspace are places, not slices: what is written overlaps what is still to be read (the contracts ForPair and ForJoinPair).
+// The row of highs of three rows. even_rows makes another tone and asks something else of its rows: a closure's clauses would outgrow the loops.
 fn high_line(work: &mut [u32], a: usize, b: usize, c: usize, to: usize, width: usize)
     requires { ForHighs work.old a b c to width }
     ensures { Filled 0 work.old (along to) (row_high work.old a b c) width work.new }
@@ -98,12 +100,13 @@ fn mirror(work: &mut [u32], x: usize, width: usize)
     work[x + width] = work[x + (width - 2)];
 }
 
-fn store_line(work: &[u32], from: usize, out: &mut [i32], at: usize, count: usize)
-    requires { ForStore work.now from out.old at count }
-    ensures { Filled (pos 0) out.old (along at) (λ c. toned (line work.now from c)) count out.new }
+// load_line, its way back, differs in both types and the tone: a closure's clauses would outgrow the loops here, too.
+fn store_line(line: &[u32], out: &mut [i32])
+    requires { (length out.old ≡ length line.now) × ((c : ℕ) → c < length line.now → get_or line.now c 0 ≤ 2 * bias) }
+    ensures { Stored line.now out.new }
 {
-    for j in 0..count {
-        out[at + j] = coefficient_of(work[from + j]);
+    for (j, t) in line.iter().enumerate() {
+        out[j] = coefficient_of(*t);
     }
 }
 
@@ -142,7 +145,7 @@ impl Turn {
         let spare = self.lines + (4 * m + 2);
         mirror(work, x, 2 * m);
         split_line(work, x, row, spare, m);
-        store_line(work, spare, out, at, m);
+        store_line(&work[spare..spare + m], &mut out[at..at + m]);
     }
 
     // The row of highs: all of it is the pyramid's.
@@ -156,7 +159,7 @@ impl Turn {
         let spare = x + (4 * m + 2);
         mirror(work, x, 2 * m);
         split_line(work, x, spare, spare + m, m);
-        store_line(work, spare, out, at, 2 * m);
+        store_line(&work[spare..spare + 2 * m], &mut out[at..at + 2 * m]);
     }
 
     // Rows 2i and 2i + 1 of the picture, with the highs before.
@@ -192,7 +195,8 @@ fn store_block(work: &[u32], out: &mut [i32], height: usize, width: usize, strid
     ensures { BlockStored work.now out.old height width stride out.new }
 {
     for i in 0..height {
-        store_line(work, i * width, out, i * stride, width);
+        let (from, at) = (i * width, i * stride);
+        store_line(&work[from..from + width], &mut out[at..at + width]);
     }
 }
 
@@ -227,12 +231,12 @@ fn tone_of(v: i32) -> u32
     (v + BIAS as i32) as u32
 }
 
-fn load_line(pyramid: &[i32], at: usize, work: &mut [u32], to: usize, count: usize)
-    requires { ForLoad pyramid.now at work.old to count }
-    ensures { Filled 0 work.old (along to) (tones_at pyramid.now at) count work.new }
+fn load_line(row: &[i32], line: &mut [u32])
+    requires { (length line.old ≡ length row.now) × ((c : ℕ) → c < length row.now → nat_abs (get_or row.now c (pos 0)) ≤ most_back) }
+    ensures { Loaded row.now line.new }
 {
-    for j in 0..count {
-        work[to + j] = tone_of(pyramid[at + j]);
+    for (j, v) in row.iter().enumerate() {
+        line[j] = tone_of(*v);
     }
 }
 
@@ -305,7 +309,7 @@ impl Turn {
         let at = i * self.stride + m;
         let to = self.lines + (4 * m + 2);
         let spare = self.lines + (6 * m + 3);
-        load_line(pyramid, at, work, spare, m);
+        load_line(&pyramid[at..at + m], &mut work[spare..spare + m]);
         join_line(work, row, spare, to, m);
     }
 
@@ -317,7 +321,7 @@ impl Turn {
         let m = self.half;
         let at = (self.pairs + i) * self.stride;
         let spare = self.lines + (6 * m + 3);
-        load_line(pyramid, at, work, spare, 2 * m);
+        load_line(&pyramid[at..at + 2 * m], &mut work[spare..spare + 2 * m]);
         join_line(work, spare, spare + m, to, m);
     }
 
@@ -357,7 +361,8 @@ fn load_block(pyramid: &[i32], work: &mut [u32], height: usize, width: usize, st
     ensures { BlockLoaded pyramid.now work.old height width stride work.new }
 {
     for i in 0..height {
-        load_line(pyramid, i * stride, work, i * width, width);
+        let (at, to) = (i * stride, i * width);
+        load_line(&pyramid[at..at + width], &mut work[to..to + width]);
     }
 }
 

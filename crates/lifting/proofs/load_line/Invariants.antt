@@ -1,6 +1,9 @@
-use Rattle.lifting.specs.Fills.{along, Filled}
-use Rattle.lifting.specs.Joins.{tones_at}
+use mathlib.Core.Path.{◌≡◌}
+use Prim.Native.Nat.{ℕ, ◌<◌}
+use lib.ListN.{get_or}
+use lib.IntN.{pos}
+use Rattle.lifting.specs.Joins.{tone_of}
 use Rattle.lifting.proofs.load_line.Given as goal
 
 abbrev pub invariant-loop-j : goal.invariant-loop-j
-invariant-loop-j l = Filled 0 l.initial.work (along l.to) (tones_at l.pyramid l.at) l.j l.work
+invariant-loop-j l = (c : ℕ) → c < l.j → get_or l.line c 0 ≡ tone_of (get_or l.row c (pos 0))
