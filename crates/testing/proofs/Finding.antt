@@ -272,9 +272,3 @@ pub each_none : (run : Run) (body s out : List ℕ) (w : Stand) {m : ℕ} → Te
 each_none run body s out w {m} H =
     subst (λ ps. Tested run body ps s out w s out w) (sym (waiting_none run.stretch.n w.fill.lip s))
     (tested_none run body s out w (fits_fewer m H.fits))
-
-pub each_done : {run : Run} {body : List ℕ} (i m : ℕ) {s out : List ℕ} {w : Stand} {s₁ out₁ : List ℕ} {w₁ : Stand} → i ≡ m
-    → Tested run body (waiting run.stretch.n w.fill.lip i s) s out w s₁ out₁ w₁
-    → Tested run body (waiting run.stretch.n w.fill.lip m s) s out w s₁ out₁ w₁
-each_done {run} {body} i m {s} {out} {w} {s₁} {out₁} {w₁} e T =
-    subst (λ (j : ℕ). Tested run body (waiting run.stretch.n w.fill.lip j s) s out w s₁ out₁ w₁) e T

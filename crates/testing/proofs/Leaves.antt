@@ -20,7 +20,7 @@ use Rattle.lists.specs.declared.Set.{Set}
 use Rattle.lists.specs.declared.Set.TheVariants.{TypeA, TypeB}
 use Rattle.lists.specs.declared.Fill.{Fill}
 use Rattle.lists.specs.declared.Stretch.{Stretch}
-use Rattle.lists.specs.Lists.{Inside, Marked, coefficient, mark_of, entry_of, index_of, Fits}
+use Rattle.lists.specs.Lists.{Inside, Marked, coefficient, mark_of, entry_of, Fits}
 use Rattle.lists.specs.Besides.{spared_none, spared_at}
 use Rattle.lists.specs.declared.Role.TheVariants.{Codes, Reads}
 use Rattle.testing.specs.declared.Run.{Run}
@@ -52,9 +52,6 @@ module _ (run : Run) (s : List ℕ) {e : Set} {x : ℕ} where
       → m / 32 ≡ largest_at run s (entry_of e)
   unfolding largest_at
   largest_b i l h = rw (h, i, le-leb run.elders x l)
-
-pub index_b : {e : Set} {x : ℕ} → e ≡ TypeB x → index_of e ≡ x
-index_b i = rw i
 
 -- the coder's answers
 module _ (run : Run) (s : List ℕ) where

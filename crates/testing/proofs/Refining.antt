@@ -132,8 +132,3 @@ refining_small {run} {body} {i} {m} {s} {out} {at} H T l q r =
       sharpened_all_most run s body (known n i s) (chan out (values_in n s) at.at) q,
       (H.growth r).small q,
     )
-
-pub refined_done : {run : Run} {body : List ℕ} {i m : ℕ} {s out : List ℕ} {at : BitPosition} {s₁ out₁ : List ℕ} {at₁ : BitPosition} → i ≡ m
-    → Refined run body (known run.stretch.n i s) s out at s₁ out₁ at₁ → Refined run body (known run.stretch.n m s) s out at s₁ out₁ at₁
-refined_done {run} {body} {s = s} {out} {at} {s₁} {out₁} {at₁} e T =
-    subst (λ (j : ℕ). Refined run body (known run.stretch.n j s) s out at s₁ out₁ at₁) e T

@@ -118,9 +118,7 @@ fn ask_found(run: Run, body: &[u8], out: &mut [u8], at: BitPosition, e: usize) -
     requires { (at.at + 2 < 2 ^ 62) × (run.plane.0 < most_planes) }
     ensures { AnsweredBy run body.now e out.old at result out.new }
 {
-    let stretch = run.stretch;
-    let role = stretch.role;
-    match role {
+    match run.stretch.role {
         Role::Reads => read_found(body, at),
         Role::Codes => {
             let planes = e / 2 % 32;
@@ -133,14 +131,9 @@ fn ask_bit(run: Run, body: &[u8], s: &[u32], out: &mut [u8], at: BitPosition, x:
     requires { (at.at < 2 ^ 62) × (run.plane.0 < most_planes) × (4 * run.stretch.n ≤ length s.now) × Inside run.stretch x }
     ensures { Replied (side run s.now body.now) (bit? x) out.old at result out.new }
 {
-    let stretch = run.stretch;
-    let role = stretch.role;
-    match role {
+    match run.stretch.role {
         Role::Reads => at.read(body),
-        Role::Codes => {
-            let n = run.plane.0;
-            say(out, at, (word_at(run, s, x) / 2 >> n) % 2 == 1)
-        }
+        Role::Codes => say(out, at, (word_at(run, s, x) / 2 >> run.plane.0) % 2 == 1),
     }
 }
 
@@ -153,15 +146,17 @@ fn largest_in(run: Run, s: &[u32], e: Set) -> u32
     match e {
         Set::TypeA(x) => {
             if x < run.parents {
-                return 0;
+                0
+            } else {
+                stretches::maximum_at(s, n, x - run.parents) % 32
             }
-            stretches::maximum_at(s, n, x - run.parents) % 32
         }
         Set::TypeB(x) => {
             if x < run.elders {
-                return 0;
+                0
+            } else {
+                stretches::maximum_at(s, n, 4 * (x - run.elders)) / 32
             }
-            stretches::maximum_at(s, n, 4 * (x - run.elders)) / 32
         }
     }
 }
@@ -172,14 +167,9 @@ pub fn ask_set(run: Run, body: &[u8], s: &[u32], out: &mut [u8], at: BitPosition
         × (index_of e < 2 ^ 32) }
     ensures { Replied (side run s.now body.now) (set? (entry_of e)) out.old at result out.new }
 {
-    let stretch = run.stretch;
-    let role = stretch.role;
-    match role {
+    match run.stretch.role {
         Role::Reads => at.read(body),
-        Role::Codes => {
-            let n = run.plane.0 as u32;
-            say(out, at, n + 1 < largest_in(run, s, e))
-        }
+        Role::Codes => say(out, at, run.plane.0 as u32 + 1 < largest_in(run, s, e)),
     }
 }
 
@@ -198,9 +188,7 @@ fn note_tested(
         × Inside run.stretch x }
     ensures { NotedBy found run at.at x negative f s.old s.new }
 {
-    let stretch = run.stretch;
-    let role = stretch.role;
-    match role {
+    match run.stretch.role {
         Role::Codes => {}
         Role::Reads => {
             if at.at <= run.until.at {
@@ -226,9 +214,7 @@ fn note_refined(run: Run, s: &mut [u32], at: BitPosition, x: usize, bit: bool)
         × (reads run ≡ true → run.until.at < at.at → bit ≡ false) × Inside run.stretch x }
     ensures { Noted run at.at (refined x bit) s.old s.new }
 {
-    let stretch = run.stretch;
-    let role = stretch.role;
-    match role {
+    match run.stretch.role {
         Role::Codes => {}
         Role::Reads => {
             let i = x - run.stretch.first;
@@ -239,15 +225,15 @@ fn note_refined(run: Run, s: &mut [u32], at: BitPosition, x: usize, bit: bool)
     }
 }
 
-fn ends_of(w: Stand) -> Ends
-    ensures { result ≡ ends_of w }
-{
-    let fill = w.fill;
-    let at = w.at;
-    Ends {
-        lip: fill.lip,
-        lsp: fill.lsp,
-        at,
+impl From<Stand> for Ends {
+    fn from(w: Stand) -> Ends
+        ensures { result ≡ ends_of w }
+    {
+        Ends {
+            lip: w.fill.lip,
+            lsp: w.fill.lsp,
+            at: w.at,
+        }
     }
 }
 
@@ -255,11 +241,14 @@ fn ends_of(w: Stand) -> Ends
 pub fn moved_to(w: Stand, e: Ends) -> Stand
     ensures { result ≡ moved_to w e }
 {
-    let mut fill = w.fill;
-    fill.lip = e.lip;
-    fill.lsp = e.lsp;
-    let at = e.at;
-    Stand { fill, at }
+    Stand {
+        fill: Fill {
+            lip: e.lip,
+            lsp: e.lsp,
+            ..w.fill
+        },
+        at: e.at,
+    }
 }
 
 // The coefficient of an entry is tested: its bits, and its place at the end of LSP or of LIP.
@@ -274,8 +263,11 @@ fn test(run: Run, body: &[u8], s: &mut [u32], w: Stand, out: &mut [u8], e: usize
     let x = lists::coefficient_of(e);
     note_tested(run, s, w.fill, told.next, x, told.found, told.negative);
     let fill = lists::push_tested(s, run.stretch, w.fill, e, told.found);
-    let at = told.next;
-    ends_of(Stand { fill, at })
+    Ends {
+        lip: fill.lip,
+        lsp: fill.lsp,
+        at: told.next,
+    }
 }
 
 // Step 1, and the offspring of an opened set: the m coefficients that wait behind LIP are tested, in order. Those that stay are put to its end, which
@@ -285,12 +277,9 @@ pub fn test_each(run: Run, body: &[u8], s: &mut [u32], w: Stand, out: &mut [u8],
     ensures { Tested run body.now (waiting run.stretch.n w.fill.lip m s.old) s.old out.old w
         s.new out.new (moved_to w result) }
 {
-    let mut r = ends_of(w);
-    let first = w.fill.lip;
-    let mut i = 0;
-    while i < m {
-        let e = lists::lip_at(s, run.stretch.n, first + i);
-        i += 1;
+    let mut r = Ends::from(w);
+    for i in 0..m {
+        let e = lists::lip_at(s, run.stretch.n, w.fill.lip + i);
         r = test(run, body, s, moved_to(w, r), out, e);
     }
     r
@@ -328,10 +317,8 @@ pub fn refine_lsp(
         s.new out.new result }
 {
     let mut next = at;
-    let mut i = 0;
-    while i < m {
+    for i in 0..m {
         let x = lists::lsp_at(s, run.stretch.n, i);
-        i += 1;
         next = refine(run, body, s, out, next, x);
     }
     next

@@ -1,5 +1,4 @@
-use Rattle.testing.proofs.Leaves.{largest_outside_a, largest_outside_b, largest_a, largest_b, index_b}
-use native.Mathlib.Omega.{arith}
+use Rattle.testing.proofs.Leaves.{largest_outside_a, largest_outside_b, largest_a, largest_b}
 use borrow.Author.Rules.{rules}
 use Rattle.testing.proofs.largest_in.Goals as goal
 
@@ -8,11 +7,6 @@ returns-then-x-run c = search (rules, largest_outside_a)
 
 pub returns-then-x-run-2 : goal.returns-then-x-run-2
 returns-then-x-run-2 c = search (rules, largest_outside_b)
-
-pub overflow_mul-x : goal.overflow_mul-x
-overflow_mul-x c =
-    let small = c.requires.2 in
-    record { fits = omega (arith, index_b c.in-TypeB.is, small) }
 
 pub returns-else-x-run : goal.returns-else-x-run
 returns-else-x-run c = search (rules, largest_a)

@@ -1,13 +1,7 @@
+use mathlib.Core.Path.{refl}
 use Rattle.testing.proofs.Finding.{noted_by_fits, noted_by_marked, noted_as, tested_by, ends_moved}
 use Rattle.testing.proofs.Leaves.{marked_tells}
-use native.Mathlib.Omega.{arith}
 use Rattle.testing.proofs.test.Goals as goal
-
-pub note_tested-requires : goal.note_tested-requires
-note_tested-requires c =
-    let at = c.coefficient_of-x.ensures in
-    let start = c.requires in
-    (start.0, start.1, start.2, omega (arith, start.3), (omega (arith, at, start.6.0), omega (arith, at, start.6.1)))
 
 pub push_tested-fill-requires : goal.push_tested-fill-requires
 push_tested-fill-requires c =
@@ -20,4 +14,4 @@ returns c =
     let coefficient = c.coefficient_of-x.ensures in
     let answered = c.ask_found-told.ensures.answered _ (marked_tells c.args.run _ _ c.requires.6 c.requires.7) in
     let noted = noted_as coefficient c.note_tested.ensures in
-    ends_moved (tested_by answered noted c.push_tested-fill.ensures c.requires.1) c.ends_of.ensures
+    ends_moved (tested_by answered noted c.push_tested-fill.ensures c.requires.1) refl

@@ -1,5 +1,5 @@
 use mathlib.Core.Path.{◌≡◌}
-use Prim.Native.Nat.{◌≤◌, ◌-◌}
+use Prim.Native.Nat.{◌≤◌}
 use lib.ListN.{length}
 use Rattle.lists.specs.Lists.{waiting}
 use Rattle.testing.specs.Finding.{moved_to, Tested}
@@ -10,6 +10,3 @@ invariant-loop-i l =
     Tested l.run l.body (waiting l.run.stretch.n l.w.fill.lip l.i l.initial.s) l.initial.s l.initial.out l.w l.s l.out (moved_to l.w l.r) × (l.i ≤ l.m)
     × (length l.s ≡ length l.initial.s)
     × (length l.out ≡ length l.initial.out)
-
-abbrev pub decreases-loop-i : goal.decreases-loop-i
-decreases-loop-i l = l.m - l.i
