@@ -1,19 +1,19 @@
 -- Step 2: sets put at the end of LIS, and what the visit of a set makes of lists and side.
 use mathlib.Core.Path.{◌≡◌, refl, sym, ap, ap₂, ◌∙◌, subst}
 use mathlib.Core.Bool.{Bool, true, false, cond}
-use mathlib.Core.List.{List, [], ◌∷◌, ◌++◌, map, append_assoc, append-nil}
+use mathlib.Core.List.{List, [], ◌∷◌, ◌++◌, map, map-append, append_assoc, append-nil}
 use Prim.Native.Nat.{ℕ, suc, ◌+◌, ◌*◌, ◌≤◌, ◌<◌, ◌^◌}
 use native.Mathlib.Nat.{add-zero}
 use native.Mathlib.Numerals.{add-one}
 use native.Mathlib.Omega.{arith}
 use native.Mathlib.Decide.{dec_lt}
 use lib.Dec.{leb, ltb}
-use lib.ListN.{length, length-append}
+use lib.ListN.{length, length-append, length-map}
 use borrow.Author.Tests.{le-ltb, le-leb, lt-leb}
 use Rattle.rules.specs.Document.Pyramid.{Family}
-use Rattle.rules.specs.Document.Passes.{Entry, typeA, typeB, set?, stays, opened, added, Side, Course, listed, listing, done}
+use Rattle.rules.specs.Document.Passes.{Entry, typeA, typeB, set?, stays, opened, added, Side, Course, listed, listing, done, from}
 use Rattle.rules.specs.Laws.Counting.Sums.{All}
-use Rattle.rules.proofs.Laws.Counting.Sums.{all_then}
+use Rattle.rules.proofs.Laws.Counting.Sums.{all_then, from_add, from_length}
 use Rattle.rules.specs.Laws.Family.Lawful.{Lawful}
 use Rattle.rules.specs.Laws.Family.Sizes.{level_start, level_size}
 use Rattle.rules.proofs.Laws.Family.Sizes.{legal}
@@ -78,32 +78,32 @@ added_on {es} {fs} {t} {s} {s₁} {f = f} {f₁ = f₁} a b =
       known = λ m h. b.known m (omega (arith, ap (λ g. g.lsp) a.fill)) ∙ a.known m h;
     }
 
--- the four of a block
-pub added_block : {x : ℕ} {t : Stretch} {s s₁ s₂ s₃ s₄ : List ℕ} {f f₁ f₂ f₃ f₄ : Fill} → SetAdded t s f (typeA x) s₁ f₁
-    → SetAdded t s₁ f₁ (typeA (x + 1)) s₂ f₂ → SetAdded t s₂ f₂ (typeA (x + 2)) s₃ f₃ → SetAdded t s₃ f₃ (typeA (x + 3)) s₄ f₄
-    → Added (map typeA (four_from x)) t s f s₄ f₄
-added_block a b c d = added_on (added_one a) (added_on (added_one b) (added_on (added_one c) (added_one d)))
+-- the first i of a block
+pub block_none : (x : ℕ) {t : Stretch} {s : List ℕ} {f : Fill} → Fits t s f → Added (map typeA (from x 0)) t s f s f
+unfolding from
+block_none x {t} {s} {f} h = added_none t s f h
 
--- where there was room for four, there is for the next
-room_left : {t : Stretch} {s s' : List ℕ} {f r : Fill} {e : Entry} (m y : ℕ) → SetAdded t s f e s' r → f.visited + f.left + suc m ≤ y
-    → r.visited + r.left + m ≤ y
-room_left m y a h = omega (arith, ap (λ g. g.visited) a.fill, ap (λ g. g.left) a.fill)
+module _ (x i : ℕ) {t : Stretch} {s s₁ : List ℕ} {f f₁ : Fill} (A : Added (map typeA (from x i)) t s f s₁ f₁) where
+  pub block_room : (y : ℕ) → i < 4 → f.visited + f.left + 4 ≤ y → f₁.visited + f₁.left < y
+  block_room y l h =
+      omega (arith, ap (λ g. g.visited) A.fill, ap (λ g. g.left) A.fill, length-map (from x i) typeA, from_length x i)
 
-pub room_second : (y : ℕ) {t : Stretch} {s s₁ : List ℕ} {f f₁ : Fill} {d : Entry} → SetAdded t s f d s₁ f₁
-    → f.visited + f.left + 4 ≤ y → f₁.visited + f₁.left < y
-room_second y a h = omega (arith, room_left 3 y a h)
+  pub block_next : {s₂ : List ℕ} {f₂ : Fill} → SetAdded t s₁ f₁ (typeA (x + i)) s₂ f₂ → Added (map typeA (from x (i + 1))) t s f s₂ f₂
+  unfolding from
+  block_next {s₂} {f₂} a =
+      let more : map typeA (from x (i + 1)) ≡ map typeA (from x i) ++ (typeA (x + i) ∷ []) =
+      ap (map typeA) (from_add x i 1) ∙ map-append typeA (from x i) (from (x + i) 1) in
+      subst (λ es. Added es t s f s₂ f₂) (sym more) (added_on A (added_one a))
 
-module _ (y : ℕ) {t : Stretch} {s s₁ s₂ : List ℕ} {f f₁ f₂ : Fill} {d e : Entry} (b : SetAdded t s₁ f₁ e s₂ f₂) (a : SetAdded t s f d s₁ f₁)
-    (h : f.visited + f.left + 4 ≤ y) where
-  pub two_left : f₂.visited + f₂.left + 2 ≤ y
-  two_left = room_left 2 y b (room_left 3 y a h)
-
-  pub room_third : f₂.visited + f₂.left < y
-  room_third = omega (arith, two_left)
-
-pub room_fourth : (y : ℕ) {t : Stretch} {s s₁ : List ℕ} {f f₁ : Fill} {d : Entry} → SetAdded t s f d s₁ f₁
-    → f.visited + f.left + 2 ≤ y → f₁.visited + f₁.left < y
-room_fourth y a h = omega (arith, room_left 1 y a h)
+  pub block_whole : i ≡ 4 → Added (map typeA (four_from x)) t s f s₁ f₁
+  unfolding from
+  block_whole e =
+      let a : suc x ≡ x + 1 = omega arith in
+      let b : suc (suc x) ≡ x + 2 = omega arith in
+      let c : suc (suc (suc x)) ≡ x + 3 = omega arith in
+      let four : from x 4 ≡ four_from x =
+      ap₂ (λ (y z : ℕ). x ∷ y ∷ z ∷ suc (suc (suc x)) ∷ []) a b ∙ ap (λ (y : ℕ). x ∷ (x + 1) ∷ (x + 2) ∷ y ∷ []) c in
+      subst (λ xs. Added (map typeA xs) t s f s₁ f₁) (ap (from x) e ∙ four) A
 
 -- What is left of the visits makes the same, whatever has become of the lists: the side is the same.
 pub visits_side : {run : Run} {m : ℕ} {s s' : List ℕ} (body : List ℕ) (es : List Entry) (c : Course Chan) → Around run m s s'
@@ -468,9 +468,9 @@ module _ (run : Run) (P : Proper run) where
             }
 
 -- whether a set has members in the level
-pub has_none : (run : Run) (v : ℕ) (e : Set) → run.z.n < run.level.0 → false ≡ has_member run v (entry_of e)
+pub has_none : (run : Run) (v : ℕ) (e : Set) → run.z.n < run.level.0 → leb run.level.0 run.z.n ≡ has_member run v (entry_of e)
 unfolding has_member
-has_none run v (TypeA x) h = sym (lt-leb run.level.0 run.z.n h)
+has_none run v (TypeA x) h = refl
 has_none run v (TypeB x) h = rw (lt-leb run.level.0 run.z.n h)
 
 module _ (run : Run) (v : ℕ) {e : Set} {x : ℕ} (h : run.level.0 ≤ run.z.n) where

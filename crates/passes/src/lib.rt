@@ -14,15 +14,14 @@ use lists::{Fill, Set};
 use testing::{Ends, Run, Stand};
 
 // Four tree numbers, as sets of type A at the end of LIS.
-fn add_block(run: Run, s: &mut [u32], f: Fill, first: usize) -> Fill
+fn add_block(run: Run, s: &mut [u32], mut f: Fill, first: usize) -> Fill
     requires { Fits run.stretch s.old f × (run.stretch.n < 2 ^ 32) × (f.visited + f.left + 4 ≤ set_room run.stretch.n) × (first + 4 < 2 ^ 31) }
     ensures { Added (map typeA (four_from first)) run.stretch s.old f s.new result }
 {
-    let stretch = run.stretch;
-    let a = lists::add_set(s, stretch, f, Set::TypeA(first));
-    let b = lists::add_set(s, stretch, a, Set::TypeA(first + 1));
-    let c = lists::add_set(s, stretch, b, Set::TypeA(first + 2));
-    lists::add_set(s, stretch, c, Set::TypeA(first + 3))
+    for i in 0..4 {
+        f = lists::add_set(s, run.stretch, f, Set::TypeA(first + i));
+    }
+    f
 }
 
 // The offspring of an opened set are lined up behind LIP and tested from there, as those of LIP are: one loop for both.
@@ -43,10 +42,10 @@ fn open_a(run: Run, body: &[u8], s: &mut [u32], w: Stand, out: &mut [u8], x: usi
     let r = testing::moved_to(w, ends);
     if 1 < run.level.0 {
         let fill = lists::add_set(s, run.stretch, r.fill, Set::TypeB(x));
-        let at = r.at;
-        return Stand { fill, at };
+        Stand { fill, ..r }
+    } else {
+        r
     }
-    r
 }
 
 // A set of type B whose bit is 1: its offspring go to the end of LIS as type A.
@@ -55,8 +54,7 @@ fn open_b(run: Run, s: &mut [u32], w: Stand, x: usize) -> Stand
     ensures { Added (map typeA ((family_of run).offspring x)) run.stretch s.old w.fill s.new result.fill × (result.at ≡ w.at) }
 {
     let fill = add_block(run, s, w.fill, 4 * x);
-    let at = w.at;
-    Stand { fill, at }
+    Stand { fill, ..w }
 }
 
 // A set whose bit is 1.
@@ -75,13 +73,11 @@ fn open_set(run: Run, body: &[u8], s: &mut [u32], w: Stand, out: &mut [u8], e: S
 fn has_member(run: Run, visited: usize, e: Set) -> bool
     ensures { result ≡ has_member run visited (entry_of e) }
 {
-    if run.z.n < run.level.0 {
-        return false;
-    }
-    match e {
-        Set::TypeA(_) => true,
-        Set::TypeB(_) => visited < run.olds,
-    }
+    run.level.0 <= run.z.n
+        && match e {
+            Set::TypeA(_) => true,
+            Set::TypeB(_) => visited < run.olds,
+        }
 }
 
 // The bit of a set that has members in the level: it stays in its place, or is opened.
@@ -90,13 +86,13 @@ fn weigh(run: Run, body: &[u8], s: &mut [u32], w: Stand, out: &mut [u8], e: Set)
     ensures { Weighed run body.now (entry_of e) s.old out.old w s.new out.new result }
 {
     let bit = testing::ask_set(run, body, s, out, w.at, e);
-    let fill = w.fill;
-    let at = bit.next;
+    let asked = Stand { at: bit.next, ..w };
     if bit.bit {
-        return open_set(run, body, s, Stand { fill, at }, out, e);
+        open_set(run, body, s, asked, out, e)
+    } else {
+        let fill = lists::keep_set(s, run.stretch, w.fill, e);
+        Stand { fill, ..asked }
     }
-    let kept = lists::keep_set(s, run.stretch, fill, e);
-    Stand { fill: kept, at }
 }
 
 // One entry of LIS: moved out of the level if it has no member there, else weighed.
@@ -106,13 +102,13 @@ fn visit_set(run: Run, body: &[u8], s: &mut [u32], w: Stand, out: &mut [u8]) -> 
         × (result.fill.visited ≡ w.fill.visited + 1) }
 {
     let e = lists::next_set(s, run.stretch, w.fill);
-    let fill = lists::past_set(w.fill);
-    let at = w.at;
+    let past = lists::past_set(w.fill);
     if has_member(run, w.fill.visited, e) {
-        return weigh(run, body, s, Stand { fill, at }, out, e);
+        weigh(run, body, s, Stand { fill: past, ..w }, out, e)
+    } else {
+        let fill = lists::move_set(s, run.stretch, past, e);
+        Stand { fill, ..w }
     }
-    let gone = lists::move_set(s, run.stretch, fill, e);
-    Stand { fill: gone, at }
 }
 
 // Step 2: each entry of LIS, those added to its end meanwhile included.
@@ -121,6 +117,7 @@ fn visit_lis(run: Run, body: &[u8], s: &mut [u32], w: Stand, out: &mut [u8]) -> 
     ensures { Visited run body.now s.old out.old w s.new out.new result × (result.fill.left ≤ 0) }
 {
     let mut r = w;
+    // no range to go over: a set that is opened adds others to the end
     while 0 < r.fill.left {
         r = visit_set(run, body, s, r, out);
     }
@@ -132,18 +129,11 @@ pub fn run_pass(run: Run, body: &[u8], s: &mut [u32], w: Stand, out: &mut [u8]) 
     requires { Fresh run body.now s.old out.old w }
     ensures { Ran run body.now s.old out.old w s.new out.new result }
 {
-    let waiting = w.fill.lip;
-    let known = w.fill.lsp;
-    let at = w.at;
     let fill = lists::empty_lip(w.fill);
-    let begin = Stand { fill, at };
-    let ends = testing::test_each(run, body, s, begin, out, waiting);
+    let begin = Stand { fill, ..w };
+    let ends = testing::test_each(run, body, s, begin, out, w.fill.lip);
     let tested = testing::moved_to(begin, ends);
     let visited = visit_lis(run, body, s, tested, out);
-    let next = testing::refine_lsp(run, body, s, known, out, visited.at);
-    let left = visited.fill;
-    Stand {
-        fill: left,
-        at: next,
-    }
+    let at = testing::refine_lsp(run, body, s, w.fill.lsp, out, visited.at);
+    Stand { at, ..visited }
 }

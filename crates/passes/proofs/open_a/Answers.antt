@@ -13,5 +13,5 @@ returns-then-run-gt1 c =
     let standing = stood c.moved_to-r.ensures c.test_offspring-ends.ensures in
     opened_a_more c.requires standing c.if-run-gt1.true c.add_set-fill.ensures
 
-pub returns : goal.returns
-returns c = search (rules, stood, opened_a_less)
+pub returns-else-run-gt1 : goal.returns-else-run-gt1
+returns-else-run-gt1 c = search (rules, stood, opened_a_less)
