@@ -286,15 +286,8 @@ module _ {run : Run} {x : ℕ} {s : List ℕ} {w : Stand} (O : Opening run (type
 
 -- a set by its type
 module _ {run : Run} {e : Set} {x : ℕ} {s : List ℕ} {w : Stand} (O : Opening run (entry_of e) s w) where
-  pub opening_a : e ≡ TypeA x → Opening run (typeA x) s w
-  opening_a i = subst (λ y. Opening run (entry_of y) s w) i O
-
   pub opening_b : e ≡ TypeB x → Opening run (typeB x) s w
   opening_b i = subst (λ y. Opening run (entry_of y) s w) i O
-
-  pub opened_as_a : {body out s' out' : List ℕ} {r : Stand} → e ≡ TypeA x → Opened run body (typeA x) s out w s' out' r
-      → Opened run body (entry_of e) s out w s' out' r
-  opened_as_a {body} {out} {s'} {out'} {r} i A = subst (λ y. Opened run body (entry_of y) s out w s' out' r) (sym i) A
 
   pub opened_as_b : {body out s' : List ℕ} {r : Stand} → e ≡ TypeB x
       → Added (map typeA ((family_of run).offspring x)) run.stretch s w.fill s' r.fill → r.at ≡ w.at
@@ -369,9 +362,6 @@ module _ (run : Run) (P : Proper run) where
 
     hand_queue : Queued run w.fill.visited es
     hand_queue = subst (λ (v : ℕ). Queued run v es) (sym (H.count ∙ add-one H.before)) H.queue
-
-    pub hand_place : w.at.at < 2 ^ 62
-    hand_place = omega (arith, H.place, P.from, room_held hand_room, room_slots L hand_room, H.count)
 
     module _ {bit : BitRead} {out₁ : List ℕ} (R : Replied C (set? e) out w.at bit out₁) where
       pub hand_opening : Opening run e s (record { fill = w.fill; at = bit.next })

@@ -24,9 +24,9 @@ use Rattle.lists.specs.Lists.{held, past, Fits, NextSet, SetMoved, moved_length}
 use Rattle.lists.specs.Besides.{beside_values}
 use Rattle.testing.specs.declared.Run.{Run}
 use Rattle.testing.specs.declared.Stand.{Stand}
-use Rattle.testing.specs.Exchange.{Chan, chan, family_of, side, notes, quiet_moves, around_none, around_then, around_beside}
+use Rattle.testing.specs.Exchange.{Chan, chan, family_of, side, notes, quiet_moves, around_beside}
 use Rattle.testing.specs.Finding.{course_of, course}
-use Rattle.passes.specs.Steps.{visits_of, Proper, has_member, Queued, Underway, InHand, Weighed, Visited}
+use Rattle.passes.specs.Steps.{visits_of, Proper, has_member, Queued, Underway, InHand, Visited}
 use Rattle.passes.proofs.Sets.{visits_side}
 
 -- The sets that have moved out only become more; one more where the next set has no member in the level.
@@ -120,24 +120,6 @@ module _ (run : Run) (P : Proper run) where
             place = R.place;
           })
 
-      module _ {s' out' : List ℕ} {r : Stand} (W₀ : Weighed run body e s out (record { fill = f; at = w.at }) s' out' r) where
-        W : Weighed run body e s out (record { fill = past w.fill; at = w.at }) s' out' r
-        W = subst (λ g. Weighed run body e s out (record { fill = g; at = w.at }) s' out' r) i W₀
-
-        pub taken_weighed : Visited run body s out w s' out' r
-        taken_weighed =
-            record {
-              makes = W.makes ∙ visits_taken;
-              ready = W.ready;
-              around = W.around;
-              moved = W.moved;
-              known = W.known;
-              lsp = W.lsp;
-            }
-
-        pub weighed_count : r.fill.visited ≡ w.fill.visited + 1
-        weighed_count = W.visited
-
       -- one with no member in the level moves out: there is room for it
       module _ {h : Bool} (j : h ≡ has_member run w.fill.visited e) (gone : h ≡ false) where
         none_here : in_level F k e ≡ false
@@ -198,20 +180,3 @@ module _ (run : Run) (P : Proper run) where
                 known = M.known;
                 lsp = omega arith;
               }
-
--- visits in a row, and none
-pub visited_none : {run : Run} {body s out : List ℕ} {w : Stand} → Underway run body s out w → Visited run body s out w s out w
-visited_none {run} {s = s} {w = w} R =
-    record { makes = refl; ready = R; around = around_none run w.fill.moved s; moved = omega arith; known = λ m h. refl; lsp = omega arith }
-
-pub visited_on : {run : Run} {body s out s₁ out₁ s₂ out₂ : List ℕ} {w w₁ w₂ : Stand}
-    → Visited run body s out w s₁ out₁ w₁ → Visited run body s₁ out₁ w₁ s₂ out₂ w₂ → Visited run body s out w s₂ out₂ w₂
-visited_on a b =
-    record {
-      makes = b.makes ∙ a.makes;
-      ready = b.ready;
-      around = around_then a.around b.around b.moved;
-      moved = omega (arith, a.moved, b.moved);
-      known = λ m h. b.known m (omega (arith, a.lsp)) ∙ a.known m h;
-      lsp = omega (arith, a.lsp, b.lsp);
-    }
