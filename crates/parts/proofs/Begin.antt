@@ -16,7 +16,7 @@ use borrow.Author.Tests.{le-leb, eq-eqb, ne_eqb}
 use borrow.Rule.Slice.PartMut.{mid_of, put_mid, post_of, mid_len, same_len_mid}
 use Rattle.rules.specs.declared.Size.{Size}
 use Rattle.rules.specs.Document.Notation.{flat, if_any}
-use Rattle.rules.specs.Document.Pyramid.{greatest_side, legal_size, area, levels, level_of, odd, block, offspring_of}
+use Rattle.rules.specs.Document.Pyramid.{legal_size, area, levels, level_of, odd, block, offspring_of}
 use Rattle.rules.specs.Document.Passes.{Entry, typeA, Lists, from, rows, band_ll}
 use Rattle.rules.specs.Document.Calls.{level_places, work_for}
 use Rattle.rules.specs.Laws.Counting.Sums.{All}
@@ -46,8 +46,9 @@ use Rattle.lists.specs.declared.Fill.{Fill}
 use Rattle.lists.specs.Lists.{Inside, Marked, lip_at, known, held, lists_in, Fits, Beside, LipPushed, SetAdded}
 use Rattle.lists.specs.Lists.{sets_fit, todo_none, waiting_none, held_waiting, held_known, known_none, held_begins, lists_none}
 use Rattle.lists.specs.Besides.{beside_none, beside_then, marked_lent}
+use Rattle.parts.specs.declared.Lengths.{Lengths}
 use Rattle.parts.specs.declared.Counts.{Counts}
-use Rattle.parts.specs.Standing.{count_at, nothing, lists_at, state_of, stretch_by, Started}
+use Rattle.parts.specs.Standing.{unlisted, count_at, nothing, lists_at, state_of, stretch_by, Started}
 use Rattle.parts.specs.Begin.{empty, lengths, row_of, band_at, InBand, Listing, Listed}
 use Rattle.stretches.specs.Levels.{level_place, level_some, level_before, stretch_at, word_in_lem, put_behind}
 
@@ -315,9 +316,6 @@ left_band {z} {t} {s} {f} A =
     let e : z.h / 2 ^ z.n ≡ z.h / 2 ^ z.n - 0 = omega arith in
     subst (λ (x : ℕ). Left z (band_ll z) t s f (rows z 0 x) s f) e (left_all A)
 
-pub side_under : (n w i : ℕ) → w ≤ greatest_side → i < w / 2 ^ n → i < greatest_side
-side_under n w i e h = omega (arith, shr_le w n)
-
 -- the size of level N+1, as the code counts it
 pub top_size : (z : Size) {n : ℕ} → n ≡ level_size z (z.n + 1) → n ≡ level_size z (levels z)
 top_size z i = i ∙ ap (level_size z) (add-one z.n)
@@ -375,26 +373,29 @@ band_listing role z n work e i h =
     }
 
 -- the counts: none but those of level N+1
-abbrev none : List ℕ
-none = replicate level_places 0
+abbrev none : List Lengths
+none = replicate level_places unlisted
 
-none_at : (i : ℕ) → get_or none i 0 ≡ 0
+none_at : (i : ℕ) → get_or none i unlisted ≡ unlisted
 none_at i = go level_places i
   where
-    go : (m j : ℕ) → ◌≡◌ {A = ℕ} (get_or (replicate m 0) j 0) 0
+    go : (m j : ℕ) → get_or (replicate m unlisted) j unlisted ≡ unlisted
     go zero j = refl
     go (suc m) zero = refl
     go (suc m) (suc j) = go m j
 
 module _ (role : Role) (z : Size) (r : Fill) where
+  abbrev top : Lengths
+  top = record { lip = r.lip; lsp = 0; lis = r.left }
+
   abbrev counts : Counts
-  counts = record { lip = set none z.n r.lip; lsp = none; lis = set none z.n r.left }
+  counts = record { levels = set none z.n top }
 
-  counts_top : (x : ℕ) → z.n < level_places → count_at (set none z.n x) (levels z) ≡ x
-  counts_top x h = let i : levels z - 1 ≡ z.n = omega arith in ap (λ (j : ℕ). get_or (set none z.n x) j 0) i ∙ get_or-set_same none z.n x 0 h
+  counts_top : z.n < level_places → count_at counts (levels z) ≡ top
+  counts_top h = let i : levels z - 1 ≡ z.n = omega arith in ap (λ (j : ℕ). get_or counts.levels j unlisted) i ∙ get_or-set_same none z.n top unlisted h
 
-  counts_else : (x k : ℕ) → 1 ≤ z.n → k ≢ levels z → count_at (set none z.n x) k ≡ 0
-  counts_else x k h d = get_or-set_other none z.n (k - 1) x 0 (λ i. d (omega arith)) ∙ none_at (k - 1)
+  counts_else : (k : ℕ) → 1 ≤ z.n → k ≢ levels z → count_at counts k ≡ unlisted
+  counts_else k h d = get_or-set_other none z.n (k - 1) top unlisted (λ i. d (omega arith)) ∙ none_at (k - 1)
 
   module _ (e : legal_size z ≡ true) (n : ℕ) (i : n ≡ level_size z (levels z)) (work ys : List ℕ) (h : 4 * n ≤ length work)
       (l : length ys ≡ length (mid_of 0 (4 * n - 0) work))
@@ -445,9 +446,7 @@ module _ (role : Role) (z : Size) (r : Fill) where
           le-leb (levels z) (levels z) (omega arith),
           top_stretch_lem,
           ← i,
-          counts_top r.lip few,
-          counts_top r.left few,
-          none_at (levels z - 1),
+          counts_top few,
         )
         (ap (λ (m : ℕ). lists_in n ys r.lip r.left m) (sym p) ∙ held_begins (top_stretch role n) ys r v ∙ band_held ∙ sym (start_lis z))
 
@@ -455,9 +454,7 @@ module _ (role : Role) (z : Size) (r : Fill) where
     unfolding state_of lists_at
     other_lists k d =
         rw (
-          counts_else r.lip k Z.some d,
-          counts_else r.left k Z.some d,
-          none_at (k - 1),
+          counts_else k Z.some d,
           lists_none (level_size z k) (stretch_of z k work'),
           start_none z k d,
         )
@@ -517,12 +514,12 @@ module _ (role : Role) (z : Size) (r : Fill) where
           marks = record { lips = λ k j a b l. marked k j (ℕ_discrete k (levels z)) l };
         }
       where
-        marked : (k j : ℕ) → Dec (k ≡ levels z) → j < count_at counts.lip k
+        marked : (k j : ℕ) → Dec (k ≡ levels z) → j < (count_at counts k).lip
             → Marked (stretch_by role z k) (stretch_of z k work') (lip_at (level_size z k) j (stretch_of z k work'))
         marked k j (yes d) l =
             subst (λ (x : ℕ). Marked (stretch_by role z x) (stretch_of z x work') (lip_at (level_size z x) j (stretch_of z x work'))) (sym d)
-            (top_marks j (omega (arith, ap (count_at counts.lip) d, counts_top r.lip (omega (arith, Z.few)))))
-        marked k j (no d) l = absurd (omega (arith, counts_else r.lip k Z.some d))
+            (top_marks j (omega (arith, ap (λ (x : ℕ). (count_at counts x).lip) d, ap (λ l. l.lip) (counts_top (omega (arith, Z.few))))))
+        marked k j (no d) l = absurd (omega (arith, ap (λ l. l.lip) (counts_else k Z.some d)))
 
         by : (k : ℕ) → Dec (k ≡ levels z) → state_of z work' counts k ≡ tree_start z k
         by k (yes j) = subst (λ (x : ℕ). state_of z work' counts x ≡ tree_start z x) (sym j) top_lists

@@ -6,8 +6,7 @@ use mathlib.Core.Logic.{◌≢◌}
 use Prim.Native.Nat.{ℕ, suc, ◌+◌, ◌-◌, ◌*◌, ◌/◌, ◌≤◌, ◌<◌, ◌^◌}
 use native.Mathlib.Omega.{arith}
 use native.Mathlib.Decide.{dec_le, dec_lt, ℕ_discrete}
-use lib.ListN.{length, get_or, set}
-use lib.Seq.{get_or-set_same, get_or-set_other}
+use lib.ListN.{length, get_or}
 use Rattle.rules.specs.declared.Size.{Size}
 use Rattle.rules.specs.declared.Plane.{Plane}
 use Rattle.rules.specs.declared.Level.{Level}
@@ -31,10 +30,10 @@ use Rattle.testing.specs.Exchange.{Chan, chan, reads, side}
 use Rattle.testing.specs.Finding.{course}
 use Rattle.parts.specs.declared.Counts.{Counts}
 use Rattle.parts.specs.declared.Passed.{Passed}
-use Rattle.parts.specs.Standing.{count_at, Places, fill_of, with_lists, lists_at, state_of, Ready, stretch_by, Marks}
+use Rattle.parts.specs.Standing.{unlisted, count_at, Places, fill_of, with_lists, lists_at, state_of, Ready, stretch_by, Marks}
 use Rattle.parts.specs.Workspace.{lent_to, lent_of, with_moved, Lent, run_of, course_in, PartRun}
 use Rattle.parts.proofs.Workspace.{lent_next, Untouched, untouched}
-use Rattle.parts.proofs.States.{state_in, state_out, state_same, lists_agree, lists_more, counts_own, counts_other, counts_next}
+use Rattle.parts.proofs.States.{state_in, state_out, state_same, lists_agree, lists_more, own_same, own_other, counts_own, counts_other, counts_next, counts_lip}
 use Rattle.parts.proofs.Parts.{level_fits, away_next, lent_own, lent_lip, values_lent, lists_lent, pass_is, moved_none, moved_some}
 
 module _ (role : Role) {z : Size} {plane : Plane} {level : Level} {work : List ℕ} {counts : Counts} (D : Ready z plane level work counts)
@@ -86,7 +85,7 @@ module _ (role : Role) {z : Size} {plane : Plane} {level : Level} {work : List �
   gone_none : k < 2 → r.fill.moved ≡ 0
   gone_none h = sym gone_count ∙ ap length (moved_none role D from until C x₀ h)
 
-  gone_some : 2 ≤ k → count_at counts.lis (k - 1) + r.fill.moved ≤ set_room (level_size z (k - 1))
+  gone_some : 2 ≤ k → (count_at counts (k - 1)).lis + r.fill.moved ≤ set_room (level_size z (k - 1))
   gone_some h = omega (arith, moved_some role D from until C x₀ h, gone_count)
 
   U : Untouched run r.fill.moved work work₁
@@ -109,12 +108,12 @@ module _ (role : Role) {z : Size} {plane : Plane} {level : Level} {work : List �
           (omega (arith, U.ends, lent_next z k (omega arith), level_before z L (k - 1) j u (omega arith) (omega (arith, b))))
 
   -- the next level's, before the sets that came and behind them
-  next_before_lem : 2 ≤ k → (i : ℕ) → i < lis_from (level_size z (k - 1)) + count_at counts.lis (k - 1) → i < 4 * level_size z (k - 1) → Same (k - 1) i
+  next_before_lem : 2 ≤ k → (i : ℕ) → i < lis_from (level_size z (k - 1)) + (count_at counts (k - 1)).lis → i < 4 * level_size z (k - 1) → Same (k - 1) i
   unfolding maxima_from
   next_before_lem h i l g =
       same_at (k - 1) i g (U.others _ (omega (arith, next_start z L k h b)) (omega (arith, next_start z L k h b, away_next role D from until h)))
 
-  next_behind : 2 ≤ k → (i : ℕ) → lis_from (level_size z (k - 1)) + count_at counts.lis (k - 1) + r.fill.moved ≤ i → i < 4 * level_size z (k - 1)
+  next_behind : 2 ≤ k → (i : ℕ) → lis_from (level_size z (k - 1)) + (count_at counts (k - 1)).lis + r.fill.moved ≤ i → i < 4 * level_size z (k - 1)
       → Same (k - 1) i
   next_behind h i l g = same_at (k - 1) i g (U.rest _ (omega (arith, next_start z L k h b, away_next role D from until h)))
 
@@ -165,9 +164,8 @@ module _ (role : Role) {z : Size} {plane : Plane} {level : Level} {work : List �
   unfolding lists_at lis_from set_room
   other_lists j d e =
       state_same z work work₁ counts left j (λ u v.
-      let n = counts_other counts six k a few r.fill j u d in
       let f = level_fits D j u v in
-      rw (n.0, n.1 e, n.2)
+      rw (counts_other counts six k a few r.fill j u d e)
       (lists_agree (level_size z j) (stretch_of z j work) (stretch_of z j work₁) _ _ _ f.lip f.lsp
       (λ c m l g. seg_kept j c m u v (λ i o p. other_same j u v d e i (omega (arith, f.visits))))))
 
@@ -175,23 +173,22 @@ module _ (role : Role) {z : Size} {plane : Plane} {level : Level} {work : List �
   own_lists : state_of z work₁ left k ≡ own c
   unfolding lists_at
   own_lists =
-      let n = counts_own counts six k a few r.fill in
       let f = T.ran.fits in
       state_in z work₁ left k a b
-      ∙ rw (n.0, n.1, n.2)
+      ∙ rw (counts_own counts six k a few r.fill)
       (sym (lists_lent role D from until work₁ r.fill.lip r.fill.kept r.fill.lsp f.lip (omega (arith, f.kept, f.visits)) f.lsp)
       ∙ held_ends run.stretch (lent_of z k work₁) r.fill)
       ∙ ap own ran_course
 
   -- of the next, with the sets that moved out
   moved_there : 2 ≤ k
-      → sets (lis_from (level_size z (k - 1)) + count_at counts.lis (k - 1)) r.fill.moved (stretch_of z (k - 1) work₁) ≡ c.moved
+      → sets (lis_from (level_size z (k - 1)) + (count_at counts (k - 1)).lis) r.fill.moved (stretch_of z (k - 1) work₁) ≡ c.moved
   unfolding sets stretch_of lis_from set_room
   moved_there h =
       let j : ℕ = k - 1 in
       let m : ℕ = level_size z j in
       ap (map entry)
-      (seg_seg (4 * level_start z j) (4 * m) (m + m + m + count_at counts.lis j) r.fill.moved work₁ (omega (arith, gone_some h))
+      (seg_seg (4 * level_start z j) (4 * m) (m + m + m + (count_at counts j).lis) r.fill.moved work₁ (omega (arith, gone_some h))
       ∙ ap (λ (y : ℕ). seg y r.fill.moved work₁) (omega (arith, next_start z L k h b, away_next role D from until h))
       ∙ sym (seg_seg (4 * level_start z k) (lent_to z k - 4 * level_start z k) run.stretch.away r.fill.moved work₁ (omega (arith, U.ends))))
       ∙ sym (held_moved run.stretch (lent_of z k work₁) r.fill)
@@ -203,9 +200,8 @@ module _ (role : Role) {z : Size} {plane : Plane} {level : Level} {work : List �
       let j : ℕ = k - 1 in
       let u : 1 ≤ j = omega arith in
       let v : j ≤ levels z = omega (arith, b) in
-      let n = counts_other counts six k a few r.fill j u (λ e. omega arith) in
       let f = level_fits D j u v in
-      rw (n.0, counts_next counts six k a few r.fill h, n.2)
+      rw (counts_next counts six k a few r.fill h)
       (lists_more (level_size z j) (stretch_of z j work) (stretch_of z j work₁) _ _ _ f.lip f.lsp
       (λ q m l g. seg_kept j q m u v (λ i o p. next_before_lem h i (omega arith) (omega (arith, f.visits)))) r.fill.moved
       ∙ ap (λ es. record {
@@ -246,14 +242,14 @@ module _ (role : Role) {z : Size} {plane : Plane} {level : Level} {work : List �
       subst (Marked (stretch_by role z k) (stretch_of z k work₁)) (lent_lip role D from until work₁ i (omega (arith, f.lip)))
       (marked_lent (λ c j l. sym (lent_own role D from until work₁ j (omega arith))) (f.marked i h))
 
-  other_marks : Marks role z work counts → (j i : ℕ) → 1 ≤ j → j ≤ levels z → j ≢ k → i < count_at counts.lip j
+  other_marks : Marks role z work counts → (j i : ℕ) → 1 ≤ j → j ≤ levels z → j ≢ k → i < (count_at counts j).lip
       → Marked (stretch_by role z j) (stretch_of z j work₁) (lip_at (level_size z j) i (stretch_of z j work₁))
   unfolding lip_at lip_from lis_from
   other_marks M j i u v d h =
       marks_kept {t = stretch_by role z j} (λ c x l. words_same j x u v (λ e. absurd (d e)) l) (λ x l. there (ℕ_discrete (suc j) k) x (omega (arith, few_lips)))
       (λ x l. M.lips j x u v l) i h
     where
-      few_lips : count_at counts.lip j ≤ level_size z j
+      few_lips : (count_at counts j).lip ≤ level_size z j
       few_lips = (level_fits D j u v).lip
 
       there : Dec (suc j ≡ k) → (x : ℕ) → x < level_size z j → Same j (level_size z j + x)
@@ -265,12 +261,12 @@ module _ (role : Role) {z : Size} {plane : Plane} {level : Level} {work : List �
   marks_left : Marks role z work counts → Marks role z work₁ left
   marks_left M = record { lips = λ j i u v h. by j i u v (ℕ_discrete j k) h }
     where
-      by : (j i : ℕ) → 1 ≤ j → j ≤ levels z → Dec (j ≡ k) → i < count_at left.lip j
+      by : (j i : ℕ) → 1 ≤ j → j ≤ levels z → Dec (j ≡ k) → i < (count_at left j).lip
           → Marked (stretch_by role z j) (stretch_of z j work₁) (lip_at (level_size z j) i (stretch_of z j work₁))
       by j i u v (yes d) h =
           subst (λ (y : ℕ). Marked (stretch_by role z y) (stretch_of z y work₁) (lip_at (level_size z y) i (stretch_of z y work₁))) (sym d)
-          (own_marks i (omega (arith, (counts_own counts six k a few r.fill).0, ap (count_at left.lip) d)))
-      by j i u v (no d) h = other_marks M j i u v d (omega (arith, (counts_other counts six k a few r.fill j u d).0))
+          (own_marks i (omega (arith, ap (λ l. l.lip) (counts_own counts six k a few r.fill), ap (λ (x : ℕ). (count_at left x).lip) d)))
+      by j i u v (no d) h = other_marks M j i u v d (omega (arith, counts_lip counts six k a few r.fill j u d))
 
   -- the whole part
   pub part_run : {p : Passed} → Marks role z work counts → p.counts ≡ left → p.at ≡ r.at → PartRun run body work counts out p work₁ out₁
@@ -285,17 +281,17 @@ module _ (role : Role) {z : Size} {plane : Plane} {level : Level} {work : List �
         marks = subst (Marks role z work₁) (sym e) (marks_left M);
       }
 
-  pub more_fits : count_at (with_lists counts k r.fill).lis (k - 1) + r.fill.moved < 2 ^ 32
+  pub more_fits : (count_at (with_lists counts k r.fill) (k - 1)).lis + r.fill.moved < 2 ^ 32
   more_fits = by (dec_le 2 k)
     where
       small : (j : ℕ) → 1 ≤ j → j ≤ levels z → level_size z j < 2 ^ 32
       small j u v = omega (arith, stretch_room z L j u v, area_bound z D.legal)
 
-      by : Dec (2 ≤ k) → count_at (with_lists counts k r.fill).lis (k - 1) + r.fill.moved < 2 ^ 32
+      by : Dec (2 ≤ k) → (count_at (with_lists counts k r.fill) (k - 1)).lis + r.fill.moved < 2 ^ 32
       by (yes h) =
           omega (
             arith,
-            get_or-set_other counts.lis (k - 1) (k - 1 - 1) r.fill.kept 0 (λ e. omega arith),
+            ap (λ l. l.lis) (own_other counts six k a few r.fill (k - 1) (omega arith) (λ e. omega arith)),
             sets_few (level_size z (k - 1)) _ (gone_some h),
             small (k - 1) (omega arith) (omega (arith, b)),
           )
@@ -303,8 +299,8 @@ module _ (role : Role) {z : Size} {plane : Plane} {level : Level} {work : List �
           let same : k - 1 - 1 ≡ k - 1 = omega (arith, a) in
           omega (
             arith,
-            ap (λ (i : ℕ). get_or (set counts.lis (k - 1) r.fill.kept) i 0) same,
-            get_or-set_same counts.lis (k - 1) r.fill.kept 0 (omega (arith, six.lis, a, few)),
+            ap (λ (i : ℕ). (get_or (with_lists counts k r.fill).levels i unlisted).lis) same,
+            ap (λ l. l.lis) (own_same counts six k a few r.fill),
             gone_none (omega arith),
             sets_few (level_size z k) r.fill.kept (omega (arith, T.ran.fits.kept, T.ran.fits.visits)),
             small k a b,

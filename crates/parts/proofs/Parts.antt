@@ -83,7 +83,7 @@ module _ {z : Size} {p : Plane} {l : Level} {work : List ℕ} {counts : Counts} 
     abbrev alone : Stretch
     alone = stretch_by Reads z k
 
-    pub lists_are : lists_in n t (count_at counts.lip k) (count_at counts.lis k) (count_at counts.lsp k) ≡ s k
+    pub lists_are : lists_in n t (count_at counts k).lip (count_at counts k).lis (count_at counts k).lsp ≡ s k
     unfolding lists_at
     lists_are = sym (state_in z work counts k a b)
 
@@ -96,7 +96,7 @@ module _ {z : Size} {p : Plane} {l : Level} {work : List ℕ} {counts : Counts} 
         let m = room_slots (trees_lawful z Z) r in
         let g = lists_are in
         let long = stretch_length z Z work k a b R.room in
-        lists_fit alone t (count_at counts.lip k) (count_at counts.lis k) (count_at counts.lsp k) (size_some z Z k a b)
+        lists_fit alone t (count_at counts k).lip (count_at counts k).lis (count_at counts k).lsp (size_some z Z k a b)
         (omega (arith, long)) (omega arith) (omega (arith, long))
         (omega (arith, r.coefficients, ap (λ x. length x.lip) g))
         (omega (arith, m, ap (λ x. length x.lis) g))
@@ -108,11 +108,11 @@ module _ {z : Size} {p : Plane} {l : Level} {work : List ℕ} {counts : Counts} 
     level_begins : record { lip = whole.lip; lis = whole.todo; lsp = whole.lsp } ≡ s k
     level_begins = sym (held_begins alone t (fill_of counts k) refl) ∙ lists_are
 
-    pub level_counts : (length (s k).lis ≡ count_at counts.lis k) × (length (s k).lsp ≡ count_at counts.lsp k)
+    pub level_counts : (length (s k).lis ≡ (count_at counts k).lis) × (length (s k).lsp ≡ (count_at counts k).lsp)
     level_counts = (
       ap (λ x. length x.lis) (sym level_begins) ∙ todo_length alone t (fill_of counts k) level_fits,
       ap (λ x. length x.lsp) (sym level_begins) ∙ ap length (held_known alone t (fill_of counts k))
-          ∙ known_length n (count_at counts.lsp k) t level_fits.room level_fits.lsp,
+          ∙ known_length n (count_at counts k).lsp t level_fits.room level_fits.lsp,
     )
 
     -- each set has a member in the level, or none has
@@ -155,11 +155,11 @@ module _ (role : Role) {z : Size} {plane : Plane} {level : Level} {work : List �
   unfolding away_for
   away_first h = rw (lt-leb 2 k h)
 
-  pub away_next : 2 ≤ k → run.stretch.away ≡ 4 * level_size z k + lis_from (level_size z (k - 1)) + count_at counts.lis (k - 1)
+  pub away_next : 2 ≤ k → run.stretch.away ≡ 4 * level_size z k + lis_from (level_size z (k - 1)) + (count_at counts (k - 1)).lis
   unfolding away_for
   away_next h = rw (le-leb 2 k h)
 
-  next_few : 2 ≤ k → count_at counts.lis (k - 1) ≤ set_room (level_size z (k - 1))
+  next_few : 2 ≤ k → (count_at counts (k - 1)).lis ≤ set_room (level_size z (k - 1))
   next_few h = omega (arith, (level_fits D (k - 1) (omega arith) (omega (arith, b))).visits)
 
   -- how long it is with the next level's
@@ -171,7 +171,7 @@ module _ (role : Role) {z : Size} {plane : Plane} {level : Level} {work : List �
     where
       by : Dec (2 ≤ k) → (4 * level_size z k ≤ run.stretch.away) × (run.stretch.away + 0 ≤ length (lent work))
       by (yes h) =
-          let few = sets_few (level_size z (k - 1)) (count_at counts.lis (k - 1)) (next_few h) in
+          let few = sets_few (level_size z (k - 1)) (count_at counts (k - 1)).lis (next_few h) in
           let third : lis_from (level_size z (k - 1)) ≡ level_size z (k - 1) + level_size z (k - 1) + level_size z (k - 1) = unfold lis_from in refl in
           (omega (arith, away_next h), omega (arith, away_next h, lent_length z L k a b work D.room, lent_next_length h))
       by (no h) =
@@ -225,7 +225,7 @@ module _ (role : Role) {z : Size} {plane : Plane} {level : Level} {work : List �
   found =
       let f = level_fits D k a b in
       sym (held_begins run.stretch (lent work) (fill_of counts k) refl)
-      ∙ lists_lent work (count_at counts.lip k) (count_at counts.lis k) (count_at counts.lsp k) f.lip (omega (arith, f.visits)) f.lsp
+      ∙ lists_lent work (count_at counts k).lip (count_at counts k).lis (count_at counts k).lsp f.lip (omega (arith, f.visits)) f.lsp
       ∙ lists_are D k a b
 
   pub pass_is : (body out : List ℕ) → pass_of run body (lent work) out begun ≡ course_in run body work counts out
@@ -243,7 +243,7 @@ module _ (role : Role) {z : Size} {plane : Plane} {level : Level} {work : List �
         subst (λ (i : ℕ). Placed (trees z) i (state_of z work counts i) → (passed (trees z) i C (state_of z work counts i) x).moved ≡ []) e
         (passed_level1 (trees_lawful z L) C (state_of z work counts 1) x) (D.sound.placed k)
 
-    pub moved_some : 2 ≤ k → count_at counts.lis (k - 1) + length (passed (trees z) k C (state_of z work counts k) x).moved ≤ set_room (level_size z (k - 1))
+    pub moved_some : 2 ≤ k → (count_at counts (k - 1)).lis + length (passed (trees z) k C (state_of z work counts k) x).moved ≤ set_room (level_size z (k - 1))
     moved_some h =
         let j : ℕ = k - 1 in
         let i : suc j ≡ k = omega arith in
@@ -303,7 +303,7 @@ module _ (role : Role) {z : Size} {plane : Plane} {level : Level} {work : List �
               };
           fits = pass_fits marks;
           room =
-              subst (λ x. Room (trees z) k (level_size z k) (count_at counts.lsp k) 0 x.lip x.lis) (sym found)
+              subst (λ x. Room (trees z) k (level_size z k) (count_at counts k).lsp 0 x.lip x.lis) (sym found)
               (rw (← n.1) (level_room D k a b));
           away = rw (pass_is body out) (moved_fits body out);
           queue =

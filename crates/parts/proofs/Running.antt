@@ -14,7 +14,7 @@ use Rattle.bits.specs.declared.BitPosition.{BitPosition}
 use Rattle.rules.specs.Document.Pyramid.{legal_size, levels}
 use Rattle.rules.specs.Document.Numbers.{most_bits}
 use Rattle.rules.specs.Document.Calls.{level_places}
-use Rattle.rules.specs.Laws.Family.Sizes.{span, level_start, level_size}
+use Rattle.rules.specs.Laws.Family.Sizes.{level_start, level_size}
 use Rattle.rules.proofs.Laws.Family.Sizes.{legal, area_bound}
 use Rattle.stretches.specs.Cut.{lis_from}
 use Rattle.lists.specs.declared.Stretch.{Stretch}
@@ -28,7 +28,7 @@ use Rattle.testing.specs.declared.Stand.{Stand}
 use Rattle.parts.specs.declared.Counts.{Counts}
 use Rattle.parts.specs.declared.Passed.{Passed}
 use Rattle.testing.specs.Exchange.{Silent}
-use Rattle.parts.specs.Standing.{count_at, Places, fill_of, with_lists, Ready, ReadyToCode, PartCoded, ReadyToDecode, Quiet, PartDecoded}
+use Rattle.parts.specs.Standing.{unlisted, count_at, Places, fill_of, with_lists, Ready, ReadyToCode, PartCoded, ReadyToDecode, Quiet, PartDecoded}
 use Rattle.parts.specs.Workspace.{away_for, stretch_for, with_moved, Counting, Cutting, Lending, Lent, run_of, Running, PartRun}
 use Rattle.stretches.specs.Levels.{stretch_room, stretch_length}
 use Rattle.parts.proofs.Parts.{level_fits, part_lending}
@@ -48,36 +48,22 @@ module _ {z : Size} {k : Level} {counts : Counts} (C : Cutting z k counts) where
   next_under h = size_under z (k.0 - 1) C.legal (omega arith) (omega (arith, C.level))
 
 -- the stretch of a level, as the code makes it
-module _ (role : Role) (z : Size) (k : ℕ) (counts : Counts) {n first : ℕ} (e : n ≡ level_size z k) (d : first ≡ level_start z k) where
-  pub stretch_first : k < 2 → ◌≡◌ {A = Stretch} (record { role = role; n = n; first = first; away = 4 * n }) (stretch_for role z k counts)
+module _ (role : Role) (z : Size) (k : ℕ) (counts : Counts) {n away : ℕ} (e : n ≡ level_size z k) where
+  pub first_away : k < 2 → away ≡ 4 * n → away ≡ away_for z k counts
   unfolding away_for
-  stretch_first h = rw (lt-leb 2 k h) (ap₂ (λ (x y : ℕ). record { role = role; n = x; first = y; away = 4 * x }) e d)
+  first_away h i = rw (lt-leb 2 k h) (i ∙ ap (λ (x : ℕ). 4 * x) e)
 
-  pub stretch_next : {m away : ℕ} {f : Fill} → 2 ≤ k → m ≡ level_size z (k - 1) → f ≡ fill_of counts (k - 1) → away ≡ 4 * n + lis_from m + f.left
-      → ◌≡◌ {A = Stretch} (record { role = role; n = n; first = first; away = away }) (stretch_for role z k counts)
+  pub next_away : {m : ℕ} {f : Fill} → 2 ≤ k → m ≡ level_size z (k - 1) → f ≡ fill_of counts (k - 1) → away ≡ 4 * n + lis_from m + f.left
+      → away ≡ away_for z k counts
   unfolding away_for
-  stretch_next {m} {away} {f} h i j g =
+  next_away {m} {f} h i j g =
       rw (le-leb 2 k h)
-      (ap (λ (x : ℕ). record { role = role; n = n; first = x; away = away }) d
-      ∙ ap₂ (λ (x y : ℕ). record { role = role; n = x; first = level_start z k; away = y }) e
       (g ∙ ap₂ (λ (x y : ℕ). 4 * x + lis_from y + f.left) e i
-      ∙ ap (λ (x : Fill). 4 * level_size z k + lis_from (level_size z (k - 1)) + x.left) j))
+      ∙ ap (λ (x : Fill). 4 * level_size z k + lis_from (level_size z (k - 1)) + x.left) j)
 
-pub run_is : {role : Role} {z : Size} {plane : Plane} {level : Level} (counts : Counts) {from until : BitPosition} {t : Stretch} {f : Fill}
-    {parents elders : ℕ} → f ≡ fill_of counts level.0 → t ≡ stretch_for role z level.0 counts
-    → parents ≡ span z (level.0 + 1) → elders ≡ span z (level.0 + 2)
-    → ◌≡◌ {A = Run} (record {
-      z = z;
-      plane = plane;
-      level = level;
-      stretch = t;
-      parents = parents;
-      elders = elders;
-      olds = f.left;
-      from = from;
-      until = until;
-    }) (run_of role z plane level counts from until)
-run_is counts e i b c = cc
+  pub stretch_is : {first : ℕ} → first ≡ level_start z k → away ≡ away_for z k counts
+      → ◌≡◌ {A = Stretch} (record { role = role; n = n; first = first; away = away }) (stretch_for role z k counts)
+  stretch_is d a = cc
 
 -- the part of a run
 module _ {run : Run} {body work out : List ℕ} {counts : Counts} (H : Running run body work counts out) where
@@ -116,18 +102,18 @@ module _ {run : Run} {body work out : List ℕ} {counts : Counts} (H : Running r
 
 -- A part that is coded or decoded can be cut and run.
 module _ {z : Size} {plane : Plane} {level : Level} {work : List ℕ} {counts : Counts} (D : Ready z plane level work counts) where
-  few : (j : ℕ) → 1 ≤ j → j ≤ levels z → count_at counts.lis j < 2 ^ 32
+  few : (j : ℕ) → 1 ≤ j → j ≤ levels z → (count_at counts j).lis < 2 ^ 32
   few j a b =
-      omega (arith, sets_few (level_size z j) (count_at counts.lis j) (omega (arith, (level_fits D j a b).visits)), size_under z j D.legal a b)
+      omega (arith, sets_few (level_size z j) (count_at counts j).lis (omega (arith, (level_fits D j a b).visits)), size_under z j D.legal a b)
 
   pub ready_cuts : Cutting z level counts
   ready_cuts = record { legal = D.legal; coarser = D.coarser; level = D.level; few = by (dec_le 2 level.0) }
     where
-      by : Dec (2 ≤ level.0) → count_at counts.lis (level.0 - 1) < 2 ^ 32
+      by : Dec (2 ≤ level.0) → (count_at counts (level.0 - 1)).lis < 2 ^ 32
       by (yes h) = few (level.0 - 1) (omega arith) (omega (arith, D.level))
       by (no h) =
           let same : level.0 - 1 - 1 ≡ level.0 - 1 = omega (arith, D.coarser) in
-          omega (arith, ap (λ (i : ℕ). get_or counts.lis i 0) same, few level.0 D.coarser D.level)
+          omega (arith, ap (λ (i : ℕ). (get_or counts.levels i unlisted).lis) same, few level.0 D.coarser D.level)
 
   part_place : (at : ℕ) → at + most_bits z < 2 ^ 61 → at + 4 * level_size z level.0 < 2 ^ 62
   part_place at h = omega (arith, h, stretch_room z (legal z D.legal) level.0 D.coarser D.level)

@@ -1,11 +1,11 @@
 -- The lists of all levels in the workspace, by their stretches and counts: what a pass leaves of them.
-use mathlib.Core.Path.{◌≡◌, refl, sym, ap, ◌∙◌}
+use mathlib.Core.Path.{◌≡◌, sym, ap, ◌∙◌, subst}
 use mathlib.Core.List.{List, ◌++◌, map}
-use mathlib.Core.Bool.{Bool, true, false, cond, ◌&&◌}
+use mathlib.Core.Bool.{cond, ◌&&◌}
 use mathlib.Core.Logic.{◌≢◌}
-use Prim.Native.Nat.{ℕ, suc, ◌+◌, ◌-◌, ◌≤◌, ◌<◌, ◌^◌}
+use Prim.Native.Nat.{ℕ, suc, ◌+◌, ◌-◌, ◌≤◌}
 use native.Mathlib.Omega.{arith}
-use native.Mathlib.Decide.{dec_le}
+use native.Mathlib.Decide.{ℕ_discrete, dec_le}
 use lib.Dec.{leb}
 use lib.ListN.{length-set, get_or, set}
 use lib.Seq.{get_or-set_same, get_or-set_other}
@@ -19,8 +19,9 @@ use Rattle.stretches.specs.Seg.{seg, seg_add}
 use Rattle.stretches.specs.Cut.{lip_from, lsp_from, lis_from}
 use Rattle.lists.specs.declared.Fill.{Fill}
 use Rattle.lists.specs.Lists.{coefficient, entry, sets, waiting, known, lists_in}
+use Rattle.parts.specs.declared.Lengths.{Lengths}
 use Rattle.parts.specs.declared.Counts.{Counts}
-use Rattle.parts.specs.Standing.{count_at, Places, with_lists, with_sets, nothing, lists_at, state_of}
+use Rattle.parts.specs.Standing.{unlisted, count_at, Places, with_lists, with_sets, nothing, lists_at, state_of}
 use Rattle.parts.specs.Workspace.{with_moved}
 
 module _ (z : Size) (work : List ℕ) (counts : Counts) (k : ℕ) where
@@ -83,68 +84,63 @@ module _ (n : ℕ) (s s' : List ℕ) (lip lis lsp : ℕ) (a : lip ≤ n) (b : ls
       more = sets_add n s' lis m ∙ ap (λ l. l ++ sets (lis_from n + lis) m s') sets_same
 
 -- sets that came to the next level's LIS, as the code counts them
-pub moved_first : (c : Counts) (k m : ℕ) → k < 2 → c ≡ with_moved c k m
+pub moved_first : (c : Counts) (k m : ℕ) → k ≤ 1 → c ≡ with_moved c k m
 unfolding with_moved
-moved_first c k m h = rw (lt-leb 2 k h)
+moved_first c k m h = rw (lt-leb 2 k (omega arith))
+
+abbrev pub longer : Lengths → ℕ → Lengths
+longer l m = record { lip = l.lip; lsp = l.lsp; lis = l.lis + m }
 
 pub moved_next : (c : Counts) (k m : ℕ) → 2 ≤ k
-    → ◌≡◌ {A = Counts} (record { lip = c.lip; lsp = c.lsp; lis = set c.lis (k - 2) (get_or c.lis (k - 2) 0 + m) }) (with_moved c k m)
+    → ◌≡◌ {A = Counts} (record { levels = set c.levels (k - 2) (longer (get_or c.levels (k - 2) unlisted) m) }) (with_moved c k m)
 unfolding with_moved
 moved_next c k m h =
     let i : k - 2 ≡ k - 1 - 1 = omega arith in
-    rw (le-leb 2 k h) (ap (λ (j : ℕ). record { lip = c.lip; lsp = c.lsp; lis = set c.lis j (get_or c.lis j 0 + m) }) i)
-
-pub moved_under : (lis : List ℕ) (k m : ℕ) → 2 ≤ k → count_at lis (k - 1) + m < 2 ^ 32 → get_or lis (k - 2) 0 + m < 2 ^ 32
-moved_under lis k m h l = let i : k - 2 ≡ k - 1 - 1 = omega arith in omega (arith, ap (λ (j : ℕ). get_or lis j 0) i)
+    rw (le-leb 2 k h) (ap (λ (j : ℕ). record { levels = set c.levels j (longer (get_or c.levels j unlisted) m) }) i)
 
 -- the counts after a part
 module _ (counts : Counts) (six : Places counts) (k : ℕ) (a : 1 ≤ k) (b : k ≤ level_places) (f : Fill) where
+  abbrev own : Counts
+  own = with_lists counts k f
+
   abbrev left : Counts
-  left = with_moved (with_lists counts k f) k f.moved
+  left = with_moved own k f.moved
 
-  other_set : (cs : List ℕ) (x j : ℕ) → 1 ≤ j → j ≢ k → count_at (set cs (k - 1) x) j ≡ count_at cs j
-  other_set cs x j c e = get_or-set_other cs (k - 1) (j - 1) x 0 (λ i. e (omega arith))
+  pub own_same : count_at own k ≡ record { lip = f.lip; lsp = f.lsp; lis = f.kept }
+  own_same = get_or-set_same counts.levels (k - 1) (record { lip = f.lip; lsp = f.lsp; lis = f.kept }) unlisted (omega (arith, six.levels))
 
-  -- of LIP and LSP
-  lists_left : (left.lip ≡ set counts.lip (k - 1) f.lip) × (left.lsp ≡ set counts.lsp (k - 1) f.lsp)
+  pub own_other : (j : ℕ) → 1 ≤ j → j ≢ k → count_at own j ≡ count_at counts j
+  own_other j c d =
+      get_or-set_other counts.levels (k - 1) (j - 1) (record { lip = f.lip; lsp = f.lsp; lis = f.kept }) unlisted (λ i. d (omega arith))
+
+  -- what moved out counts in the next level only
+  moved_other : (j : ℕ) → 1 ≤ j → suc j ≢ k → count_at left j ≡ count_at own j
   unfolding with_moved
-  lists_left = by (leb 2 k)
+  moved_other j c d = by (dec_le 2 k)
     where
-      by : (x : Bool) → let c : Counts = cond {A = Counts} x (with_sets (with_lists counts k f) (k - 1) f.moved) (with_lists counts k f) in
-          (c.lip ≡ set counts.lip (k - 1) f.lip) × (c.lsp ≡ set counts.lsp (k - 1) f.lsp)
-      by true = (refl, refl)
-      by false = (refl, refl)
-
-  -- of LIS: of the level, of the next, and of another
-  counts_lis : (j : ℕ) → 1 ≤ j → suc j ≢ k → count_at left.lis j ≡ count_at (set counts.lis (k - 1) f.kept) j
-  unfolding with_moved
-  counts_lis j c d = by (dec_le 2 k)
-    where
-      by : Dec (2 ≤ k) → count_at (cond {A = Counts} (leb 2 k) (with_sets (with_lists counts k f) (k - 1) f.moved) (with_lists counts k f)).lis j
-          ≡ count_at (set counts.lis (k - 1) f.kept) j
-      by (yes h) = rw (le-leb 2 k h) (get_or-set_other (set counts.lis (k - 1) f.kept) (k - 1 - 1) (j - 1) _ 0 (λ i. d (omega arith)))
+      by : Dec (2 ≤ k) → count_at (cond {A = Counts} (leb 2 k) (with_sets own (k - 1) f.moved) own) j ≡ count_at own j
+      by (yes h) = rw (le-leb 2 k h) (get_or-set_other own.levels (k - 1 - 1) (j - 1) _ unlisted (λ i. d (omega arith)))
       by (no h) = rw (lt-leb 2 k (omega arith))
 
-  pub counts_own : (count_at left.lip k ≡ f.lip) × (count_at left.lis k ≡ f.kept) × (count_at left.lsp k ≡ f.lsp)
-  counts_own = (
-    ap (λ cs. count_at cs k) lists_left.0 ∙ get_or-set_same counts.lip (k - 1) f.lip 0 (omega (arith, six.lip)),
-    counts_lis k a (λ e. omega arith) ∙ get_or-set_same counts.lis (k - 1) f.kept 0 (omega (arith, six.lis)),
-    ap (λ cs. count_at cs k) lists_left.1 ∙ get_or-set_same counts.lsp (k - 1) f.lsp 0 (omega (arith, six.lsp)),
-  )
+  pub counts_own : count_at left k ≡ record { lip = f.lip; lsp = f.lsp; lis = f.kept }
+  counts_own = moved_other k a (λ e. omega arith) ∙ own_same
 
-  pub counts_other : (j : ℕ) → 1 ≤ j → j ≢ k
-      → (count_at left.lip j ≡ count_at counts.lip j) × (suc j ≢ k → count_at left.lis j ≡ count_at counts.lis j)
-      × (count_at left.lsp j ≡ count_at counts.lsp j)
-  counts_other j c d = (
-    ap (λ cs. count_at cs j) lists_left.0 ∙ other_set counts.lip f.lip j c d,
-    (λ e. counts_lis j c e ∙ other_set counts.lis f.kept j c d),
-    ap (λ cs. count_at cs j) lists_left.1 ∙ other_set counts.lsp f.lsp j c d,
-  )
+  pub counts_other : (j : ℕ) → 1 ≤ j → j ≢ k → suc j ≢ k → count_at left j ≡ count_at counts j
+  counts_other j c d e = moved_other j c e ∙ own_other j c d
 
-  pub counts_next : 2 ≤ k → count_at left.lis (k - 1) ≡ count_at counts.lis (k - 1) + f.moved
+  pub counts_next : 2 ≤ k → count_at left (k - 1) ≡ longer (count_at counts (k - 1)) f.moved
   unfolding with_moved
   counts_next h =
-      let own : List ℕ = set counts.lis (k - 1) f.kept in
       rw (le-leb 2 k h)
-      (get_or-set_same own (k - 1 - 1) (count_at own (k - 1) + f.moved) 0 (omega (arith, six.lis, length-set counts.lis (k - 1) f.kept))
-      ∙ ap (λ (x : ℕ). x + f.moved) (other_set counts.lis f.kept (k - 1) (omega arith) (λ e. omega arith)))
+      (get_or-set_same own.levels (k - 1 - 1) (longer (count_at own (k - 1)) f.moved) unlisted
+      (omega (arith, six.levels, length-set counts.levels (k - 1) (record { lip = f.lip; lsp = f.lsp; lis = f.kept })))
+      ∙ ap (λ l. longer l f.moved) (own_other (k - 1) (omega arith) (λ e. omega arith)))
+
+  pub counts_lip : (j : ℕ) → 1 ≤ j → j ≢ k → (count_at left j).lip ≡ (count_at counts j).lip
+  counts_lip j c d = by (ℕ_discrete (suc j) k)
+    where
+      by : Dec (suc j ≡ k) → (count_at left j).lip ≡ (count_at counts j).lip
+      by (yes e) =
+          let n : k - 1 ≡ j = omega arith in
+          subst (λ (x : ℕ). (count_at left x).lip ≡ (count_at counts x).lip) n (ap (λ l. l.lip) (counts_next (omega arith)))
+      by (no e) = ap (λ l. l.lip) (counts_other j c d e)

@@ -5,6 +5,7 @@ use Rattle.rules.specs.declared.Size.{Size}
 use Rattle.rules.specs.declared.Plane.{Plane}
 use Rattle.rules.specs.declared.Level.{Level}
 use Rattle.bits.specs.declared.BitPosition.{BitPosition}
+use Rattle.parts.specs.declared.Lengths.{Lengths}
 use Rattle.parts.specs.declared.Counts.{Counts}
 use Rattle.parts.specs.declared.Passed.{Passed}
 use Rattle.rules.specs.Document.Pyramid.{legal_size, area, levels, most_planes, magnitude, negative}
@@ -25,33 +26,35 @@ use Rattle.lists.specs.declared.Fill.{Fill}
 use Rattle.lists.specs.Lists.{Marked, lip_at, lists_in}
 use Rattle.bits.specs.Bits.{write_bits}
 
+abbrev pub unlisted : Lengths
+unlisted = record { lip = 0; lsp = 0; lis = 0 }
+
 -- how many entries each list of level k has
-abbrev pub count_at : List ℕ → ℕ → ℕ
-count_at counts k = get_or counts (k - 1) 0
+abbrev pub count_at : Counts → ℕ → Lengths
+count_at c k = get_or c.levels (k - 1) unlisted
 
 -- there is a count for each of the levels
 pub record Places (c : Counts) : Type 0 where
-  pub lip : length c.lip ≡ level_places
-  pub lsp : length c.lsp ≡ level_places
-  pub lis : length c.lis ≡ level_places
+  pub levels : length c.levels ≡ level_places
 
 -- the level's lists as a pass finds them, as it leaves them, and with sets that came to its LIS
 abbrev pub fill_of : Counts → ℕ → Fill
 fill_of c k =
-    record { lip = count_at c.lip k; lsp = count_at c.lsp k; kept = 0; visited = 0; left = count_at c.lis k; moved = 0 }
+    record { lip = (count_at c k).lip; lsp = (count_at c k).lsp; kept = 0; visited = 0; left = (count_at c k).lis; moved = 0 }
 
 abbrev pub with_lists : Counts → ℕ → Fill → Counts
-with_lists c k f = record { lip = set c.lip (k - 1) f.lip; lsp = set c.lsp (k - 1) f.lsp; lis = set c.lis (k - 1) f.kept }
+with_lists c k f = record { levels = set c.levels (k - 1) (record { lip = f.lip; lsp = f.lsp; lis = f.kept }) }
 
 abbrev pub with_sets : Counts → ℕ → ℕ → Counts
-with_sets c k more = record { lip = c.lip; lsp = c.lsp; lis = set c.lis (k - 1) (count_at c.lis k + more) }
+with_sets c k more =
+    let own = count_at c k in record { levels = set c.levels (k - 1) (record { lip = own.lip; lsp = own.lsp; lis = own.lis + more }) }
 
 abbrev pub nothing : Lists
 nothing = record { lip = []; lis = []; lsp = [] }
 
 unfoldable pub lists_at : Size → List ℕ → Counts → ℕ → Lists
 lists_at z work counts k =
-    lists_in (level_size z k) (stretch_of z k work) (count_at counts.lip k) (count_at counts.lis k) (count_at counts.lsp k)
+    lists_in (level_size z k) (stretch_of z k work) (count_at counts k).lip (count_at counts k).lis (count_at counts k).lsp
 
 -- The lists of each level, by the workspace and the counts. There are none outside the levels 1 to N+1.
 unfoldable pub state_of : Size → List ℕ → Counts → State
@@ -71,7 +74,7 @@ abbrev pub stretch_by : Role → Size → ℕ → Stretch
 stretch_by role z k = record { role = role; n = level_size z k; first = level_start z k; away = 4 * level_size z k }
 
 pub record Marks (role : Role) (z : Size) (work : List ℕ) (counts : Counts) : Type 0 where
-  pub lips : (k i : ℕ) → 1 ≤ k → k ≤ levels z → i < count_at counts.lip k
+  pub lips : (k i : ℕ) → 1 ≤ k → k ≤ levels z → i < (count_at counts k).lip
       → Marked (stretch_by role z k) (stretch_of z k work) (lip_at (level_size z k) i (stretch_of z k work))
 
 pub record Started (role : Role) (z : Size) (work : List ℕ) (r : Counts) (work' : List ℕ) : Type 0 where

@@ -30,7 +30,7 @@ lent_of z k work = seg (4 * level_start z k) (lent_to z k - 4 * level_start z k)
 
 -- the stretch of level k, by how full the lists are: what moves out goes behind the sets of the next level's LIS
 unfoldable pub away_for : Size → ℕ → Counts → ℕ
-away_for z k counts = cond (leb 2 k) (4 * level_size z k + lis_from (level_size z (k - 1)) + count_at counts.lis (k - 1)) (4 * level_size z k)
+away_for z k counts = cond (leb 2 k) (4 * level_size z k + lis_from (level_size z (k - 1)) + (count_at counts (k - 1)).lis) (4 * level_size z k)
 
 abbrev pub stretch_for : Role → Size → ℕ → Counts → Stretch
 stretch_for role z k counts = record { role = role; n = level_size z k; first = level_start z k; away = away_for z k counts }
@@ -43,13 +43,13 @@ with_moved c k moved = cond {A = Counts} (leb 2 k) (with_sets c (k - 1) moved) c
 pub record Counting (counts : Counts) (k : Level) (moved : ℕ) : Type 0 where
   pub coarser : 1 ≤ k.0
   pub level : k.0 ≤ level_places
-  pub few : count_at counts.lis (k.0 - 1) + moved < 2 ^ 32
+  pub few : (count_at counts (k.0 - 1)).lis + moved < 2 ^ 32
 
 pub record Cutting (z : Size) (k : Level) (counts : Counts) : Type 0 where
   pub legal : legal_size z ≡ true
   pub coarser : 1 ≤ k.0
   pub level : k.0 ≤ levels z
-  pub few : count_at counts.lis (k.0 - 1) < 2 ^ 32
+  pub few : (count_at counts (k.0 - 1)).lis < 2 ^ 32
 
 -- the level's stretch and the next, lent to the pass
 pub record Lending (run : Run) (body work out : List ℕ) (w : Stand) : Type 0 where
@@ -73,7 +73,7 @@ run_of role z plane level counts from until =
       stretch = stretch_for role z level.0 counts;
       parents = span z (level.0 + 1);
       elders = span z (level.0 + 2);
-      olds = count_at counts.lis level.0;
+      olds = (count_at counts level.0).lis;
       from = from;
       until = until;
     }

@@ -16,12 +16,18 @@ use rules::{LEVEL_PLACES, Level, Plane, Size};
 use shape::Depth;
 use testing::{Run, Stand};
 
+// How full a level's lists are.
+#[derive(Clone, Copy)]
+pub struct Lengths {
+    pub lip: usize,
+    pub lsp: usize,
+    pub lis: usize,
+}
+
 // How full each level's lists are; level 1 first.
 #[derive(Clone, Copy)]
 pub struct Counts {
-    pub lip: [usize; LEVEL_PLACES],
-    pub lsp: [usize; LEVEL_PLACES],
-    pub lis: [usize; LEVEL_PLACES],
+    pub levels: [Lengths; LEVEL_PLACES],
 }
 
 // The counts after a part, and the place of the next bit.
@@ -39,25 +45,21 @@ fn list_one(z: Size, s: &mut [u32], stretch: Stretch, f: Fill, row: usize, colum
     let x = placing::band_number(z, row, column);
     let r = lists::push_lip(s, stretch, f, x);
     if row % 2 + column % 2 == 0 {
-        return r;
+        r
+    } else {
+        lists::add_set(s, stretch, r, Set::TypeA(x))
     }
-    lists::add_set(s, stretch, r, Set::TypeA(x))
 }
 
 // A row of the LL band.
-fn list_row(z: Size, s: &mut [u32], stretch: Stretch, f: Fill, row: usize) -> Fill
+fn list_row(z: Size, s: &mut [u32], stretch: Stretch, mut f: Fill, row: usize) -> Fill
     requires { Listing z (row_of z row) stretch s.old f × (row < z.h / 2 ^ z.n) }
     ensures { Listed z (row_of z row) stretch s.old f s.new result }
 {
-    let end = z.w >> z.n;
-    let mut column = 0;
-    let mut r = f;
-    while column < end {
-        let own = column;
-        column += 1;
-        r = list_one(z, s, stretch, r, row, own);
+    for column in 0..z.w >> z.n {
+        f = list_one(z, s, stretch, f, row, column);
     }
-    r
+    f
 }
 
 // The LL band row by row, in a stretch where nothing is listed.
@@ -65,7 +67,7 @@ fn list_band(z: Size, s: &mut [u32], stretch: Stretch) -> Fill
     requires { Listing z (band_ll z) stretch s.old empty }
     ensures { Listed z (band_ll z) stretch s.old empty s.new result }
 {
-    let mut r = Fill {
+    let mut f = Fill {
         lip: 0,
         lsp: 0,
         kept: 0,
@@ -73,14 +75,10 @@ fn list_band(z: Size, s: &mut [u32], stretch: Stretch) -> Fill
         left: 0,
         moved: 0,
     };
-    let end = z.h >> z.n;
-    let mut row = 0;
-    while row < end {
-        let own = row;
-        row += 1;
-        r = list_row(z, s, stretch, r, own);
+    for row in 0..z.h >> z.n {
+        f = list_row(z, s, stretch, f, row);
     }
-    r
+    f
 }
 
 // Start: LIP of level N+1 holds the LL band row by row, its LIS those with offspring as type A; all else is empty. The stretch of level N+1
@@ -89,8 +87,7 @@ pub fn start(role: Role, z: Size, work: &mut [u32]) -> Counts
     requires { (legal_size z ≡ true) × (work_for z ≤ length work.old) }
     ensures { Started role z work.old result work.new }
 {
-    let top = z.n;
-    let n = shape::level_size(z, Level(top + 1));
+    let n = shape::level_size(z, Level(z.n + 1));
     let stretch = Stretch {
         role,
         n,
@@ -98,15 +95,18 @@ pub fn start(role: Role, z: Size, work: &mut [u32]) -> Counts
         away: 4 * n,
     };
     let f = list_band(z, &mut work[0..4 * n], stretch);
-    let mut lip = [0; LEVEL_PLACES];
-    lip[top] = f.lip;
-    let mut lis = [0; LEVEL_PLACES];
-    lis[top] = f.left;
-    Counts {
-        lip,
-        lsp: [0; LEVEL_PLACES],
-        lis,
-    }
+    let none = Lengths {
+        lip: 0,
+        lsp: 0,
+        lis: 0,
+    };
+    let mut levels = [none; LEVEL_PLACES];
+    levels[z.n] = Lengths {
+        lip: f.lip,
+        lsp: 0,
+        lis: f.left,
+    };
+    Counts { levels }
 }
 
 // The level's lists, as a pass finds them.
@@ -114,45 +114,39 @@ fn fill_of(counts: Counts, k: Level) -> Fill
     requires { (1 ≤ k.0) × (k.0 ≤ level_places) }
     ensures { (result ≡ fill_of counts k.0) × Places counts }
 {
-    let i = k.0 - 1;
-    let lip = counts.lip[i];
-    let lsp = counts.lsp[i];
-    let left = counts.lis[i];
+    let own = counts.levels[k.0 - 1];
     Fill {
-        lip,
-        lsp,
+        lip: own.lip,
+        lsp: own.lsp,
         kept: 0,
         visited: 0,
-        left,
+        left: own.lis,
         moved: 0,
     }
 }
 
 // The level's lists are those that a pass left.
-fn with_lists(counts: Counts, k: Level, f: Fill) -> Counts
+fn with_lists(mut counts: Counts, k: Level, f: Fill) -> Counts
     requires { (1 ≤ k.0) × (k.0 ≤ level_places) }
     ensures { result ≡ with_lists counts k.0 f }
 {
-    let i = k.0 - 1;
-    let mut r = counts;
-    r.lip[i] = f.lip;
-    r.lsp[i] = f.lsp;
-    r.lis[i] = f.kept;
-    r
+    counts.levels[k.0 - 1] = Lengths {
+        lip: f.lip,
+        lsp: f.lsp,
+        lis: f.kept,
+    };
+    counts
 }
 
 // The next level's LIS has become longer by so many sets. Nothing moves out of level 1.
-fn with_moved(counts: Counts, k: Level, moved: usize) -> Counts
+fn with_moved(mut counts: Counts, k: Level, moved: usize) -> Counts
     requires { Counting counts k moved }
     ensures { result ≡ with_moved counts k.0 moved }
 {
-    if k.0 < 2 {
-        return counts;
+    if 1 < k.0 {
+        counts.levels[k.0 - 2].lis += moved;
     }
-    let i = k.0 - 2;
-    let mut r = counts;
-    r.lis[i] = counts.lis[i] + moved;
-    r
+    counts
 }
 
 // The stretch of a level: the sets that move out go to the end of the next level's LIS; level 1 has no next.
@@ -161,22 +155,17 @@ fn stretch_of(role: Role, z: Size, k: Level, counts: Counts) -> Stretch
     ensures { result ≡ stretch_for role z k.0 counts }
 {
     let n = shape::level_size(z, k);
-    let first = shape::level_start(z, k);
-    if k.0 < 2 {
-        return Stretch {
-            role,
-            n,
-            first,
-            away: 4 * n,
-        };
-    }
-    let next = Level(k.0 - 1);
-    let there = fill_of(counts, next);
-    let away = lists::lis_end(4 * n, shape::level_size(z, next), there.left);
+    let away = if k.0 < 2 {
+        4 * n
+    } else {
+        let next = Level(k.0 - 1);
+        let there = fill_of(counts, next);
+        lists::lis_end(4 * n, shape::level_size(z, next), there.left)
+    };
     Stretch {
         role,
         n,
-        first,
+        first: shape::level_start(z, k),
         away,
     }
 }
@@ -187,9 +176,10 @@ fn lent_to(z: Size, k: Level) -> usize
     ensures { (result ≡ lent_to z k.0) × (result ≤ work_for z) × (result < 2 ^ 32) }
 {
     if k.0 < 2 {
-        return stretches::stretch_to(z, k);
+        stretches::stretch_to(z, k)
+    } else {
+        stretches::stretch_to(z, Level(k.0 - 1))
     }
-    stretches::stretch_to(z, Level(k.0 - 1))
 }
 
 // The level's stretch and the next level's, cut from the middle of the workspace and lent to the pass.
@@ -208,13 +198,12 @@ fn run_part(run: Run, body: &[u8], work: &mut [u32], counts: Counts, out: &mut [
     ensures { PartRun run body.now work.old counts out.old result work.new out.new }
 {
     let fill = fill_of(counts, run.level);
-    let begin = run.from;
-    let stand = run_level(run, body, work, Stand { fill, at: begin }, out);
-    let left = stand.fill;
-    let at = stand.at;
-    let own = with_lists(counts, run.level, left);
-    let next = with_moved(own, run.level, left.moved);
-    Passed { counts: next, at }
+    let left = run_level(run, body, work, Stand { fill, at: run.from }, out);
+    let own = with_lists(counts, run.level, left.fill);
+    Passed {
+        counts: with_moved(own, run.level, left.fill.moved),
+        at: left.at,
+    }
 }
 
 // The run of a part whose bits go on at a place, and of which those that are there end at another.
@@ -230,8 +219,6 @@ fn run_of(
     requires { Cutting z level counts }
     ensures { result ≡ run_of role z plane level counts from until }
 {
-    let fill = fill_of(counts, level);
-    let olds = fill.left;
     Run {
         z,
         plane,
@@ -239,7 +226,7 @@ fn run_of(
         stretch: stretch_of(role, z, level, counts),
         parents: shape::span_of(z, Depth(level.0 + 1)),
         elders: shape::span_of(z, Depth(level.0 + 2)),
-        olds,
+        olds: fill_of(counts, level).left,
         from,
         until,
     }
@@ -258,9 +245,8 @@ pub fn code_part(
     requires { ReadyToCode z plane level work.old counts at }
     ensures { PartCoded z plane level work.old counts out.old at result work.new out.new }
 {
-    let body = [0u8; 1];
     let run = run_of(Role::Codes, z, plane, level, counts, at, at);
-    run_part(run, &body, work, counts, out)
+    run_part(run, &[], work, counts, out)
 }
 
 // One part decoded from its body, as far as its bits are there: the coefficients drawn, and the lists after it. The decoder writes no bit.
@@ -276,7 +262,6 @@ pub fn decode_part(
     requires { ReadyToDecode z plane level work.old counts × Quiet body.now until }
     ensures { PartDecoded body.now until z plane level work.old counts result work.new }
 {
-    let mut unwritten = [0u8; 1];
     let run = run_of(
         Role::Reads,
         z,
@@ -286,5 +271,5 @@ pub fn decode_part(
         BitPosition { at: 0 },
         until,
     );
-    run_part(run, body, work, counts, &mut unwritten)
+    run_part(run, body, work, counts, &mut [])
 }

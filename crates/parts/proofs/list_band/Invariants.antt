@@ -6,7 +6,5 @@ use Rattle.parts.proofs.Begin.{Left}
 use Rattle.parts.proofs.list_band.Given as goal
 
 abbrev pub invariant-loop-row : goal.invariant-loop-row
-invariant-loop-row l = Left l.z (band_ll l.z) l.stretch l.initial.s l.initial.r (rows l.z l.row (l.end - l.row)) l.s l.r × (length l.s ≡ length l.initial.s)
-
-abbrev pub decreases-loop-row : goal.decreases-loop-row
-decreases-loop-row l = l.end - l.row
+invariant-loop-row l =
+    Left l.z (band_ll l.z) l.stretch l.initial.s l.initial.f (rows l.z l.row (l.row-end - l.row)) l.s l.f × (length l.s ≡ length l.initial.s)

@@ -20,5 +20,5 @@ add_set-requires c = let P = c.requires in
     let number = c.band_number-x.ensures in
     (L.fits, P.0.size, odd_slot _ P.0 P.1 number.0 L c.if-row-column-eq0.false, number.1)
 
-pub returns : goal.returns
-returns c = search (rules, listed_odd)
+pub returns-else-row-column-eq0 : goal.returns-else-row-column-eq0
+returns-else-row-column-eq0 c = search (rules, listed_odd)

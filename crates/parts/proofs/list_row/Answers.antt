@@ -1,24 +1,21 @@
 use native.Mathlib.Omega.{arith}
 use mathlib.Core.Path.{refl, ◌∙◌}
 use Rattle.rules.proofs.Laws.Family.Sizes.{legal}
-use Rattle.parts.proofs.Begin.{left_row, left_first, left_rest, left_none, from_next, from_none, side_under}
+use Rattle.parts.proofs.Begin.{left_row, left_first, left_rest, left_none, from_next, from_none}
 use Rattle.parts.proofs.list_row.Goals as goal
 
-pub overflow_shr-end : goal.overflow_shr-end
-overflow_shr-end c = omega (arith, (legal _ c.requires.0.legal).few)
+pub overflow_shr-column-end : goal.overflow_shr-column-end
+overflow_shr-column-end c = omega (arith, (legal _ c.requires.0.legal).few)
 
 pub loop-column-init : goal.loop-column-init
 loop-column-init c = (left_row _ c.requires.0, refl)
 
-pub overflow_add-column : goal.overflow_add-column
-overflow_add-column c = let Z = legal _ c.requires.0.legal in omega (arith, side_under _ _ _ Z.width.most c.loop-column-test.true)
-
-pub list_one-r-requires : goal.list_one-r-requires
-list_one-r-requires c = let more = c.loop-column-test.true in
+pub list_one-f-requires : goal.list_one-f-requires
+list_one-f-requires c = let more = c.loop-column-test.true in
     (left_first _ (from_next _ _ _ more) c.loop-column.invariant.0, (c.requires.1, more))
 
 pub loop-column-preserved : goal.loop-column-preserved
-loop-column-preserved c = let listed = c.list_one-r.ensures in
+loop-column-preserved c = let listed = c.list_one-f.ensures in
     let before = c.loop-column.invariant in
     (left_rest (from_next _ _ _ c.loop-column-test.true) before.0 listed, listed.beside.long ∙ before.1)
 

@@ -12,11 +12,6 @@ slice_bounds-run_pass-start c =
     let order = lent_order _ c.requires c.stretch_from-from.ensures.0 c.lent_to-to.ensures.0 in
     search rules
 
-pub slice_bounds-run_pass-end : goal.slice_bounds-run_pass-end
-slice_bounds-run_pass-end c =
-    let order = lent_order _ c.requires c.stretch_from-from.ensures.0 c.lent_to-to.ensures.0 in
-    search rules
-
 pub run_pass-requires : goal.run_pass-requires
 run_pass-requires c =
     let from = c.stretch_from-from.ensures.0 in

@@ -5,14 +5,14 @@ use Rattle.parts.proofs.run_part.Goals as goal
 pub fill_of-fill-requires : goal.fill_of-fill-requires
 fill_of-fill-requires c = running_few c.requires
 
-pub run_level-stand-requires : goal.run_level-stand-requires
-run_level-stand-requires c = running_lends c.requires c.fill_of-fill.ensures.0
+pub run_level-left-requires : goal.run_level-left-requires
+run_level-left-requires c = running_lends c.requires c.fill_of-fill.ensures.0
 
 pub with_lists-own-requires : goal.with_lists-own-requires
 with_lists-own-requires c = search (rules, running_few)
 
-pub with_moved-next-requires : goal.with_moved-next-requires
-with_moved-next-requires c = search (rules, running_more)
+pub with_moved-requires : goal.with_moved-requires
+with_moved-requires c = search (rules, running_more)
 
 pub returns : goal.returns
 returns c = search (rules, running_done)

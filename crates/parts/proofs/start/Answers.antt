@@ -3,8 +3,8 @@ use Rattle.rules.proofs.Laws.Family.Sizes.{legal}
 use Rattle.parts.proofs.Begin.{top_size, top_under, top_room, band_listing, started}
 use Rattle.parts.proofs.start.Goals as goal
 
-pub overflow_add-top : goal.overflow_add-top
-overflow_add-top c = omega (arith, (legal _ c.requires.0).few)
+pub overflow_add-z : goal.overflow_add-z
+overflow_add-z c = omega (arith, (legal _ c.requires.0).few)
 
 pub overflow_mul-stretch : goal.overflow_mul-stretch
 overflow_mul-stretch c = omega (arith, (top_under _ c.requires.0 c.level_size-n.ensures).1)
@@ -20,17 +20,11 @@ list_band-f-requires c = let P = c.requires in
     let size = c.level_size-n.ensures in
     band_listing _ _ _ c.args.work.now P.0 (top_size _ size) (top_room _ P.0 size P.1)
 
-pub offset_bounds-lip-top : goal.offset_bounds-lip-top
-offset_bounds-lip-top c = omega (arith, (legal _ c.requires.0).few)
+pub offset_bounds-levels-z : goal.offset_bounds-levels-z
+offset_bounds-levels-z c = omega (arith, (legal _ c.requires.0).few)
 
-pub bounds-lip-top : goal.bounds-lip-top
-bounds-lip-top c = omega (arith, (legal _ c.requires.0).few)
-
-pub offset_bounds-lis-top : goal.offset_bounds-lis-top
-offset_bounds-lis-top c = omega (arith, (legal _ c.requires.0).few)
-
-pub bounds-lis-top : goal.bounds-lis-top
-bounds-lis-top c = omega (arith, (legal _ c.requires.0).few)
+pub bounds-levels-z : goal.bounds-levels-z
+bounds-levels-z c = omega (arith, (legal _ c.requires.0).few)
 
 pub returns : goal.returns
 returns c = let P = c.requires in
