@@ -1,7 +1,7 @@
 -- How the lists begin: coefficients of the LL band listed one after another by their tree numbers, in the stretch of level N+1.
 use mathlib.Core.Path.{◌≡◌, refl, sym, ap, ap₂, ◌∙◌, subst}
 use mathlib.Core.Bool.{Bool, true, false, cond, ◌&&◌, ◌||◌}
-use mathlib.Core.List.{List, [], ◌∷◌, ◌++◌, map, append_assoc, append-nil}
+use mathlib.Core.List.{List, [], ◌∷◌, ◌++◌, map, map-append, append_assoc, append-nil}
 use mathlib.Core.Logic.{◌≢◌}
 use Prim.Native.Nat.{ℕ, zero, suc, ◌+◌, ◌-◌, ◌*◌, ◌/◌, ◌%◌, ◌≤◌, ◌<◌, ◌^◌}
 use native.Mathlib.Nat.{add-zero}
@@ -9,11 +9,12 @@ use native.Mathlib.Numerals.{add-one}
 use native.Mathlib.Omega.{arith}
 use native.Mathlib.Decide.{ℕ_discrete}
 use lib.Dec.{leb}
-use lib.ListN.{length, length-append, get_or, set, replicate, take, drop}
+use lib.ListN.{length, length-append, length-map, get_or, set, replicate, take, drop}
 use lib.Pow.{shr_le}
 use lib.Seq.{take_at, get_or-set_same, get_or-set_other}
 use borrow.Author.Tests.{le-leb, eq-eqb, ne_eqb}
 use borrow.Rule.Slice.PartMut.{mid_of, put_mid, post_of, mid_len, same_len_mid}
+use Rattle.std.proofs.lemmas.List.{nil_from_length}
 use Rattle.rules.specs.declared.Size.{Size}
 use Rattle.rules.specs.Document.Notation.{flat, if_any}
 use Rattle.rules.specs.Document.Pyramid.{legal_size, area, levels, level_of, odd, block, offspring_of}
@@ -33,7 +34,6 @@ use Rattle.rules.specs.Promises.Vocabulary.{Legal}
 use Rattle.trees.specs.Family.{tree_level, tree_offspring, coefficient_of}
 use Rattle.trees.proofs.Family.{level_same, offspring_same}
 use Rattle.trees.proofs.Lawful.{trees_lawful}
-use Rattle.trees.proofs.Renamed.{map-append, map_length}
 use Rattle.trees.specs.Run.{number_of, tree_root, tree_start}
 use Rattle.trees.proofs.Run.{coefficient_number}
 use Rattle.trees.proofs.Sound.{tree_start_sound, tree_part_room, tree_level_area}
@@ -62,10 +62,6 @@ all_others : {X : Type 0} (P : X → Type 0) (xs ys : List X) → All P (xs ++ y
 unfolding All
 all_others P [] ys a = a
 all_others P (x ∷ xs) ys a = all_others P xs ys a.1
-
-length_none : {X : Type 0} (xs : List X) → length xs ≡ 0 → xs ≡ []
-length_none [] e = refl
-length_none (x ∷ xs) e = absurd (omega arith)
 
 -- the next coefficient of a row, and the next row
 pub from_next : (p j e : ℕ) → j < e → from (p + j) (e - j) ≡ ((p + j) ∷ []) ++ from (p + (j + 1)) (e - (j + 1))
@@ -107,7 +103,7 @@ module _ (z : Size) (Z : Legal z) {i j : ℕ} (h : InBand z i j) (top : level_of
       let q : ℕ = band_at z i j in
       let x : ℕ = number_of z q in
       sym (ap length (sym (ap (offspring_of z) (coefficient_number z Z q (level_area z Z q (omega arith)))) ∙ offspring_same z Z x)
-      ∙ map_length (coefficient_of z) (tree_offspring z x))
+      ∙ length-map (tree_offspring z x) (coefficient_of z))
 
   by_parity : (b : Bool) → odd i || odd j ≡ b → offspring_of z (band_at z i j) ≡ cond b (block_ll z i j) []
   by_parity b e =
@@ -119,7 +115,7 @@ module _ (z : Size) (Z : Legal z) {i j : ℕ} (h : InBand z i j) (top : level_of
   even_none : i % 2 + j % 2 ≡ 0 → tree_offspring z (number_of z (band_at z i j)) ≡ []
   even_none e =
       let p : odd i || odd j ≡ false = ap₂ ◌||◌ (ne_eqb (i % 2) 1 (λ u. omega arith)) (ne_eqb (j % 2) 1 (λ u. omega arith)) in
-      length_none _ (offspring_count ∙ ap length (by_parity false p))
+      nil_from_length _ (offspring_count ∙ ap length (by_parity false p))
 
   odd_some : i % 2 + j % 2 ≢ 0 → 1 ≤ length (tree_offspring z (number_of z (band_at z i j)))
   unfolding block
@@ -302,14 +298,7 @@ module _ {z : Size} {all : List ℕ} {t : Stretch} {s₀ : List ℕ} {f₀ : Fil
   pub left_none : {rest : List ℕ} → rest ≡ [] → Left z all t s₀ f₀ rest s f → Listed z all t s₀ f₀ s f
   left_none i T = T.makes s f (subst (λ l. Listed z l t s f s f) (sym i) (listed_none z t s f T.asks.fits))
 
--- at the beginning of a row's loop, and of the band's
-pub left_row : {z : Size} (i : ℕ) {t : Stretch} {s : List ℕ} {f : Fill} → Listing z (row_of z i) t s f
-    → Left z (row_of z i) t s f (from (i * z.w + 0) (z.w / 2 ^ z.n - 0)) s f
-left_row {z} i {t} {s} {f} A =
-    let p : i * z.w ≡ i * z.w + 0 = omega arith in
-    let m : z.w / 2 ^ z.n ≡ z.w / 2 ^ z.n - 0 = omega arith in
-    subst (λ l. Left z (row_of z i) t s f l s f) (ap₂ from p m) (left_all A)
-
+-- at the beginning of the band's loop
 pub left_band : {z : Size} {t : Stretch} {s : List ℕ} {f : Fill} → Listing z (band_ll z) t s f → Left z (band_ll z) t s f (rows z 0 (z.h / 2 ^ z.n - 0)) s f
 unfolding band_ll
 left_band {z} {t} {s} {f} A =

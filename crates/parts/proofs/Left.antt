@@ -33,7 +33,8 @@ use Rattle.parts.specs.declared.Passed.{Passed}
 use Rattle.parts.specs.Standing.{unlisted, count_at, Places, fill_of, with_lists, lists_at, state_of, Ready, stretch_by, Marks}
 use Rattle.parts.specs.Workspace.{lent_to, lent_of, with_moved, Lent, run_of, course_in, PartRun}
 use Rattle.parts.proofs.Workspace.{lent_next, Untouched, untouched}
-use Rattle.parts.proofs.States.{state_in, state_out, state_same, lists_agree, lists_more, own_same, own_other, counts_own, counts_other, counts_next, counts_lip}
+use Rattle.parts.proofs.States.{state_in, state_out, state_same, lists_agree, lists_more}
+use Rattle.parts.proofs.States.{own_same, own_other, counts_own, counts_other, counts_next, counts_lip}
 use Rattle.parts.proofs.Parts.{level_fits, away_next, lent_own, lent_lip, values_lent, lists_lent, pass_is, moved_none, moved_some}
 
 module _ (role : Role) {z : Size} {plane : Plane} {level : Level} {work : List ℕ} {counts : Counts} (D : Ready z plane level work counts)

@@ -1,6 +1,6 @@
 -- The lists of all levels in the workspace, by their stretches and counts: what a pass leaves of them.
 use mathlib.Core.Path.{◌≡◌, sym, ap, ◌∙◌, subst}
-use mathlib.Core.List.{List, ◌++◌, map}
+use mathlib.Core.List.{List, ◌++◌, map, map-append}
 use mathlib.Core.Bool.{cond, ◌&&◌}
 use mathlib.Core.Logic.{◌≢◌}
 use Prim.Native.Nat.{ℕ, suc, ◌+◌, ◌-◌, ◌≤◌}
@@ -14,7 +14,6 @@ use Rattle.rules.specs.declared.Size.{Size}
 use Rattle.rules.specs.Document.Pyramid.{levels}
 use Rattle.rules.specs.Document.Calls.{level_places}
 use Rattle.rules.specs.Document.Passes.{Lists}
-use Rattle.trees.proofs.Renamed.{map-append}
 use Rattle.stretches.specs.Seg.{seg, seg_add}
 use Rattle.stretches.specs.Cut.{lip_from, lsp_from, lis_from}
 use Rattle.lists.specs.declared.Fill.{Fill}

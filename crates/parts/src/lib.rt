@@ -233,6 +233,7 @@ fn run_of(
 }
 
 // One part coded, of the pyramid that the workspace holds: its bits from a place on, and the lists after it. The coder reads no body.
+// Not one function with decode_part: their contracts, PartCoded and PartDecoded, promise the coder and the decoder different things.
 pub fn code_part(
     z: Size,
     plane: Plane,

@@ -18,6 +18,7 @@ use rules::{Level, Plane, Size};
 // Which part is run. The tree numbers of the nodes whose offspring are in the level begin at `parents`, those of the nodes whose offspring's offspring
 // are at `elders`. At the beginning its LIS had so many sets, and the bits go on from a place. Those that
 // are there end at the place `until`: of a part that is cut, W1 has the tail decoded "as far as its bits go".
+// Body, stretch, stand and output go beside it one by one: the contracts of ask_set, test_each, refine_lsp and passes::run_pass name each.
 #[derive(Clone, Copy)]
 pub struct Run {
     pub z: Size,
@@ -48,6 +49,7 @@ pub struct Ends {
 }
 
 // What was told of a coefficient: whether it is found and, if so, whether it is negative; and the place of the next bit.
+// Two bools and no Option<bool>: no branch may wait for the bit that was found, and an Option is opened by one.
 #[derive(Clone, Copy)]
 pub struct Told {
     pub found: bool,
@@ -114,6 +116,7 @@ fn read_found(body: &[u8], at: BitPosition) -> Told
 }
 
 // Whether a coefficient is significant and, if so, negative: the coder has both in its entry.
+// The side is a value and no type parameter, here and below: it stands in Stretch, of which theorems speak (Marked, Marks, Started).
 fn ask_found(run: Run, body: &[u8], out: &mut [u8], at: BitPosition, e: usize) -> Told
     requires { (at.at + 2 < 2 ^ 62) × (run.plane.0 < most_planes) }
     ensures { AnsweredBy run body.now e out.old at result out.new }
@@ -127,6 +130,7 @@ fn ask_found(run: Run, body: &[u8], out: &mut [u8], at: BitPosition, e: usize) -
     }
 }
 
+// Bit n of a coefficient. Not one function with ask_set: it would take the coder's answer as a closure, which is longer than the match it saves.
 fn ask_bit(run: Run, body: &[u8], s: &[u32], out: &mut [u8], at: BitPosition, x: usize) -> BitRead
     requires { (at.at < 2 ^ 62) × (run.plane.0 < most_planes) × (4 * run.stretch.n ≤ length s.now) × Inside run.stretch x }
     ensures { Replied (side run s.now body.now) (bit? x) out.old at result out.new }

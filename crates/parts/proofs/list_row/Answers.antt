@@ -1,14 +1,11 @@
 use native.Mathlib.Omega.{arith}
-use mathlib.Core.Path.{refl, ◌∙◌}
+use mathlib.Core.Path.{◌∙◌}
 use Rattle.rules.proofs.Laws.Family.Sizes.{legal}
-use Rattle.parts.proofs.Begin.{left_row, left_first, left_rest, left_none, from_next, from_none}
+use Rattle.parts.proofs.Begin.{left_first, left_rest, left_none, from_next, from_none}
 use Rattle.parts.proofs.list_row.Goals as goal
 
 pub overflow_shr-column-end : goal.overflow_shr-column-end
 overflow_shr-column-end c = omega (arith, (legal _ c.requires.0.legal).few)
-
-pub loop-column-init : goal.loop-column-init
-loop-column-init c = (left_row _ c.requires.0, refl)
 
 pub list_one-f-requires : goal.list_one-f-requires
 list_one-f-requires c = let more = c.loop-column-test.true in

@@ -32,9 +32,9 @@ returns c =
     let size = c.level_size-n.ensures in
     let away : c.if-k-lt2.away ≡ away_for a.z a.k.0 a.counts =
     elim c.if-k-lt2.branch [
-      then-k-lt2 w ↦ first_away a.role a.z a.k.0 a.counts size w.if-k-lt2.true w.away-is
-    | else-k-lt2 w ↦
-        next_away a.role a.z a.k.0 a.counts size w.if-k-lt2.false w.level_size.ensures w.fill_of-there.ensures.0
-        (w.away-is ∙ w.lis_end-away.ensures)
+      | then-k-lt2 w ↦ first_away a.role a.z a.k.0 a.counts size w.if-k-lt2.true w.away-is
+      | else-k-lt2 w ↦
+          next_away a.role a.z a.k.0 a.counts size w.if-k-lt2.false w.level_size.ensures w.fill_of-there.ensures.0
+          (w.away-is ∙ w.lis_end-away.ensures)
     ] in
     stretch_is _ _ _ _ size c.level_start.ensures away
