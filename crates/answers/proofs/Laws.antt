@@ -1,46 +1,17 @@
--- Numbers stored at the front of a zeroed slice, some behind the others.
+-- Numbers of all levels stored one behind the other, and an answer's numbers at the front of a zeroed slice.
 use mathlib.Core.Path.{◌≡◌, refl, ap, ap₂, sym, ◌∙◌}
 use mathlib.Core.List.{List, [], ◌∷◌, ◌++◌, map, map-append}
 use Prim.Native.Nat.{ℕ, zero, suc, ◌+◌, ◌-◌, ◌≤◌, ◌<◌}
 use native.Mathlib.Numerals.{add-one}
 use native.Mathlib.Omega.{arith}
-use lib.ListN.{length, get_or, set, replicate, length-set, length-map, length-append, length-replicate}
+use lib.ListN.{length, get_or, set, take, drop, replicate, length-set, length-map, length-take, length-replicate}
+use Rattle.std.proofs.lemmas.List.{drop-replicate}
 use lib.Seq.{sets}
-use Rattle.rules.specs.declared.Decoded.{Decoded}
 use Rattle.rules.specs.Document.Passes.{from}
-use Rattle.rules.specs.Document.Calls.{filled, level_places, plane_in, count_in}
+use Rattle.rules.specs.Document.Calls.{filled, level_places}
 use Rattle.rules.proofs.Laws.Counting.Sums.{from_length}
-use Rattle.rules.proofs.Laws.Bytes.Output.{filled_sets, filled_append}
 use Rattle.memory.specs.Stores.{sets_append}
-use Rattle.answers.specs.Report.{level_numbers, Reported}
-
-pub reported : {numbers stored entry zeroed : List ℕ} {n : ℕ} → stored ≡ numbers → n ≡ get_or stored 0 0 → length stored ≤ length entry
-    → zeroed ≡ replicate (length entry) 0 → Reported numbers entry n (sets zeroed 0 stored)
-reported {numbers} {stored} {entry} e f l z =
-    record {
-      returns = f ∙ ap (λ (x : List ℕ). get_or x 0 0) e;
-      writes = ap (λ (x : List ℕ). sets x 0 stored) z ∙ filled_sets (length entry) stored l ∙ ap (filled (length entry)) e;
-    }
-
--- What more is stored stands behind; the number returned is the one that was.
-front_stays : (numbers more : List ℕ) → 0 < length numbers → get_or numbers 0 0 ≡ get_or (numbers ++ more) 0 0
-front_stays [] more l = absurd (omega arith)
-front_stays (x ∷ numbers) more l = refl
-
-pub reported_more : {numbers entry answer answer' : List ℕ} {n : ℕ} (more : List ℕ) → Reported numbers entry n answer → 0 < length numbers
-    → length numbers + length more ≤ length entry → answer' ≡ sets answer (length numbers) more → Reported (numbers ++ more) entry n answer'
-reported_more {numbers} {entry} more r f l e =
-    record {
-      returns = r.returns ∙ front_stays numbers more f;
-      writes = e ∙ ap (λ (x : List ℕ). sets x (length numbers) more) r.writes ∙ filled_append (length entry) numbers more l;
-    }
-
-pub reported_length : {numbers entry answer : List ℕ} {n : ℕ} → Reported numbers entry n answer → length numbers ≤ length entry
-    → length answer ≡ length entry
-unfolding filled
-reported_length {numbers} {entry} r l =
-    ap length r.writes ∙ length-append numbers (replicate (length entry - length numbers) 0)
-    ∙ ap (λ (n : ℕ). length numbers + n) (length-replicate (length entry - length numbers) 0) ∙ omega arith
+use Rattle.answers.specs.Report.{Reported}
 
 -- The loop that stores one number a level, f of its place, after some of them.
 pub record Storing (f : ℕ → ℕ) (answer₀ : List ℕ) (at done : ℕ) (answer : List ℕ) : Type 0 where
@@ -89,13 +60,14 @@ module _ {f : ℕ → ℕ} {answer₀ : List ℕ} {at : ℕ} where
         let e : done ≡ level_places = omega (arith, b.within) in
         b.holds ∙ ap (λ (n : ℕ). sets answer₀ at (map f (from 0 n))) e
 
--- Planes, and counts behind them.
-pub levels_stored : (answer₀ : List ℕ) (at : ℕ) (a : Decoded) {answer answer' : List ℕ}
-    → answer ≡ sets answer₀ at (map (plane_in a.reached) (from 0 level_places))
-    → answer' ≡ sets answer (at + level_places) (map (count_in a.skipped) (from 0 level_places)) → answer' ≡ sets answer₀ at (level_numbers a)
-unfolding level_numbers
-levels_stored answer₀ at a e f =
-    let planes : List ℕ = map (plane_in a.reached) (from 0 level_places) in
-    let counts : List ℕ = map (count_in a.skipped) (from 0 level_places) in
-    let n : level_places ≡ length planes = sym (length-map (from 0 level_places) (plane_in a.reached) ∙ from_length 0 level_places) in
-    f ∙ ap₂ (λ (l : List ℕ) (i : ℕ). sets l (at + i) counts) e n ∙ sym (sets_append answer₀ at planes counts)
+pub reported : {numbers entry zeroed copied : List ℕ} (n : ℕ) → zeroed ≡ replicate (length entry) 0 → copied ≡ numbers → length copied ≡ length (take n zeroed)
+    → n ≤ length entry → Reported numbers entry (get_or numbers 0 0) (copied ++ drop n zeroed)
+unfolding filled
+reported {numbers} {entry} {zeroed} n z c l m =
+    let long : length numbers ≡ n = omega (arith, ap length (sym c), l, length-take n zeroed, ap length z, length-replicate {A = ℕ} (length entry) 0) in
+    record {
+      returns = refl;
+      writes =
+          ap₂ (λ (x y : List ℕ). x ++ y) c (ap (drop n) z ∙ drop-replicate n (length entry) 0)
+          ∙ ap (λ (k : ℕ). numbers ++ replicate (length entry - k) 0) (sym long);
+    }

@@ -1,20 +1,20 @@
-// The document's number and place for each verdict, made in one function each; and each answer's numbers at the front of a lent slice.
+// The document's number and place for each refusal, made in one function each; each answer's numbers, and those at the front of a lent slice.
 #![tactic(auto)]
 
-ghost use Rattle.std.specs.Prelude.{◌≡◌, map, ◌+◌, ◌*◌, ◌≤◌, length};
-ghost use Rattle.std.proofs.lemmas.List.Edits.{sets};
-ghost use Rattle.rules.specs.Document.Passes.{from};
+ghost use Rattle.std.specs.Prelude.{◌≡◌, ◌<◌, ◌≤◌, length};
 ghost use Rattle.rules.specs.Document.Numbers.{refusal_number, refusal_place, verdict_number, verdict_place};
-ghost use Rattle.rules.specs.Document.Calls.{level_places, code_places, serve_places, decode_places};
-ghost use Rattle.rules.specs.Document.Calls.{code_numbers, serve_numbers, plane_in, count_in, decode_numbers};
-ghost use Rattle.survey.specs.Surveyed.{survey_places, survey_numbers};
-ghost use Rattle.pictures.specs.Document.Calls.{grey_read_numbers, grey_written_numbers, grey_places};
-ghost use Rattle.answers.specs.Report.{verdict_numbers, level_numbers, Reported};
+ghost use Rattle.rules.specs.Document.Calls.{code_numbers, serve_numbers, decode_numbers};
+ghost use Rattle.rules.specs.Document.Answers.{as_verdict, as_coded, as_served, as_decoded};
+ghost use Rattle.survey.specs.Surveyed.{as_survey, survey_numbers};
+ghost use Rattle.pictures.specs.Document.Calls.{grey_read_numbers, grey_written_numbers};
+ghost use Rattle.pictures.specs.Document.Answers.{as_grey_read, as_grey_written};
+ghost use Rattle.answers.specs.Report.{Reported};
 
-use pictures::{GreyRead, GreyWritten};
-use rules::{Coded, Decoded, LEVEL_PLACES, Plane, Refusal, Served, Verdict};
-use survey::Survey;
+use pictures::{GREY_PLACES, Printed, Sides};
+use rules::{CODE_PLACES, DECODE_PLACES, Extent, LEVEL_PLACES, Reach, Refusal, SERVE_PLACES};
+use survey::{Contents, SURVEY_PLACES};
 
+// The numbers of the document's table, which C and programs are told: an enum of its own would have to be turned into them here again.
 fn refusal_number(refusal: Refusal) -> u64
     ensures { result ≡ refusal_number refusal }
 {
@@ -48,150 +48,128 @@ fn refusal_place(refusal: Refusal) -> u64
         Refusal::Fit(place) => place as u64,
         Refusal::LongForm(place) => place as u64,
         Refusal::Clash(place) => place as u64,
-        Refusal::Size => 0,
-        Refusal::Length => 0,
-        Refusal::Work => 0,
-        Refusal::Room => 0,
-        Refusal::Version => 0,
-        Refusal::Ask => 0,
-        Refusal::Grey => 0,
-        Refusal::Mixed => 0,
+        Refusal::Size
+        | Refusal::Length
+        | Refusal::Work
+        | Refusal::Room
+        | Refusal::Version
+        | Refusal::Ask
+        | Refusal::Grey
+        | Refusal::Mixed => 0,
     }
 }
 
-pub fn number(verdict: Verdict) -> u64
-    ensures { result ≡ verdict_number verdict }
+#[tactic(auto, unfolding(rules::specs::Document::Answers::as_verdict))]
+pub fn number(verdict: Result<(), Refusal>) -> u64
+    ensures { result ≡ verdict_number (as_verdict verdict) }
 {
     match verdict {
-        Verdict::Accepted => 0,
-        Verdict::Refused(r) => refusal_number(r),
+        Ok(()) => 0,
+        Err(r) => refusal_number(r),
     }
 }
 
-pub fn place(verdict: Verdict) -> u64
-    ensures { result ≡ verdict_place verdict }
+#[tactic(auto, unfolding(rules::specs::Document::Answers::as_verdict))]
+pub fn place(verdict: Result<(), Refusal>) -> u64
+    ensures { result ≡ verdict_place (as_verdict verdict) }
 {
     match verdict {
-        Verdict::Accepted => 0,
-        Verdict::Refused(r) => refusal_place(r),
+        Ok(()) => 0,
+        Err(r) => refusal_place(r),
     }
 }
 
-// All 0, but for number and place in front.
-fn report_verdict(verdict: Verdict, answer: &mut [u64]) -> u64
-    requires { code_places ≤ length answer.old }
-    ensures { Reported (verdict_numbers verdict) answer.old result answer.new }
+#[tactic(auto, unfolding(rules::specs::Document::Calls::code_numbers, rules::specs::Document::Answers::as_coded))]
+pub fn code_numbers(coded: Result<usize, Refusal>) -> [u64; CODE_PLACES]
+    ensures { result ≡ code_numbers (as_coded coded) }
 {
-    memory::zero_u64(answer);
-    let n = number(verdict);
-    answer[0] = n;
-    answer[1] = place(verdict);
-    n
-}
-
-pub fn report_coded(coded: Coded, answer: &mut [u64]) -> u64
-    requires { code_places ≤ length answer.old }
-    ensures { Reported (code_numbers coded) answer.old result answer.new }
-{
-    let v = coded.verdict;
-    let n = report_verdict(v, answer);
-    answer[2] = coded.length as u64;
-    n
-}
-
-pub fn report_served(served: Served, answer: &mut [u64]) -> u64
-    requires { serve_places ≤ length answer.old }
-    ensures { Reported (serve_numbers served) answer.old result answer.new }
-{
-    let v = served.verdict;
-    let n = report_verdict(v, answer);
-    answer[2] = served.length as u64;
-    answer[3] = served.tail as u64;
-    n
-}
-
-// The planes, level 1 first, from a place on.
-fn store_planes(planes: [Plane; LEVEL_PLACES], answer: &mut [u64], at: usize)
-    requires { at + level_places ≤ length answer.old }
-    ensures { answer.new ≡ sets answer.old at (map (plane_in planes) (from 0 level_places)) }
-{
-    let mut i = 0;
-    while i < LEVEL_PLACES {
-        let plane = planes[i];
-        answer[at + i] = plane.0 as u64;
-        i += 1;
+    match coded {
+        Ok(length) => [0, 0, length as u64],
+        Err(r) => [refusal_number(r), refusal_place(r), 0],
     }
 }
 
-// The counts of skipped parts, likewise.
-fn store_counts(counts: [usize; LEVEL_PLACES], answer: &mut [u64], at: usize)
-    requires { at + level_places ≤ length answer.old }
-    ensures { answer.new ≡ sets answer.old at (map (count_in counts) (from 0 level_places)) }
+#[tactic(auto, unfolding(rules::specs::Document::Calls::serve_numbers, rules::specs::Document::Answers::as_served))]
+pub fn serve_numbers(served: Result<Extent, Refusal>) -> [u64; SERVE_PLACES]
+    ensures { result ≡ serve_numbers (as_served served) }
 {
-    let mut i = 0;
-    while i < LEVEL_PLACES {
-        answer[at + i] = counts[i] as u64;
-        i += 1;
+    match served {
+        Ok(x) => [0, 0, x.length as u64, x.tail as u64],
+        Err(r) => [refusal_number(r), refusal_place(r), 0, 0],
     }
 }
 
-// What decoding says of each level: the planes, and the counts behind them.
-fn store_levels(decoded: Decoded, answer: &mut [u64], at: usize)
-    requires { at + 2 * level_places ≤ length answer.old }
-    ensures { answer.new ≡ sets answer.old at (level_numbers decoded) }
+#[tactic(auto, unfolding(rules::specs::Document::Calls::decode_numbers, rules::specs::Document::Calls::plane_in, rules::specs::Document::Calls::count_in))]
+pub fn decode_numbers(decoded: Result<Reach, Refusal>) -> [u64; DECODE_PLACES]
+    ensures { result ≡ decode_numbers (as_decoded decoded) }
 {
-    let reached = decoded.reached;
-    store_planes(reached, answer, at);
-    let skipped = decoded.skipped;
-    store_counts(skipped, answer, at + LEVEL_PLACES);
+    let mut numbers = [0; DECODE_PLACES];
+    match decoded {
+        Ok(x) => {
+            numbers[2] = x.tail as u64;
+            for (i, plane) in x.reached.iter().enumerate() {
+                numbers[3 + i] = plane.0 as u64;
+            }
+            for (i, count) in x.skipped.iter().enumerate() {
+                numbers[3 + LEVEL_PLACES + i] = *count as u64;
+            }
+        }
+        Err(r) => {
+            numbers[0] = refusal_number(r);
+            numbers[1] = refusal_place(r);
+        }
+    }
+    numbers
 }
 
-pub fn report_decoded(decoded: Decoded, answer: &mut [u64]) -> u64
-    requires { decode_places ≤ length answer.old }
-    ensures { Reported (decode_numbers decoded) answer.old result answer.new }
+#[tactic(auto, unfolding(survey::specs::Surveyed::survey_numbers, survey::specs::Surveyed::as_survey))]
+pub fn survey_numbers(surveyed: Result<Contents, Refusal>) -> [u64; SURVEY_PLACES]
+    ensures { result ≡ survey_numbers (as_survey surveyed) }
 {
-    let v = decoded.verdict;
-    let n = report_verdict(v, answer);
-    answer[2] = decoded.tail as u64;
-    store_levels(decoded, answer, 3);
-    n
+    match surveyed {
+        Ok(x) => {
+            let z = x.header.size;
+            [
+                0,
+                0,
+                z.w as u64,
+                z.h as u64,
+                z.n as u64,
+                x.header.planes as u64,
+                x.parts as u64,
+                x.tail as u64,
+            ]
+        }
+        Err(r) => [refusal_number(r), refusal_place(r), 0, 0, 0, 0, 0, 0],
+    }
 }
 
-pub fn report_surveyed(surveyed: Survey, answer: &mut [u64]) -> u64
-    requires { survey_places ≤ length answer.old }
-    ensures { Reported (survey_numbers surveyed) answer.old result answer.new }
+#[tactic(auto, unfolding(pictures::specs::Document::Calls::grey_read_numbers, pictures::specs::Document::Answers::as_grey_read))]
+pub fn grey_read_numbers(read: Result<Sides, Refusal>) -> [u64; GREY_PLACES]
+    ensures { result ≡ grey_read_numbers (as_grey_read read) }
 {
-    let v = surveyed.verdict;
-    let n = report_verdict(v, answer);
-    let header = surveyed.header;
-    let size = header.size;
-    answer[2] = size.w as u64;
-    answer[3] = size.h as u64;
-    answer[4] = size.n as u64;
-    answer[5] = header.planes as u64;
-    answer[6] = surveyed.parts as u64;
-    answer[7] = surveyed.tail as u64;
-    n
+    match read {
+        Ok(x) => [0, 0, x.w as u64, x.h as u64],
+        Err(r) => [refusal_number(r), refusal_place(r), 0, 0],
+    }
 }
 
-pub fn report_grey_read(read: GreyRead, answer: &mut [u64]) -> u64
-    requires { grey_places ≤ length answer.old }
-    ensures { Reported (grey_read_numbers read) answer.old result answer.new }
+#[tactic(auto, unfolding(pictures::specs::Document::Calls::grey_written_numbers, pictures::specs::Document::Answers::as_grey_written))]
+pub fn grey_written_numbers(written: Result<Printed, Refusal>) -> [u64; GREY_PLACES]
+    ensures { result ≡ grey_written_numbers (as_grey_written written) }
 {
-    let v = read.verdict;
-    let n = report_verdict(v, answer);
-    answer[2] = read.w as u64;
-    answer[3] = read.h as u64;
-    n
+    match written {
+        Ok(x) => [0, 0, x.length as u64, x.clipped as u64],
+        Err(r) => [refusal_number(r), refusal_place(r), 0, 0],
+    }
 }
 
-pub fn report_grey_written(written: GreyWritten, answer: &mut [u64]) -> u64
-    requires { grey_places ≤ length answer.old }
-    ensures { Reported (grey_written_numbers written) answer.old result answer.new }
+// An answer's numbers at the front of a lent slice, the rest 0; the first of them is handed back.
+pub fn report<const N: usize>(numbers: [u64; N], answer: &mut [u64]) -> u64
+    requires { (0 < N) × (N ≤ length answer.old) }
+    ensures { Reported numbers.entry answer.old result answer.new }
 {
-    let v = written.verdict;
-    let n = report_verdict(v, answer);
-    answer[2] = written.length as u64;
-    answer[3] = written.clipped as u64;
-    n
+    memory::zero(answer);
+    answer[..N].copy_from_slice(&numbers);
+    numbers[0]
 }

@@ -1,5 +1,7 @@
--- What the coder answers: the tests of the input in their order, and the length against the room.
-use mathlib.Core.Path.{◌≡◌, refl, sym, ap, ◌∙◌}
+-- What the coder answers: what the input is refused for, and the length against the room.
+use Rattle.std.specs.Prelude.{Ok, Err, is_err, ⊤}
+use Rattle.std.specs.Prelude.{Result as Returned}
+use mathlib.Core.Path.{◌≡◌, refl, sym, ap, subst, ◌∙◌}
 use mathlib.Core.List.{List}
 use mathlib.Core.Bool.{Bool, true, false, cond}
 use Prim.Native.Nat.{ℕ, ◌*◌, ◌≤◌, ◌<◌}
@@ -9,20 +11,20 @@ use lib.Dec.{leb, eqb}
 use lib.ListN.{length, length-replicate}
 use lib.IntN.{ℤ}
 use lib.Seq.{length-sets}
-use borrow.Author.Tests.{leb-true, eqb-true, le-leb, lt-leb, eq-eqb, ne_eqb}
+use borrow.Author.Tests.{leb-true, eqb-true, le-leb, lt-leb}
 use mir.Syntax.{w64}
 use mir.Val.{Fits}
+use Rattle.rules.proofs.Laws.Counting.Booleans.{clash}
 use Rattle.rules.proofs.Laws.Family.Sizes.{area_bound}
 use Rattle.rules.specs.declared.Size.{Size}
-use Rattle.rules.specs.declared.Coded.{Coded}
 use Rattle.rules.specs.declared.Refusal.{Refusal}
 use Rattle.rules.specs.declared.Refusal.TheVariants as refusal
-use Rattle.rules.specs.declared.Verdict.{Verdict}
-use Rattle.rules.specs.declared.Verdict.TheVariants.{Accepted, Refused}
+use Rattle.rules.specs.Document.Numbers.{Verdict, Accepted, Refused}
 use Rattle.rules.specs.Document.Notation.{zeros}
 use Rattle.rules.specs.Document.Pyramid.{legal_size, area, most_magnitude}
 use Rattle.rules.specs.Document.Layout.{record_of}
-use Rattle.rules.specs.Document.Calls.{Result, refused, unless, work_for, first_over, fitted, coding, code_out, code_answer, Coding}
+use Rattle.rules.specs.Document.Calls.{Result, refused, accepted, unless, work_for, first_over, fitted, coding, Coded, code_out, code_answer, Coding}
+use Rattle.rules.specs.Document.Answers.{as_coded}
 use Rattle.rules.proofs.Laws.Bytes.Output.{filled_sets}
 use Rattle.coder.specs.Writing.{Answered, judged_input, Given, Stored}
 
@@ -35,67 +37,22 @@ pub stored_room : (lent : List ℕ) {at : ℕ} {bytes : List ℕ} {end : ℕ} {o
     → Stored (zeros (length lent)) at bytes end out' → length out' ≡ length lent
 stored_room lent h = stored_length h ∙ length-replicate (length lent) 0
 
--- refuse
-pub refused_answered : (r : Refusal) {out out' : List ℕ} → out' ≡ zeros (length out)
-    → Answered (refused r) out (record { verdict = Refused r; length = 0 }) out'
-unfolding code_out code_answer
-refused_answered r a = record { answers = refl; writes = a }
-
--- The input judged, cause by cause. l is what was found of the size.
-module _ (pyramid : List ℤ) (z : Size) (work : ℕ) (l : Bool) (found : l ≡ legal_size z) where
-  pub judged_size : l ≡ false → Refused refusal.Size ≡ judged_input pyramid z work
-  unfolding judged_input
-  judged_size a = rw (sym found ∙ a)
-
-  module _ (a : l ≡ true) where
-    pub judged_length : (length pyramid ≡ area z → ⊥) → Refused refusal.Length ≡ judged_input pyramid z work
-    unfolding judged_input
-    judged_length b = rw (sym found ∙ a, ne_eqb (length pyramid) (area z) b)
-
-    module _ (b : length pyramid ≡ area z) (least : ℕ) (m : least ≡ work_for z) where
-      pub judged_work : work < least → Refused refusal.Work ≡ judged_input pyramid z work
-      unfolding judged_input
-      judged_work c = rw (sym found ∙ a, eq-eqb (length pyramid) (area z) b, lt-leb (work_for z) work (omega arith))
-
-      module _ (c : least ≤ work) where
-        pub judged_range : (over : ℕ) → over ≡ first_over most_magnitude pyramid → (over ≡ length pyramid → ⊥)
-            → Refused (refusal.Range over) ≡ judged_input pyramid z work
-        unfolding judged_input
-        judged_range over e d =
-            rw (
-              sym found ∙ a,
-              eq-eqb (length pyramid) (area z) b,
-              le-leb (work_for z) work (omega arith),
-              ne_eqb (first_over most_magnitude pyramid) (length pyramid) (λ f. d (e ∙ f)),
-              e,
-            )
-
-        pub judged_accepted : (over : ℕ) → over ≡ first_over most_magnitude pyramid → over ≡ length pyramid → Accepted ≡ judged_input pyramid z work
-        unfolding judged_input
-        judged_accepted over e d =
-            rw (
-              sym found ∙ a,
-              eq-eqb (length pyramid) (area z) b,
-              le-leb (work_for z) work (omega arith),
-              eq-eqb (first_over most_magnitude pyramid) (length pyramid) (sym e ∙ d),
-            )
-
 pub area_fits : (z : Size) (l : Bool) → l ≡ legal_size z → l ≡ true → Fits w64 (z.w * z.h)
 area_fits z l e t = record { fits = omega (arith, area_bound z (sym e ∙ t)) }
 
 -- What the input alone is judged decides the call, or leaves it to the room.
-ruled : Verdict → Result (List ℕ) → Result (List ℕ)
-ruled Accepted x = x
-ruled (Refused r) x = refused r
+ruled : Returned ⊤ Refusal → Result (List ℕ) → Result (List ℕ)
+ruled (Ok _) x = x
+ruled (Err r) x = refused r
 
-ruled_unless : (b : Bool) (r : Refusal) (v : Verdict) (x y : Result (List ℕ)) → y ≡ ruled v x → unless b r y ≡ ruled (cond b v (Refused r)) x
+ruled_unless : (b : Bool) (r : Refusal) (v : Returned ⊤ Refusal) (x y : Result (List ℕ)) → y ≡ ruled v x → unless b r y ≡ ruled (cond b v (Err r)) x
 unfolding unless ruled
 ruled_unless true r v x y e = e
 ruled_unless false r v x y e = refl
 
-accepted_test : (b : Bool) (v : Verdict) (r : Refusal) → cond b v (Refused r) ≡ Accepted → (b ≡ true) × (v ≡ Accepted)
+accepted_test : (b : Bool) (v : Returned ⊤ Refusal) (r : Refusal) → cond b v (Err r) ≡ Ok tt → (b ≡ true) × (v ≡ Ok tt)
 accepted_test true v r e = (refl, e)
-accepted_test false v r e = let z : ◌≡◌ {A = ℕ} 0 1 = cc in absurd (omega arith)
+accepted_test false v r e = clash (cc)
 
 module _ (pyramid : List ℤ) (z : Size) where
   coding_ruled : (room work : ℕ) → coding pyramid z room work ≡ ruled (judged_input pyramid z work) (fitted (record_of z pyramid) room)
@@ -105,63 +62,65 @@ module _ (pyramid : List ℤ) (z : Size) where
       ruled_unless (legal_size z) refusal.Size _ x _
       (ruled_unless (eqb (length pyramid) (area z)) refusal.Length _ x _
       (ruled_unless (leb (work_for z) work) refusal.Work _ x _
-      (ruled_unless (eqb (first_over most_magnitude pyramid) (length pyramid)) (refusal.Range (first_over most_magnitude pyramid)) Accepted x x refl)))
+      (ruled_unless (eqb (first_over most_magnitude pyramid) (length pyramid)) (refusal.Range (first_over most_magnitude pyramid)) (Ok tt) x x refl)))
 
-  module _ (work : List ℕ) {v : Verdict} (e : v ≡ judged_input pyramid z (length work)) where
-    pub accepted_given : v ≡ Accepted → Given pyramid z work
-    unfolding judged_input
-    accepted_given a =
-        let s = accepted_test (legal_size z) _ refusal.Size (sym e ∙ a) in
-        let l = accepted_test (eqb (length pyramid) (area z)) _ refusal.Length s.1 in
-        let w = accepted_test (leb (work_for z) (length work)) _ refusal.Work l.1 in
-        let r = accepted_test (eqb (first_over most_magnitude pyramid) (length pyramid)) _ (refusal.Range (first_over most_magnitude pyramid)) w.1 in
-        record { legal = s.0; whole = eqb-true _ _ l.0; room = leb-true _ _ w.0; range = eqb-true _ _ r.0 }
+  pub accepted_given : (work : List ℕ) → Ok tt ≡ judged_input pyramid z (length work) → Given pyramid z work
+  unfolding judged_input
+  accepted_given work e =
+      let s = accepted_test (legal_size z) _ refusal.Size (sym e) in
+      let l = accepted_test (eqb (length pyramid) (area z)) _ refusal.Length s.1 in
+      let w = accepted_test (leb (work_for z) (length work)) _ refusal.Work l.1 in
+      let r = accepted_test (eqb (first_over most_magnitude pyramid) (length pyramid)) _ (refusal.Range (first_over most_magnitude pyramid)) w.1 in
+      record { legal = s.0; whole = eqb-true _ _ l.0; room = leb-true _ _ w.0; range = eqb-true _ _ r.0 }
 
-  -- what is answered: v is what was found of the input, n the length of the workspace
-  module _ (n : ℕ) {v : Verdict} (e : v ≡ judged_input pyramid z n) where
-    answered : {out out' : List ℕ} {answer : Coded} (x : Result (List ℕ)) → x ≡ ruled v (fitted (record_of z pyramid) (length out))
-        → Answered x out answer out' → Answered (coding pyramid z (length out) n) out answer out'
-    answered {out} x i a =
-        let j : x ≡ coding pyramid z (length out) n =
-        i ∙ ap (λ u. ruled u (fitted (record_of z pyramid) (length out))) e ∙ sym (coding_ruled (length out) n) in
-        record { answers = a.answers ∙ ap code_answer j; writes = a.writes ∙ ap (code_out (length out)) j }
-
-    pub accepted_answered : {out out' : List ℕ} {answer : Coded} → v ≡ Accepted → Answered (fitted (record_of z pyramid) (length out)) out answer out'
-        → Answered (coding pyramid z (length out) n) out answer out'
+  -- what is answered: n is the length of the workspace
+  module _ (n : ℕ) where
+    pub accepted_answered : {out out' : List ℕ} {answer : Returned ℕ Refusal} → Ok tt ≡ judged_input pyramid z n
+        → Answered (fitted (record_of z pyramid) (length out)) out answer out' → Answered (coding pyramid z (length out) n) out answer out'
     unfolding ruled
-    accepted_answered {out} a h = answered _ (ap (λ u. ruled u (fitted (record_of z pyramid) (length out))) (sym a)) h
+    accepted_answered {out} {out'} {answer} e h =
+        let x : Result (List ℕ) = fitted (record_of z pyramid) (length out) in
+        subst (λ (y : Result (List ℕ)). Answered y out answer out') (ap (λ v. ruled v x) e ∙ sym (coding_ruled (length out) n)) h
 
-    pub refusal_answered : {out out' : List ℕ} {answer : Coded} (r : Refusal) → v ≡ Refused r → Answered (refused r) out answer out'
-        → Answered (coding pyramid z (length out) n) out answer out'
-    unfolding ruled
-    refusal_answered {out} r a h = answered _ (ap (λ u. ruled u (fitted (record_of z pyramid) (length out))) (sym a)) h
+    pub refusal_answered : (out out' : List ℕ) (r : Refusal) → Err r ≡ judged_input pyramid z n
+        → Answered (coding pyramid z (length out) n) out (Err r) out'
+    unfolding ruled as_coded code_answer
+    refusal_answered out out' r e =
+        let x : Result (List ℕ) = fitted (record_of z pyramid) (length out) in
+        subst (λ (y : Result (List ℕ)). Answered y out (Err r) out') (ap (λ v. ruled v x) e ∙ sym (coding_ruled (length out) n))
+        (record { answers = refl; writes = tt })
 
-  -- code
-  pub code_answered : {out out' work work' : List ℕ} {answer : Coded} (since : List ℕ)
-      → Answered (coding pyramid z (length out) (length work)) out answer out'
-      → work' ≡ zeros (length since) → length since ≡ length work → Coding pyramid z out work answer out' work'
-  code_answered since a c l = record { answers = a.answers; writes = a.writes; clears = c ∙ ap zeros l }
+  -- code: what is refused leaves nothing in the output.
+  refused_blank : (x : Result (List ℕ)) (room : ℕ) (r : Refusal) → as_coded (Err r) ≡ code_answer x → code_out room x ≡ zeros room
+  unfolding as_coded code_answer code_out
+  refused_blank (refused _) room r e = refl
+  refused_blank (accepted _) room r e = let v : ◌≡◌ {A = Verdict} (Refused r) Accepted = ap (λ (a : Coded). a.verdict) e in clash (cc)
+
+  module _ {out out' work work' : List ℕ} (c : work' ≡ zeros (length work)) where
+    pub accepted_code : (answer : Returned ℕ Refusal) → is_err answer ≡ false → Answered (coding pyramid z (length out) (length work)) out answer out'
+        → Coding pyramid z out work (as_coded answer) out' work'
+    accepted_code (Ok n) i a = record { answers = a.answers; writes = a.writes; clears = c }
+    accepted_code (Err r) i a = clash (cc)
+
+    pub refused_code : {since : List ℕ} → out' ≡ zeros (length out) → (answer : Returned ℕ Refusal) → is_err answer ≡ true
+        → Answered (coding pyramid z (length out) (length work)) out answer since → Coding pyramid z out work (as_coded answer) out' work'
+    refused_code b (Ok n) i a = clash (cc)
+    refused_code b (Err r) i a = record { answers = a.answers; writes = b ∙ sym (refused_blank _ (length out) r a.answers); clears = c }
 
   -- code_fitted: the length decides.
   module _ (out : List ℕ) {end : ℕ} {out' : List ℕ} (h : Stored (zeros (length out)) 0 (record_of z pyramid) end out') where
     room : length out' ≡ length out
     room = stored_room out h
 
-    pub fitted_refused : {answer : Coded} {out'' : List ℕ} → length out' < end → Answered (refused refusal.Room) out' answer out''
-        → Answered (fitted (record_of z pyramid) (length out)) out answer out''
-    unfolding fitted unless
-    fitted_refused l a =
+    pub fitted_refused : length out' < end → Answered (fitted (record_of z pyramid) (length out)) out (Err refusal.Room) out'
+    unfolding fitted unless as_coded code_answer
+    fitted_refused l =
         let t : leb (length (record_of z pyramid)) (length out) ≡ false =
         lt-leb (length (record_of z pyramid)) (length out) (omega (arith, h.place, room)) in
-        rw t
-        (record {
-          answers = a.answers;
-          writes = a.writes ∙ ap (λ n. code_out n (refused refusal.Room)) room;
-        })
+        rw t (record { answers = refl; writes = tt })
 
-    pub fitted_accepted : end ≤ length out'
-        → Answered (fitted (record_of z pyramid) (length out)) out (record { verdict = Accepted; length = end }) out'
-    unfolding fitted unless code_answer code_out
+    pub fitted_accepted : end ≤ length out' → Answered (fitted (record_of z pyramid) (length out)) out (Ok end) out'
+    unfolding fitted unless as_coded code_answer code_out
     fitted_accepted l =
         let m : length (record_of z pyramid) ≤ length out = omega (arith, h.place, room) in
         rw (le-leb _ _ m)

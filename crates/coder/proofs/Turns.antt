@@ -114,41 +114,37 @@ module _ (z : Size) where
     unfolding parts_of_plane
     levels_end k b l = let e : k ≡ 0 = omega arith in left_none (parts_of_plane n.0 k) (ap (parts_of_plane n.0) e) l.left
 
-  -- write_planes: so many planes are done, from the highest on.
-  pub record PlanesDone (planes : ℕ) (work₀ : List ℕ) (x₀ : Stage) (done : ℕ) (work : List ℕ) (counts : Counts) (x : Stage) : Type 0 where
-    pub few : planes ≤ most_planes
-    pub left : Left work₀ x₀ (part_names (levels z) planes) work counts x (part_names (levels z) (planes - done)) (level_places * (planes - done))
+  -- write_planes: the n lowest planes are left.
+  pub record PlanesLeft (planes : ℕ) (work₀ : List ℕ) (x₀ : Stage) (n : ℕ) (work : List ℕ) (counts : Counts) (x : Stage) : Type 0 where
+    pub few : n ≤ most_planes
+    pub left : Left work₀ x₀ (part_names (levels z) planes) work counts x (part_names (levels z) n) (level_places * n)
 
   pub planes_begin : {planes : ℕ} {work : List ℕ} {counts : Counts} {x : Stage} → Holding z work counts → planes ≤ most_planes
-      → Going z (level_places * planes) x → PlanesDone planes work x 0 work counts x
-  planes_begin {planes} h a g =
-      let e : planes - 0 ≡ planes = omega arith in
-      record { few = a; left = rw e (left_all (part_names (levels z) planes) h g) }
+      → Going z (level_places * planes) x → PlanesLeft planes work x planes work counts x
+  planes_begin {planes} h a g = record { few = a; left = left_all (part_names (levels z) planes) h g }
 
   module _ {planes : ℕ} {work₀ : List ℕ} {x₀ : Stage} where
-    pub planes_due : {work : List ℕ} {counts : Counts} {x : Stage} (done : ℕ) → done < planes → PlanesDone planes work₀ x₀ done work counts x
-        → Holding z work counts × (planes - (done + 1) < most_planes) × Going z level_places x
-    planes_due done b l = (l.left.holding, omega (arith, l.few), going_fewer level_places (omega arith) l.left.going)
+    pub planes_due : {work : List ℕ} {counts : Counts} {x : Stage} (n : ℕ) → 0 < n → PlanesLeft planes work₀ x₀ n work counts x
+        → Holding z work counts × (n - 1 < most_planes) × Going z level_places x
+    planes_due n b l = (l.left.holding, omega (arith, l.few), going_fewer level_places (omega arith) l.left.going)
 
-    pub planes_turn : {work work' out' : List ℕ} {p : Progress} {counts : Counts} {x : Stage} (done : ℕ) → done < planes
-        → PlanesDone planes work₀ x₀ done work counts x
-        → Reached z (parts_of_plane (planes - (done + 1)) (levels z)) work x p work' out'
-        → PlanesDone planes work₀ x₀ (done + 1) work' p.counts (stage_of z work' p out')
+    pub planes_turn : {work work' out' : List ℕ} {p : Progress} {counts : Counts} {x : Stage} (n : ℕ) → 0 < n
+        → PlanesLeft planes work₀ x₀ n work counts x → Reached z (parts_of_plane (n - 1) (levels z)) work x p work' out'
+        → PlanesLeft planes work₀ x₀ (n - 1) work' p.counts (stage_of z work' p out')
     unfolding part_names
-    planes_turn {x = x} done b l r =
-        let n : ℕ = planes - (done + 1) in
-        let e : planes - done ≡ suc n = omega arith in
+    planes_turn {x = x} n b l r =
+        let below : ℕ = n - 1 in
+        let e : n ≡ suc below = omega arith in
         let h : _ = l.left.holding in
-        let g = going_plane h.pyramid z h.legal {m = level_places * n} n (levels z) (omega (arith, l.few)) (omega arith) x
-        (going_fewer (levels z + level_places * n) (omega (arith, (legal z h.legal).few)) l.left.going) in
+        let g = going_plane h.pyramid z h.legal {m = level_places * below} below (levels z) (omega (arith, l.few)) (omega arith) x
+        (going_fewer (levels z + level_places * below) (omega (arith, (legal z h.legal).few)) l.left.going) in
         record {
-          few = l.few;
-          left = left_less l.left (parts_of_plane n (levels z)) (part_names (levels z) n) (level_places * n) (ap (part_names (levels z)) e) g r;
+          few = omega (arith, l.few);
+          left =
+              left_less l.left (parts_of_plane below (levels z)) (part_names (levels z) below) (level_places * below) (ap (part_names (levels z)) e) g r;
         }
 
-    pub planes_end : {work out : List ℕ} {p : Progress} (done : ℕ) → planes ≤ done
-        → PlanesDone planes work₀ x₀ done work p.counts (stage_of z work p out)
+    pub planes_end : {work out : List ℕ} {p : Progress} (n : ℕ) → n ≤ 0 → PlanesLeft planes work₀ x₀ n work p.counts (stage_of z work p out)
         → Reached z (part_names (levels z) planes) work₀ x₀ p work out
     unfolding part_names
-    planes_end done b l =
-        let e : planes - done ≡ 0 = omega arith in left_none (part_names (levels z) (planes - done)) (ap (part_names (levels z)) e) l.left
+    planes_end n b l = let e : n ≡ 0 = omega arith in left_none (part_names (levels z) n) (ap (part_names (levels z)) e) l.left

@@ -1,18 +1,18 @@
 -- The stages of writing a record, and what each function of the coder makes of them: its contracts.
-use Rattle.std.specs.Prelude.{◌≡◌, List, [], ◌∷◌, Bool, true, cond, ℕ, ◌+◌, ◌*◌, ◌^◌, ◌≤◌, ◌<◌, leb, eqb, length, get_or, ℤ}
+use Rattle.std.specs.Prelude.{◌≡◌, List, [], ◌∷◌, Bool, true, cond, ℕ, ◌+◌, ◌*◌, ◌^◌, ◌≤◌, ◌<◌, leb, eqb, length, get_or, ℤ, ⊤, IfOk, Ok, Err}
+use Rattle.std.specs.Prelude.{Result as Returned}
 use Rattle.std.proofs.lemmas.List.Edits.{sets}
 use Rattle.rules.specs.declared.Size.{Size}
 use Rattle.rules.specs.declared.Plane.{Plane}
 use Rattle.rules.specs.declared.Level.{Level}
-use Rattle.rules.specs.declared.Coded.{Coded}
+use Rattle.rules.specs.declared.Refusal.{Refusal}
 use Rattle.rules.specs.declared.Refusal.TheVariants as refusal
-use Rattle.rules.specs.declared.Verdict.{Verdict}
-use Rattle.rules.specs.declared.Verdict.TheVariants.{Accepted, Refused}
 use Rattle.rules.specs.Document.Notation.{flat}
 use Rattle.rules.specs.Document.Pyramid.{legal_size, area, levels, most_magnitude, magnitude, negative, most_planes}
 use Rattle.rules.specs.Document.Passes.{Course, State, after, PartName, coded}
 use Rattle.rules.specs.Document.Layout.{part_bytes, coded_parts}
 use Rattle.rules.specs.Document.Calls.{Result, work_for, first_over, code_out, code_answer}
+use Rattle.rules.specs.Document.Answers.{as_coded}
 use Rattle.trees.specs.Family.{coefficient_of, trees}
 use Rattle.trees.specs.Sound.{TreeSound}
 use Rattle.stretches.specs.Workspace.{Holds}
@@ -22,21 +22,21 @@ use Rattle.parts.specs.Standing.{state_of, Marks}
 use Rattle.record.specs.Write.{place_most}
 use Rattle.coder.specs.declared.Progress.{Progress}
 
--- The outcome x of a call: what is answered and what is left in the output.
-pub record Answered (x : Result (List ℕ)) (out : List ℕ) (answer : Coded) (out' : List ℕ) : Type 0 where
-  pub answers : answer ≡ code_answer x
-  pub writes : out' ≡ code_out (length out) x
+-- The outcome x of a call before what was lent is cleared: what is answered, and what is left in the output where that is no refusal.
+pub record Answered (x : Result (List ℕ)) (out : List ℕ) (answer : Returned ℕ Refusal) (out' : List ℕ) : Type 0 where
+  pub answers : as_coded answer ≡ code_answer x
+  pub writes : IfOk answer (λ _. out' ≡ code_out (length out) x)
 
 -- What the input alone is refused for, in document 01's order: 1, 2, 3, 4.
-unfoldable pub judged_input : List ℤ → Size → ℕ → Verdict
+unfoldable pub judged_input : List ℤ → Size → ℕ → Returned ⊤ Refusal
 judged_input pyramid z work =
     cond (legal_size z)
     (cond (eqb (length pyramid) (area z))
     (cond (leb (work_for z) work)
-    (cond (eqb (first_over most_magnitude pyramid) (length pyramid)) Accepted (Refused (refusal.Range (first_over most_magnitude pyramid))))
-    (Refused refusal.Work))
-    (Refused refusal.Length))
-    (Refused refusal.Size)
+    (cond (eqb (first_over most_magnitude pyramid) (length pyramid)) (Ok tt) (Err (refusal.Range (first_over most_magnitude pyramid))))
+    (Err refusal.Work))
+    (Err refusal.Length))
+    (Err refusal.Size)
 
 -- an input that is in order
 pub record Given (pyramid : List ℤ) (z : Size) (work : List ℕ) : Type 0 where

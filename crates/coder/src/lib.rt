@@ -7,7 +7,8 @@ ghost use Rattle.rules.specs.Document.Notation.{greatest, zeros};
 ghost use Rattle.rules.specs.Document.Pyramid.{levels, most_planes, planes_of};
 ghost use Rattle.rules.specs.Document.Passes.{parts_of_plane, part_names};
 ghost use Rattle.rules.specs.Document.Layout.{record_of};
-ghost use Rattle.rules.specs.Document.Calls.{level_places, refused, fitted, coding, Coding};
+ghost use Rattle.rules.specs.Document.Calls.{level_places, fitted, coding, Coding};
+ghost use Rattle.rules.specs.Document.Answers.{as_coded};
 ghost use Rattle.trees.specs.Run.{tree_start};
 ghost use Rattle.parts.specs.Standing.{named};
 ghost use Rattle.coder.specs.Writing.{Answered, judged_input, Given, Holding, header_most};
@@ -17,7 +18,7 @@ use bits::BitPosition;
 use lists::Role;
 use parts::Counts;
 use record::write;
-use rules::{Coded, Level, Plane, Refusal, Size, Verdict};
+use rules::{Level, Plane, Refusal, Size};
 
 const MOST_MAGNITUDE: u32 = 65535;
 
@@ -28,36 +29,25 @@ struct Progress {
     place: usize,
 }
 
-// Refused: output all 0.
-fn refuse(refusal: Refusal, out: &mut [u8]) -> Coded
-    ensures { Answered (refused refusal) out.old result out.new }
-{
-    memory::zero_u8(out);
-    Coded {
-        verdict: Verdict::Refused(refusal),
-        length: 0,
-    }
-}
-
 // What the input alone is refused for: 1, 2, 3, 4 in this order.
-fn judged(pyramid: &[i32], z: Size, work: usize) -> Verdict
+#[tactic(auto, unfolding(crate::specs::Writing::judged_input))]
+fn judged(pyramid: &[i32], z: Size, work: usize) -> Result<(), Refusal>
     ensures { result ≡ judged_input pyramid.now z work }
 {
     if !shape::legal_size(z) {
-        return Verdict::Refused(Refusal::Size);
+        return Err(Refusal::Size);
     }
-    let area = z.w * z.h;
-    if pyramid.len() != area {
-        return Verdict::Refused(Refusal::Length);
+    if pyramid.len() != z.w * z.h {
+        return Err(Refusal::Length);
     }
     if work < shape::work_for(z) {
-        return Verdict::Refused(Refusal::Work);
+        return Err(Refusal::Work);
     }
     let over = coefficients::first_over(pyramid, MOST_MAGNITUDE);
     if over != pyramid.len() {
-        return Verdict::Refused(Refusal::Range(over));
+        return Err(Refusal::Range(over));
     }
-    Verdict::Accepted
+    Ok(())
 }
 
 fn planes_in(pyramid: &[i32]) -> usize
@@ -79,24 +69,20 @@ fn write_part(
     ensures { Reached z (named plane level ∷ []) work.old (stage_of z work.old progress out.old)
         result work.new out.new }
 {
-    let place = progress.place;
-    let counts = progress.counts;
-    let start = 8 * (place + write::SHORT_HEAD);
+    let start = 8 * (progress.place + write::SHORT_HEAD);
     let passed = parts::code_part(
         z,
         plane,
         level,
         work,
-        counts,
+        progress.counts,
         out,
         BitPosition { at: start },
     );
-    let end = passed.at.at;
-    let next = write::put_head(out, place, plane, level, end - start);
-    let counts = passed.counts;
+    let place = write::put_head(out, progress.place, plane, level, passed.at.at - start);
     Progress {
-        counts,
-        place: next,
+        counts: passed.counts,
+        place,
     }
 }
 
@@ -113,10 +99,8 @@ fn write_plane(
         result work.new out.new }
 {
     let mut reached = progress;
-    let mut left = z.n + 1;
-    while 0 < left {
-        reached = write_part(z, plane, Level(left), out, work, reached);
-        left -= 1;
+    for level in (1..=z.n + 1).rev() {
+        reached = write_part(z, plane, Level(level), out, work, reached);
     }
     reached
 }
@@ -134,11 +118,8 @@ fn write_planes(
         result work.new out.new }
 {
     let mut reached = progress;
-    let mut done = 0;
-    while done < planes {
-        done += 1;
-        let n = planes - done;
-        reached = write_plane(z, Plane(n), out, work, reached);
+    for plane in (0..planes).rev() {
+        reached = write_plane(z, Plane(plane), out, work, reached);
     }
     reached
 }
@@ -158,8 +139,7 @@ fn write_parts(
     placing::copy_in(pyramid, z, work);
     largest::fill(z, work);
     let counts = parts::start(Role::Codes, z, work);
-    let end = write_planes(z, planes, out, work, Progress { counts, place });
-    end.place
+    write_planes(z, planes, out, work, Progress { counts, place }).place
 }
 
 // The whole record of an input that is in order, as much of it as there is room for. Answers its length.
@@ -167,44 +147,46 @@ fn write_record(pyramid: &[i32], z: Size, out: &mut [u8], work: &mut [u32]) -> u
     requires { Given pyramid.now z work.old }
     ensures { Stored (zeros (length out.old)) 0 (record_of z pyramid.now) result out.new }
 {
-    memory::zero_u8(out);
+    memory::zero(out);
     let planes = planes_in(pyramid);
     let place = write::header(z, planes, out);
     write_parts(pyramid, z, planes, out, work, place)
 }
 
 // Coding an input that is in order: only room can be wanting.
-fn code_fitted(pyramid: &[i32], z: Size, out: &mut [u8], work: &mut [u32]) -> Coded
+fn code_fitted(pyramid: &[i32], z: Size, out: &mut [u8], work: &mut [u32]) -> Result<usize, Refusal>
     requires { Given pyramid.now z work.old }
     ensures { Answered (fitted (record_of z pyramid.now) (length out.old)) out.old result out.new }
 {
     let length = write_record(pyramid, z, out, work);
     if out.len() < length {
-        return refuse(Refusal::Room, out);
+        return Err(Refusal::Room);
     }
-    Coded {
-        verdict: Verdict::Accepted,
-        length,
-    }
+    Ok(length)
 }
 
-// The outcome, with the workspace as the passes leave it.
-fn code_or_refuse(pyramid: &[i32], z: Size, out: &mut [u8], work: &mut [u32]) -> Coded
+// The outcome, with the workspace as the passes leave it, and on a refusal the output too.
+fn code_or_refuse(
+    pyramid: &[i32],
+    z: Size,
+    out: &mut [u8],
+    work: &mut [u32],
+) -> Result<usize, Refusal>
     ensures { Answered (coding pyramid.now z (length out.old) (length work.old))
         out.old result out.new }
 {
-    let verdict = judged(pyramid, z, work.len());
-    match verdict {
-        Verdict::Accepted => code_fitted(pyramid, z, out, work),
-        Verdict::Refused(refusal) => refuse(refusal, out),
-    }
+    judged(pyramid, z, work.len())?;
+    code_fitted(pyramid, z, out, work)
 }
 
-// Workspace: all 0 after every call.
-pub fn code(pyramid: &[i32], z: Size, out: &mut [u8], work: &mut [u32]) -> Coded
-    ensures { Coding pyramid.now z out.old work.old result out.new work.new }
+// Workspace: all 0 after every call. Refused: output all 0.
+pub fn code(pyramid: &[i32], z: Size, out: &mut [u8], work: &mut [u32]) -> Result<usize, Refusal>
+    ensures { Coding pyramid.now z out.old work.old (as_coded result) out.new work.new }
 {
-    let answer = code_or_refuse(pyramid, z, out, work);
-    memory::zero_u32(work);
-    answer
+    let coded = code_or_refuse(pyramid, z, out, work);
+    if coded.is_err() {
+        memory::zero(out);
+    }
+    memory::zero(work);
+    coded
 }

@@ -1,7 +1,7 @@
 // Leaves over document 01's pyramid, what its coefficients are: sign and magnitude, as a value and as a word; the largest of them, the count of planes.
 #![tactic(auto)]
 
-ghost use Rattle.std.specs.Prelude.{◌≡◌, cond, ◌+◌, ◌*◌, ◌^◌, ◌<◌, max, get_or, pos, nat_abs};
+ghost use Rattle.std.specs.Prelude.{◌≡◌, cond, ◌+◌, ◌*◌, ◌^◌, ◌<◌, get_or, pos, nat_abs};
 ghost use Rattle.rules.specs.Document.Notation.{greatest};
 ghost use Rattle.rules.specs.Document.Pyramid.{planes_of};
 ghost use Rattle.rules.specs.Document.Passes.{signed};
@@ -78,13 +78,6 @@ pub fn first_over(pyramid: &[i32], most: u32) -> usize
         .iter()
         .position(|v| most < v.unsigned_abs())
         .unwrap_or(pyramid.len())
-}
-
-// `u32::max`, under the name that crate largest calls.
-pub fn larger(a: u32, b: u32) -> u32
-    ensures { result ≡ max a b }
-{
-    a.max(b)
 }
 
 pub fn largest_magnitude(pyramid: &[i32]) -> u32

@@ -1,17 +1,18 @@
+use Rattle.std.specs.Prelude.{Ok, Err}
 -- From the walk in tree order to document 01's: it stops at the same part, or its pyramid is what was drawn, laid out.
 use mathlib.Core.Path.{◌≡◌, refl, ap, ap₂, sym, ◌∙◌, subst}
 use mathlib.Core.List.{List, [], ◌∷◌, ◌++◌, map}
 use Prim.Native.Nat.{ℕ, ◌<◌}
 use native.Mathlib.Omega.{arith}
 use native.Mathlib.Decide.{dec_lt}
-use lib.ListN.{length, get_or, replicate}
+use lib.ListN.{length, replicate}
 use lib.IntN.{ℤ, pos}
 use lib.Seq.{ext_get_or}
 use Rattle.rules.specs.declared.Size.{Size}
 use Rattle.rules.specs.declared.Header.{Header}
 use Rattle.rules.specs.declared.Part.{Part}
-use Rattle.rules.specs.declared.PartRead.{PartRead}
-use Rattle.rules.specs.declared.PartRead.TheVariants as part
+use Rattle.rules.specs.Document.Numbers.{PartRead}
+use Rattle.rules.specs.declared.Piece.TheVariants as part
 use Rattle.rules.specs.Document.Pyramid.{area}
 use Rattle.rules.specs.Document.Passes.{State, start, from}
 use Rattle.rules.specs.Document.Calls.{Progress, going, unfit, decode_parts, tail_onward}
@@ -26,11 +27,7 @@ use Rattle.trees.specs.Decoding.{Laid, Same, onward_of, decode_parts_of, tail_on
 use Rattle.trees.proofs.Decoding.{laid_out, decoded_trees}
 use Rattle.coefficients.specs.Words.{value_of, value_zero}
 use Rattle.stretches.specs.Workspace.{word_in, drawn_in, drawn_length}
-use Rattle.decoder.specs.Walking.{names, begin, walked, tail_walked}
-
--- The values drawn stand row by row.
-abbrev pub LaysOut : Size → List ℕ → List ℤ → Type 0
-LaysOut z work out = (q : ℕ) → q < area z → get_or out q (pos 0) ≡ get_or (drawn_in z work) (number_of z q) (pos 0)
+use Rattle.decoder.specs.Walking.{LaysOut, names, begin, walked, tail_walked}
 
 -- What is drawn: a value for each coefficient, all 0 at first.
 blanks : (f : ℕ → ℤ) (xs : List ℕ) → All (λ x. f x ≡ pos 0) xs → map f xs ≡ replicate (length xs) (pos 0)
@@ -80,10 +77,10 @@ module _ (h : Header) (s : List ℕ) where
   -- what is behind the parts, x, can't be used any more
   pub tail_unfit : (x : PartRead) (at : ℕ) → tail_walked h s x (unfit at) ≡ unfit at
   unfolding tail_onward_of
-  tail_unfit (part.Part p) at = refl
-  tail_unfit (part.Cut p) at = refl
-  tail_unfit part.Tail at = refl
-  tail_unfit (part.Refused r) at = refl
+  tail_unfit (Ok (part.Part p)) at = refl
+  tail_unfit (Ok (part.Cut p)) at = refl
+  tail_unfit (Ok part.Tail) at = refl
+  tail_unfit (Err r) at = refl
 
   module _ (Z : Legal h.size) (ps : List Part) (x : PartRead) where
     abbrev defined : Progress

@@ -1,3 +1,5 @@
+use Rattle.std.specs.Prelude.{Ok, Err}
+use Rattle.std.specs.Prelude.{Result as Returned}
 -- What becomes of a part, by any lists that agree, and what the definition's walk in tree order makes of it.
 use mathlib.Core.Path.{◌≡◌, refl, subst}
 use mathlib.Core.List.{List, [], ◌∷◌, ◌++◌}
@@ -11,9 +13,7 @@ use Rattle.rules.specs.declared.Refusal.{Refusal}
 use Rattle.rules.specs.declared.Refusal.TheVariants as refusal
 use Rattle.rules.specs.declared.Header.{Header}
 use Rattle.rules.specs.declared.Part.{Part}
-use Rattle.rules.specs.declared.PartRead.TheVariants as part
-use Rattle.decoder.specs.declared.Found.TheVariants as found
-use Rattle.decoder.specs.declared.Turn.{Turn}
+use Rattle.rules.specs.declared.Piece.TheVariants as part
 use Rattle.decoder.specs.declared.Walk.{Walk}
 use Rattle.rules.specs.Document.Numbers.{top_level}
 use Rattle.rules.specs.Document.Passes.{PartName, State, Course, Reader, after}
@@ -25,11 +25,11 @@ use Rattle.trees.specs.Family.{trees}
 use Rattle.trees.specs.Decoding.{onward_of, tail_onward_of}
 use Rattle.parts.specs.Standing.{Agree, agree_same}
 use Rattle.reached.specs.Planes.{reached_at}
-use Rattle.decoder.specs.Walking.{Outcome, Cut, fitting, gone, cut_gone, one_part_more, course_on, used_on, met_on, cut_on, Taken, Ended}
+use Rattle.decoder.specs.Walking.{Outcome, Cut, fitting, gone, cut_gone, one_part_more, course_on, used_on, met_on, cut_on, Found, Taken, Ended}
 
 -- What was taken by the lists of the workspace was taken by the definition's, which are the same.
 pub taken_alike : (bytes : List ℕ) (z : Size) (p : Part) (reached : List Plane) (skipped : List ℕ) (s t : State) (v : List ℤ) → Agree s t
-    → (work : List ℕ) (r : Turn) (work' : List ℕ)
+    → (work : List ℕ) (r : Returned Walk Refusal) (work' : List ℕ)
     → Taken z p (met_on bytes z p reached skipped s v) work r work' → Taken z p (met_on bytes z p reached skipped t v) work r work'
 taken_alike bytes z p reached skipped s t v a work r work' h =
     subst (λ (x : State). Taken z p (met_on bytes z p reached skipped x v) work r work') (agree_same a) h
@@ -42,15 +42,15 @@ module _ (h : Header) (s : List ℕ) (there : List PartName) (p : Part) (reached
   c = course_on s h.size p t v
 
   over : Outcome
-  over = record { found = found.Part; lists = t; drawn = v; reached = reached; skipped = one_part_more p skipped }
+  over = record { found = Ok tt; lists = t; drawn = v; reached = reached; skipped = one_part_more p skipped }
 
   abbrev on_part : Progress
   on_part = onward_of (trees h.size) h s there p (going t v)
 
   -- what the definition makes of what was found
   data Comes (o : Outcome) : Progress → Type 0 where
-    on : o.found ≡ found.Part → Comes o (going o.lists o.drawn)
-    stops : o.found ≡ found.Refused (refusal.Fit p.place) → Comes o (unfit p.place)
+    on : o.found ≡ Ok tt → Comes o (going o.lists o.drawn)
+    stops : o.found ≡ Err (refusal.Fit p.place) → Comes o (unfit p.place)
 
   used_comes : (b : Bool) → eqb c.side.taken p.bits ≡ b
       → Comes (gone p reached skipped t c) (cond b (going (after p.level.0 c t) c.side.pyramid) (unfit p.place))
@@ -70,29 +70,26 @@ module _ (h : Header) (s : List ℕ) (there : List PartName) (p : Part) (reached
   unfolding onward_of met_on used_on c over
   onward_comes = rw test (met_comes (usable_now (reached_at reached) (name_of p)))
 
-  by_found : {X : Type 0} → (met.found ≡ found.Part → on_part ≡ going met.lists met.drawn → X)
-      → (met.found ≡ found.Refused (refusal.Fit p.place) → on_part ≡ unfit p.place → X) → X
+  by_found : {X : Type 0} → (met.found ≡ Ok tt → on_part ≡ going met.lists met.drawn → X)
+      → (met.found ≡ Err (refusal.Fit p.place) → on_part ≡ unfit p.place → X) → X
   by_found {X} goes ends = cases on_part onward_comes refl
     where
       cases : (g : Progress) → Comes met g → on_part ≡ g → X
       cases g (on i) e = goes i e
       cases g (stops i) e = ends i e
 
-  pub met_part_lem : met.found ≡ found.Part → on_part ≡ going met.lists met.drawn
+  pub met_part_lem : met.found ≡ Ok tt → on_part ≡ going met.lists met.drawn
   met_part_lem e = by_found (λ i g. g) (λ i g. clash (cc))
 
-  pub met_refused : (f : Refusal) → met.found ≡ found.Refused f → (on_part ≡ unfit p.place) × (f ≡ refusal.Fit p.place)
+  pub met_refused : (f : Refusal) → met.found ≡ Err f → (on_part ≡ unfit p.place) × (f ≡ refusal.Fit p.place)
   met_refused f e = by_found (λ i g. clash (cc)) (λ i g. (g, cc))
-
-  pub met_no_tail : met.found ≡ found.Tail → ⊥
-  met_no_tail e = by_found (λ i g. clash (cc)) (λ i g. clash (cc))
 
 -- A part that is cut, likewise: drawn as far as its bits go, or refused.
 pub ended_alike : (bytes : List ℕ) (z : Size) (p : Part) (reached : List Plane) (s t : State) (v : List ℤ) → Agree s t
-    → (w : Walk) (work : List ℕ) (r : Turn) (work' : List ℕ)
-    → Ended z (cut_on bytes z p reached s v) w work r work' → Ended z (cut_on bytes z p reached t v) w work r work'
-ended_alike bytes z p reached s t v a w work r work' h =
-    subst (λ (x : State). Ended z (cut_on bytes z p reached x v) w work r work') (agree_same a) h
+    → (work : List ℕ) (r : Found) (work' : List ℕ)
+    → Ended z (cut_on bytes z p reached s v) work r work' → Ended z (cut_on bytes z p reached t v) work r work'
+ended_alike bytes z p reached s t v a work r work' h =
+    subst (λ (x : State). Ended z (cut_on bytes z p reached x v) work r work') (agree_same a) h
 
 -- a walk that goes on with values v
 pub record Goes (v : List ℤ) (g : Progress) : Type 0 where
@@ -105,11 +102,11 @@ module _ (h : Header) (s : List ℕ) (there : List PartName) (p : Part) (reached
   d = course_on s h.size p t v
 
   abbrev on_tail : Progress
-  on_tail = tail_onward_of (trees h.size) h s there (part.Cut p) (going t v)
+  on_tail = tail_onward_of (trees h.size) h s there (Ok (part.Cut p)) (going t v)
 
   data Ends (o : Cut) : Progress → Type 0 where
-    shows : (l : State) → o.found ≡ found.Tail → Ends o (going l o.drawn)
-    misfits : o.found ≡ found.Refused (refusal.Fit p.place) → Ends o (unfit p.place)
+    shows : (l : State) → o.found ≡ Ok tt → Ends o (going l o.drawn)
+    misfits : o.found ≡ Err (refusal.Fit p.place) → Ends o (unfit p.place)
 
   drawn_ends : (b : Bool) → leb (bits_there s p) d.side.taken ≡ b
       → Ends (cut_gone s p d) (cond b (going (after p.level.0 d t) d.side.pyramid) (unfit p.place))
@@ -117,7 +114,7 @@ module _ (h : Header) (s : List ℕ) (there : List PartName) (p : Part) (reached
   drawn_ends true e = shows _ (rw e)
   drawn_ends false e = misfits (rw e)
 
-  cut_ends : (b : Bool) → Ends (cond b (cut_gone s p d) (record { found = found.Tail; drawn = v })) (cond b (used_cut h s there p t d) (going t v))
+  cut_ends : (b : Bool) → Ends (cond b (cut_gone s p d) (record { found = Ok tt; drawn = v })) (cond b (used_cut h s there p t d) (going t v))
   unfolding used_cut
   cut_ends true = drawn_ends (leb (bits_there s p) d.side.taken) refl
   cut_ends false = shows t refl
@@ -129,19 +126,16 @@ module _ (h : Header) (s : List ℕ) (there : List PartName) (p : Part) (reached
   unfolding tail_onward_of cut_on d
   tail_ends = rw test (cut_ends (usable_now (reached_at reached) (name_of p)))
 
-  by_end : {X : Type 0} → ((l : State) → cut.found ≡ found.Tail → on_tail ≡ going l cut.drawn → X)
-      → (cut.found ≡ found.Refused (refusal.Fit p.place) → on_tail ≡ unfit p.place → X) → X
+  by_end : {X : Type 0} → ((l : State) → cut.found ≡ Ok tt → on_tail ≡ going l cut.drawn → X)
+      → (cut.found ≡ Err (refusal.Fit p.place) → on_tail ≡ unfit p.place → X) → X
   by_end {X} goes ends = cases on_tail tail_ends refl
     where
       cases : (g : Progress) → Ends cut g → on_tail ≡ g → X
       cases g (shows l i) e = goes l i e
       cases g (misfits i) e = ends i e
 
-  pub cut_tail : cut.found ≡ found.Tail → Goes cut.drawn on_tail
+  pub cut_tail : cut.found ≡ Ok tt → Goes cut.drawn on_tail
   cut_tail e = by_end (λ l i g. record { lists = l; goes = g }) (λ i g. clash (cc))
 
-  pub cut_refused : (f : Refusal) → cut.found ≡ found.Refused f → (on_tail ≡ unfit p.place) × (f ≡ refusal.Fit p.place)
+  pub cut_refused : (f : Refusal) → cut.found ≡ Err f → (on_tail ≡ unfit p.place) × (f ≡ refusal.Fit p.place)
   cut_refused f e = by_end (λ l i g. clash (cc)) (λ i g. (g, cc))
-
-  pub cut_no_part : cut.found ≡ found.Part → ⊥
-  cut_no_part e = by_end (λ l i g. clash (cc)) (λ i g. clash (cc))

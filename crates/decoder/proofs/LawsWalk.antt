@@ -1,3 +1,5 @@
+use Rattle.std.specs.Prelude.{Some, None, Ok, Err}
+use Rattle.std.specs.Prelude.{Result as Returned}
 -- The walk over all parts of a record: the lists and the values drawn are what the parts that came by make of those at the start.
 use mathlib.Core.Path.{◌≡◌, refl, ap, ap₂, sym, ◌∙◌, subst}
 use mathlib.Core.List.{List, [], ◌∷◌, ◌++◌, map, append_assoc, map-append}
@@ -5,27 +7,22 @@ use mathlib.Core.Bool.{Bool, true, false, cond}
 use Prim.Native.Nat.{ℕ, ◌-◌, ◌≤◌, ◌<◌, ◌^◌}
 use native.Mathlib.Omega.{arith}
 use native.Mathlib.Decide.{dec_le}
-use lib.ListN.{length, set, replicate, length-replicate, length-append, length-map}
+use lib.ListN.{length, set, length-append, length-map}
 use lib.IntN.{ℤ}
 use Rattle.rules.specs.declared.Plane.{Plane}
 use Rattle.rules.specs.declared.Refusal.{Refusal}
 use Rattle.rules.specs.declared.Refusal.TheVariants as refusal
 use Rattle.rules.specs.declared.Header.{Header}
 use Rattle.rules.specs.declared.Part.{Part}
-use Rattle.rules.specs.declared.PartRead.{PartRead}
-use Rattle.rules.specs.declared.PartRead.TheVariants as part
-use Rattle.rules.specs.declared.Decoded.{Decoded}
+use Rattle.rules.specs.Document.Numbers.{PartRead}
+use Rattle.rules.specs.declared.Piece.TheVariants as part
 use Rattle.decoder.specs.declared.Walk.{Walk}
-use Rattle.decoder.specs.declared.Found.TheVariants as found
-use Rattle.decoder.specs.declared.Turn.{Turn}
 use Rattle.rules.specs.Document.Pyramid.{area}
 use Rattle.rules.specs.Document.Passes.{PartName, State}
 use Rattle.rules.specs.Document.Layout.{name_of, usable, reached}
 use Rattle.rules.specs.Document.Numbers.{tail, fault, Reading, read_parts, behind, top_level}
-use Rattle.rules.specs.Document.Notation.{zeros}
-use Rattle.rules.specs.Document.Calls.{level_places, Result, refused, accepted, Progress, going, unfit, on_ending, Picture}
+use Rattle.rules.specs.Document.Calls.{level_places, refused, accepted, Progress, going, unfit, on_ending}
 use Rattle.rules.specs.Document.Calls.{reached_planes, skipped_counts, count_in, pictured, decoded_parts}
-use Rattle.rules.proofs.Laws.Counting.Booleans.{clash}
 use Rattle.rules.proofs.Laws.Family.Sizes.{legal}
 use Rattle.rules.specs.Laws.Reading.Parts.{After}
 use Rattle.rules.proofs.Laws.Reading.Parts.{follows_after}
@@ -47,21 +44,17 @@ use Rattle.trees.specs.Decoding.{onward_of, decode_parts_of, tail_onward_of}
 use Rattle.trees.specs.Sound.{TreeSound, TreeProgress}
 use Rattle.trees.proofs.Sound.{tree_start_sound, tree_onward_sound}
 use Rattle.stretches.specs.Workspace.{word_in, drawn_in}
-use Rattle.placing.specs.Placing.{Roomy, LaidOut, Cleared}
+use Rattle.placing.specs.Placing.{Roomy, Cleared}
 use Rattle.parts.specs.Standing.{state_of, agree_same}
-use Rattle.decoder.specs.Walking.{Outcome, gone, one_part_more, used_on, met_on, cut_on, met_part, met_cut, Taken, Ended, Standing, Still, Turned, Begun}
-use Rattle.decoder.specs.Walking.{Lent, Walking, Answered, Refusing, Accepting}
+use Rattle.decoder.specs.Walking.{Found, Outcome, gone, one_part_more, used_on, met_on, cut_on, met_part, met_cut, Taken, Ended, Standing, Turned, Begun}
+use Rattle.decoder.specs.Walking.{past_part, at_cut, at_tail, unfit_part, unfit_cut, unread}
+use Rattle.decoder.specs.Walking.{Lent, Walking, at_end, LaysOut, Complete}
 use Rattle.decoder.specs.Walking.{order, names, begin, walked, tail_walked}
 use Rattle.reached.specs.Skips.{skipped_by, skipped_by_none, skipped_by_all, skipped_by_most, skipped_by_used, skipped_by_over}
 use Rattle.reached.specs.Planes.{reached_at, usable_now_same, size_levels, six_planes, reached_at_planes, reached_planes_used, reached_planes_over}
 use Rattle.decoder.proofs.LawsPart.{words_more}
-use Rattle.decoder.proofs.LawsAnswer.{answered_refused, answered_accepted}
-use Rattle.decoder.proofs.LawsLaid.{LaysOut, drawn_blank, walked_append, walked_unfit, tail_unfit, Defined, defined_unfit, defined_going, defined_out}
-use Rattle.decoder.proofs.LawsOutcome.{taken_alike, met_part_lem, met_refused, met_no_tail, ended_alike, Goes, cut_tail, cut_refused, cut_no_part}
-
--- what is accepted where no part is left
-abbrev at_end : List ℕ → List ℤ → Walk → Result Picture
-at_end s out w = accepted (record { pyramid = out; tail = length s - w.cursor.place; reached = w.reached; skipped = w.skipped })
+use Rattle.decoder.proofs.LawsLaid.{drawn_blank, walked_append, walked_unfit, tail_unfit, Defined, defined_unfit, defined_going, defined_out}
+use Rattle.decoder.proofs.LawsOutcome.{taken_alike, met_part_lem, met_refused, ended_alike, Goes, cut_tail, cut_refused}
 
 -- What a header that was read says of the memory lent.
 module _ (h : Header) (s : List ℕ) (out : List ℤ) (work : List ℕ) (l : Lent h s out work) where
@@ -96,12 +89,6 @@ module _ (h : Header) (s : List ℕ) (out : List ℤ) (work : List ℕ) (l : Len
                   proper = λ x i e. omega (arith, none x i);
                 };
           }
-
-      -- What is answered for the workspace as the walk begins is answered for it as it was lent.
-      pub begun_answered : (x : Result Picture) (answer : Decoded) (out' : List ℤ) (work' : List ℕ)
-          → Answered x out opened answer out' work' → Answered x out work answer out' work'
-      begun_answered x answer out' work' t =
-          record { answers = t.answers; writes = t.writes; clears = t.clears ∙ ap zeros (b.same ∙ c.same) }
 
 module _ (h : Header) (s : List ℕ) (w : Walk) (work : List ℕ) (W : Walking h s w work) where
   whole_header : HeaderStands s h
@@ -159,21 +146,21 @@ module _ (h : Header) (s : List ℕ) (w : Walk) (work : List ℕ) (W : Walking h
         let g = defined_unfit h s sized W.seen x at (ap (tail_walked h s x) W.decodes ∙ e) in
         rw (all, behind-seen, rw all at g)
 
-  walking_tail : next_of h s w.cursor ≡ part.Tail → (out : List ℤ) → length out ≡ area h.size
+  walking_tail : next_of h s w.cursor ≡ Ok part.Tail → (out : List ℤ) → length out ≡ area h.size
       → LaysOut h.size work out → decoded_parts h s (read_parts h s) ≡ at_end s out w
   unfolding tail_onward_of
   walking_tail e out n lays =
-      walking_ended part.Tail (stands_behind h s w.cursor part.Tail (sym e) W.seen W.stands)
-      (stands_tail h s w.cursor part.Tail (sym e) W.seen W.stands refl) W.lists work refl out n lays
+      walking_ended (Ok part.Tail) (stands_behind h s w.cursor (Ok part.Tail) (sym e) W.seen W.stands)
+      (stands_tail h s w.cursor (Ok part.Tail) (sym e) W.seen W.stands refl) W.lists work refl out n lays
 
-  fault_defined : (v : Refusal) → Defined h s sized W.seen (part.Refused v) work
+  fault_defined : (v : Refusal) → Defined h s sized W.seen (Err v) work
   unfolding tail_onward_of
-  fault_defined v = defined_going h s sized W.seen (part.Refused v) W.lists work W.decodes
+  fault_defined v = defined_going h s sized W.seen (Err v) W.lists work W.decodes
 
-  walking_fault : (v : Refusal) → next_of h s w.cursor ≡ part.Refused v → decoded_parts h s (read_parts h s) ≡ refused v
+  walking_fault : (v : Refusal) → next_of h s w.cursor ≡ Err v → decoded_parts h s (read_parts h s) ≡ refused v
   unfolding decoded_parts pictured on_ending tail_onward_of
   walking_fault v e =
-      let x : PartRead = part.Refused v in
+      let x : PartRead = Err v in
       let all : read_parts h s ≡ record { parts = W.seen; ending = fault v } = stands_fault h s w.cursor x (sym e) W.seen W.stands v refl in
       let b : behind h s W.seen ≡ x = stands_behind h s w.cursor x (sym e) W.seen W.stands in
       let g = (fault_defined v).goes in
@@ -196,15 +183,15 @@ module _ (h : Header) (s : List ℕ) (w : Walk) (work : List ℕ) (W : Walking h
   all_whole ps e = subst (WholeParts h s first h.end) e (parts_whole (length s) h s first h.end)
 
   -- A part that is cut, p: no whole part is left.
-  module _ (p : Part) (e : next_of h s w.cursor ≡ part.Cut p) where
+  module _ (p : Part) (e : next_of h s w.cursor ≡ Ok (part.Cut p)) where
     cut_stands : CutStands h s (named w.cursor.before) w.cursor.place p
-    cut_stands = next_cut h s w.cursor (part.Cut p) (sym e) p refl
+    cut_stands = next_cut h s w.cursor (Ok (part.Cut p)) (sym e) p refl
 
-    cut_behind : behind h s W.seen ≡ part.Cut p
-    cut_behind = stands_behind h s w.cursor (part.Cut p) (sym e) W.seen W.stands
+    cut_behind : behind h s W.seen ≡ Ok (part.Cut p)
+    cut_behind = stands_behind h s w.cursor (Ok (part.Cut p)) (sym e) W.seen W.stands
 
     cut_all : read_parts h s ≡ record { parts = W.seen; ending = tail (length s - w.cursor.place) }
-    cut_all = stands_cut h s w.cursor (part.Cut p) (sym e) W.seen W.stands p refl
+    cut_all = stands_cut h s w.cursor (Ok (part.Cut p)) (sym e) W.seen W.stands p refl
 
     cut_test : usable (top_level h) h.planes (names h s ++ (name_of p ∷ [])) (name_of p) ≡ usable_now (reached_at w.reached) (name_of p)
     unfolding R
@@ -213,37 +200,33 @@ module _ (h : Header) (s : List ℕ) (w : Walk) (work : List ℕ) (W : Walking h
         ∙ usable_cut h s first h.end W.seen p (all_whole W.seen (ap (λ (x : Reading). x.parts) cut_all)) cut_behind
         ∙ usable_now_same R (reached_at w.reached) (name_of p) cut_stands.legal.named.from1 R-held
 
-    module _ (r : Turn) (work' : List ℕ) (T : Ended h.size (met_cut s h.size p w work) w work r work') where
-      met_cut_lem : Ended h.size (cut_on s h.size p w.reached W.lists (drawn_in h.size work)) w work r work'
+    module _ (r : Found) (work' : List ℕ) (T : Ended h.size (met_cut s h.size p w work) work r work') where
+      met_cut_lem : Ended h.size (cut_on s h.size p w.reached W.lists (drawn_in h.size work)) work r work'
       unfolding name_of
       met_cut_lem =
-          ended_alike s h.size p w.reached (state_of h.size work w.counts) W.lists (drawn_in h.size work) W.agrees w work r work' T
+          ended_alike s h.size p w.reached (state_of h.size work w.counts) W.lists (drawn_in h.size work) W.agrees work r work' T
 
-      walking_cut : r.found ≡ found.Tail → (out : List ℤ) → length out ≡ area h.size → LaysOut h.size work' out
+      walking_cut : r ≡ Ok tt → (out : List ℤ) → length out ≡ area h.size → LaysOut h.size work' out
           → decoded_parts h s (read_parts h s) ≡ at_end s out w
       walking_cut f out n lays =
           let g : Goes _ _ = cut_tail h s (names h s) p w.reached W.lists (drawn_in h.size work) cut_test (sym met_cut_lem.finds ∙ f) in
-          walking_ended (part.Cut p) cut_behind cut_all g.lists work' (g.goes ∙ ap (going g.lists) (sym met_cut_lem.draws)) out n lays
+          walking_ended (Ok (part.Cut p)) cut_behind cut_all g.lists work' (g.goes ∙ ap (going g.lists) (sym met_cut_lem.draws)) out n lays
 
-      walking_cut_unfit : (v : Refusal) → r.found ≡ found.Refused v → decoded_parts h s (read_parts h s) ≡ refused v
+      walking_cut_unfit : (v : Refusal) → r ≡ Err v → decoded_parts h s (read_parts h s) ≡ refused v
       walking_cut_unfit v f =
           let m = cut_refused h s (names h s) p w.reached W.lists (drawn_in h.size work) cut_test v (sym met_cut_lem.finds ∙ f) in
-          walking_misfit (part.Cut p) cut_behind cut_all p.place m.0 ∙ ap refused (sym m.1)
-
-      walking_cut_ends : r.found ≡ found.Part → ⊥
-      walking_cut_ends f =
-          cut_no_part h s (names h s) p w.reached W.lists (drawn_in h.size work) cut_test (sym met_cut_lem.finds ∙ f)
+          walking_misfit (Ok (part.Cut p)) cut_behind cut_all p.place m.0 ∙ ap refused (sym m.1)
 
   -- The next part, p.
-  module _ (p : Part) (e : next_of h s w.cursor ≡ part.Part p) where
+  module _ (p : Part) (e : next_of h s w.cursor ≡ Ok (part.Part p)) where
     whole : PartStands h s (named w.cursor.before) w.cursor.place p
-    whole = next_stands h s w.cursor (part.Part p) (sym e) p refl
+    whole = next_stands h s w.cursor (Ok (part.Part p)) (sym e) p refl
 
     abbrev came : List Part
     came = W.seen ++ (p ∷ [])
 
     over : Stands h s (past_of p) came
-    over = stands_past h s w.cursor (part.Part p) (sym e) W.seen W.stands p (past_of p) refl refl
+    over = stands_past h s w.cursor (Ok (part.Part p)) (sym e) W.seen W.stands p (past_of p) refl refl
 
     abbrev later : List Part
     later = (left h s (past_of p)).parts
@@ -276,7 +259,7 @@ module _ (h : Header) (s : List ℕ) (w : Walk) (work : List ℕ) (W : Walking h
 
         cases : (b : Bool) → usable_now (reached_at w.reached) (name_of p) ≡ b
             → (cond b (used_on s h.size p w.reached w.skipped W.lists (drawn_in h.size work))
-            (record { found = found.Part; lists = W.lists; drawn = drawn_in h.size work; reached = w.reached; skipped = one_part_more p w.skipped })).reached
+            (record { found = Ok tt; lists = W.lists; drawn = drawn_in h.size work; reached = w.reached; skipped = one_part_more p w.skipped })).reached
             ≡ reached_planes h (map name_of came)
         cases true u =
             ap (λ (x : List Plane). set x (p.level.0 - 1) p.plane) W.reaches
@@ -296,7 +279,7 @@ module _ (h : Header) (s : List ℕ) (w : Walk) (work : List ℕ) (W : Walking h
 
         cases : (b : Bool) → usable_now (reached_at w.reached) (name_of p) ≡ b
             → (cond b (used_on s h.size p w.reached w.skipped W.lists (drawn_in h.size work))
-            (record { found = found.Part; lists = W.lists; drawn = drawn_in h.size work; reached = w.reached; skipped = one_part_more p w.skipped })).skipped
+            (record { found = Ok tt; lists = W.lists; drawn = drawn_in h.size work; reached = w.reached; skipped = one_part_more p w.skipped })).skipped
             ≡ skipped_by h (names h s) (map name_of came)
         cases true u =
             W.skips ∙ skipped_by_used h (names h s) (map name_of W.seen) (name_of p) (test ∙ u) ∙ ap (skipped_by h (names h s)) (sym last)
@@ -332,111 +315,61 @@ module _ (h : Header) (s : List ℕ) (w : Walk) (work : List ℕ) (W : Walking h
         cases a six (no l) = omega arith
 
     -- The part was taken.
-    module _ (r : Turn) (work' : List ℕ) (T : Taken h.size p (met_part s h.size p w work) work r work') where
+    module _ (r : Returned Walk Refusal) (work' : List ℕ) (T : Taken h.size p (met_part s h.size p w work) work r work') where
       taken : Taken h.size p met work r work'
       unfolding name_of
       taken =
           taken_alike s h.size p w.reached w.skipped (state_of h.size work w.counts) W.lists (drawn_in h.size work) W.agrees
           work r work' T
 
-      walking_unfit : (v : Refusal) → r.found ≡ found.Refused v → decoded_parts h s (read_parts h s) ≡ refused v
-      unfolding decoded_parts pictured
-      walking_unfit v f =
-          let m : (onto ≡ unfit p.place) × (v ≡ refusal.Fit p.place)
-          = met_refused h s (names h s) p w.reached w.skipped W.lists _ test v (sym taken.finds ∙ f) in
-          let x : PartRead = behind h s (read_parts h s).parts in
-          let g = defined_unfit h s sized (read_parts h s).parts x p.place
-          (ap (tail_walked h s x) (walked_all ∙ ap (walked h s later) m.0 ∙ walked_unfit h s later p.place) ∙ tail_unfit h s x p.place) in
-          ap (pictured h (names h s) (read_parts h s).ending) g ∙ ap refused (sym m.1)
+    walking_unfit : (v : Refusal) (work' : List ℕ) → Taken h.size p (met_part s h.size p w work) work (Err v) work'
+        → decoded_parts h s (read_parts h s) ≡ refused v
+    unfolding decoded_parts pictured
+    walking_unfit v work' T =
+        let m : (onto ≡ unfit p.place) × (v ≡ refusal.Fit p.place)
+        = met_refused h s (names h s) p w.reached w.skipped W.lists _ test v (sym (taken (Err v) work' T).finds) in
+        let x : PartRead = behind h s (read_parts h s).parts in
+        let g = defined_unfit h s sized (read_parts h s).parts x p.place
+        (ap (tail_walked h s x) (walked_all ∙ ap (walked h s later) m.0 ∙ walked_unfit h s later p.place) ∙ tail_unfit h s x p.place) in
+        ap (pictured h (names h s) (read_parts h s).ending) g ∙ ap refused (sym m.1)
 
-      walking_no_tail : r.found ≡ found.Tail → ⊥
-      walking_no_tail f = met_no_tail h s (names h s) p w.reached w.skipped W.lists _ test (sym taken.finds ∙ f)
+    walking_on : (next : Walk) (work' : List ℕ) → Taken h.size p (met_part s h.size p w work) work (Ok next) work' → Walking h s next work'
+    unfolding TreeProgress name_of
+    walking_on next work' T =
+        let t : Taken h.size p met work (Ok next) work' = taken (Ok next) work' T in
+        let m : onto ≡ going met.lists met.drawn
+        = met_part_lem h s (names h s) p w.reached w.skipped W.lists _ test (sym t.finds) in
+        let o : order (named next.cursor.before) ≡ order (name_of p) = ap (λ (x : Cursor). order (named x.before)) t.past.over in
+        record {
+          room = omega (arith, W.room, t.same);
+          seen = came;
+          stands = subst (λ (x : Cursor). Stands h s x came) (sym t.past.over) over;
+          lists = met.lists;
+          decodes = walked_came ∙ m ∙ ap (going met.lists) (sym t.draws);
+          reaches = t.past.reaches ∙ met_reached;
+          skips = t.past.skips ∙ met_skipped;
+          agrees = t.lists;
+          sound =
+              subst (TreeProgress h.size) m
+              (tree_onward_sound h sized s (names h s) p
+              (record { from1 = whole.legal.named.from1; up_to = whole.legal.named.up_to }) (going W.lists _) W.sound);
+          few = omega (arith, o, name_falls, W.few, length-append W.seen (p ∷ []));
+          words = words_more h.size _ _ work' (omega (arith, o, name_falls, W.few)) (t.grows _ W.words);
+        }
 
-      walking_on : r.found ≡ found.Part → Walking h s r.walk work'
-      unfolding TreeProgress name_of
-      walking_on f =
-          let m : onto ≡ going met.lists met.drawn
-          = met_part_lem h s (names h s) p w.reached w.skipped W.lists _ test (sym taken.finds ∙ f) in
-          let o : order (named r.walk.cursor.before) ≡ order (name_of p) = ap (λ (x : Cursor). order (named x.before)) taken.past.over in
-          record {
-            room = omega (arith, W.room, taken.same);
-            seen = came;
-            stands = subst (λ (x : Cursor). Stands h s x came) (sym taken.past.over) over;
-            lists = met.lists;
-            decodes = walked_came ∙ m ∙ ap (going met.lists) (sym taken.draws);
-            reaches = taken.past.reaches ∙ met_reached;
-            skips = taken.past.skips ∙ met_skipped;
-            agrees = taken.lists;
-            sound =
-                subst (TreeProgress h.size) m
-                (tree_onward_sound h sized s (names h s) p
-                (record { from1 = whole.legal.named.from1; up_to = whole.legal.named.up_to }) (going W.lists _) W.sound);
-            few = omega (arith, o, name_falls, W.few, length-append W.seen (p ∷ []));
-            words = words_more h.size _ _ work' (omega (arith, o, name_falls, W.few)) (taken.grows _ W.words);
-          }
+  -- One turn, by what it hands back.
+  pub turn_on : {next : Walk} {work' : List ℕ} → Turned h s w work (Ok (Some next)) work' → Walking h s next work'
+  turn_on (past_part p e t) = walking_on p e _ _ t
 
-  -- One turn, whatever it found.
-  module _ (r : Turn) (work' : List ℕ) (T : Turned h s w work (next_of h s w.cursor) r work') where
-    turned : {X : Type 0} → ((p : Part) → next_of h s w.cursor ≡ part.Part p → Taken h.size p (met_part s h.size p w work) work r work' → X)
-        → ((p : Part) → next_of h s w.cursor ≡ part.Cut p → Ended h.size (met_cut s h.size p w work) w work r work' → X)
-        → (next_of h s w.cursor ≡ part.Tail → Still found.Tail w work r work' → X)
-        → ((v : Refusal) → next_of h s w.cursor ≡ part.Refused v → Still (found.Refused v) w work r work' → X) → X
-    unfolding Turned
-    turned {X} met cut none refuses = cases (next_of h s w.cursor) refl T
-      where
-        cases : (x : PartRead) → next_of h s w.cursor ≡ x → Turned h s w work x r work' → X
-        cases (part.Part p) e t = met p e t
-        cases (part.Cut p) e t = cut p e t
-        cases part.Tail e t = none e t
-        cases (part.Refused v) e t = refuses v e t
+  pub turn_falls : {next : Walk} {work' : List ℕ} → Turned h s w work (Ok (Some next)) work'
+      → length s - next.cursor.place < length s - w.cursor.place
+  turn_falls {next} (past_part p e t) = next_falls h s w.cursor (Ok (part.Part p)) (sym e) p next.cursor refl t.past.over
 
-    pub turn_on : r.found ≡ found.Part → Walking h s r.walk work'
-    turn_on f =
-        turned (λ p e t. walking_on p e r work' t f) (λ p e t. absurd (walking_cut_ends p e r work' t f)) (λ e t. let i = t.finds in clash (cc))
-        (λ v e t. let i = t.finds in clash (cc))
+  pub turn_ends : {work' : List ℕ} → Turned h s w work (Ok None) work' → Complete h s w work'
+  turn_ends {work'} (at_cut p e t) = record { within = W.stands.within; decodes = walking_cut p e (Ok tt) work' t refl }
+  turn_ends (at_tail e) = record { within = W.stands.within; decodes = walking_tail e }
 
-    pub turn_falls : r.found ≡ found.Part → length s - r.walk.cursor.place < length s - w.cursor.place
-    turn_falls f =
-        turned (λ p e t. next_falls h s w.cursor (part.Part p) (sym e) p r.walk.cursor refl t.past.over)
-        (λ p e t. absurd (walking_cut_ends p e r work' t f)) (λ e t. let i = t.finds in clash (cc)) (λ v e t. let i = t.finds in clash (cc))
-
-    turn_still : r.found ≡ found.Tail → r.walk ≡ w
-    turn_still f =
-        turned (λ p e t. absurd (walking_no_tail p e r work' t f)) (λ p e t. t.stays) (λ e t. t.stays) (λ v e t. let i = t.finds in clash (cc))
-
-    turn_tail : r.found ≡ found.Tail → (out : List ℤ) → length out ≡ area h.size → LaysOut h.size work' out
-        → decoded_parts h s (read_parts h s) ≡ at_end s out r.walk
-    turn_tail f out n lays =
-        turned (λ p e t. absurd (walking_no_tail p e r work' t f)) (λ p e t. walking_cut p e r work' t f out n lays)
-        (λ e t. walking_tail e out n (subst (λ (x : List ℕ). LaysOut h.size x out) t.lists lays)) (λ v e t. let i = t.finds in clash (cc))
-        ∙ ap (at_end s out) (sym (turn_still f))
-
-    pub turn_within : r.found ≡ found.Tail → r.walk.cursor.place ≤ length s
-    turn_within f = subst (λ (x : Walk). x.cursor.place ≤ length s) (sym (turn_still f)) W.stands.within
-
-    turn_refused : (v : Refusal) → r.found ≡ found.Refused v → decoded_parts h s (read_parts h s) ≡ refused v
-    turn_refused v f =
-        turned (λ p e t. walking_unfit p e r work' t v f) (λ p e t. walking_cut_unfit p e r work' t v f) (λ e t. let i = t.finds in clash (cc))
-        (λ u e t. let i : r.found ≡ found.Refused u = t.finds in let same : u ≡ v = cc in walking_fault u e ∙ ap refused same)
-
--- The walk's last turn, for whoever lent `out` and `work`.
-module _ (h : Header) (s : List ℕ) (out : List ℤ) (work : List ℕ)
-    (w : Walk) (out₁ : List ℤ) (work₁ : List ℕ) (W : Walking h s w work₁) (j : length out₁ ≡ length out) (k : length work₁ ≡ length work)
-    (r : Turn) (work₂ : List ℕ) (T : Turned h s w work₁ (next_of h s w.cursor) r work₂) (n : length work₂ ≡ length work₁)
-    (answer : Decoded) (out' : List ℤ) (work' : List ℕ) where
-  pub turn_accepts : (work₃ : List ℕ) → r.found ≡ found.Tail → length out₁ ≡ area h.size → LaidOut h.size work₂ out₁ work₃ out'
-      → Accepting (length s - r.walk.cursor.place) r.walk.reached r.walk.skipped work₃ answer work'
-      → Answered (decoded_parts h s (read_parts h s)) out work answer out' work'
-  turn_accepts work₃ f a l t =
-      answered_accepted (decoded_parts h s (read_parts h s)) out out' work work₃ (l.whole ∙ j) (l.same ∙ n ∙ k) _ _ _ answer work'
-      (turn_tail h s w work₁ W r work₂ T f out' (l.whole ∙ a) l.values) t
-
-  pub turn_refuses : (v : Refusal) → r.found ≡ found.Refused v → Refusing v out₁ work₂ answer out' work'
-      → Answered (decoded_parts h s (read_parts h s)) out work answer out' work'
-  turn_refuses v f t =
-      answered_refused (decoded_parts h s (read_parts h s)) out out₁ work work₂ j (n ∙ k) v answer out' work'
-      (turn_refused h s w work₁ W r work₂ T v f) t
-
--- Zeroing keeps a length.
-pub cleared : {X : Type 0} (x : X) (then after : List X) (n : ℕ) → after ≡ replicate (length then) x → length then ≡ n → length after ≡ n
-cleared x then after n e l = ap length e ∙ length-replicate (length then) x ∙ l
+  pub turn_refused : {v : Refusal} {work' : List ℕ} → Turned h s w work (Err v) work' → decoded_parts h s (read_parts h s) ≡ refused v
+  turn_refused {v} {work'} (unfit_part p e t) = walking_unfit p e v work' t
+  turn_refused {v} {work'} (unfit_cut p e t) = walking_cut_unfit p e (Err v) work' t v refl
+  turn_refused {v} (unread e) = walking_fault v e

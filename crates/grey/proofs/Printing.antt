@@ -1,38 +1,39 @@
 -- The way back: the tones of a pyramid's picture are its numbers, and header and pixels written one behind the other are the file.
-use mathlib.Core.Path.{◌≡◌, refl, ap, ap₂, sym, ◌∙◌}
-use mathlib.Core.Bool.{Bool, true, false}
-use mathlib.Core.List.{List, [], ◌∷◌, map}
-use Prim.Native.Nat.{ℕ, zero, suc, ◌+◌, ◌-◌, ◌≤◌, ◌<◌}
+use mathlib.Core.Path.{◌≡◌, refl, ap, sym, ◌∙◌}
+use mathlib.Core.Bool.{true, false}
+use mathlib.Core.List.{List, [], ◌++◌, map}
+use Prim.Native.Nat.{ℕ, ◌+◌, ◌-◌, ◌≤◌, ◌<◌}
 use native.Mathlib.Omega.{arith}
-use native.Mathlib.Decide.{dec_le}
-use lib.Dec.{leb}
-use lib.ListN.{length, get_or, take, length-map, length-append, length-replicate}
+use lib.ListN.{length, get_or, take, drop, length-map, length-append, length-replicate}
 use lib.Seq.{sets, ext_get_or, get_or-take, length-take-le, length-sets}
 use lib.IntN.{ℤ, pos}
-use borrow.Author.Tests.{leb-true, leb-false, le-leb, lt-leb}
+use Rattle.std.proofs.lemmas.List.Edits.{sets-eq}
+use Rattle.std.proofs.lemmas.List.{append_assoc, get_or-map, drop-drop}
+use borrow.Author.Tests.{le-leb, lt-leb}
 use Rattle.rules.specs.declared.Size.{Size}
 use Rattle.rules.specs.declared.Refusal.{Refusal}
 use Rattle.rules.specs.declared.Refusal.TheVariants as refusal
-use Rattle.rules.specs.declared.Verdict.{Verdict}
-use Rattle.rules.specs.declared.Verdict.TheVariants.{Accepted, Refused}
+use Rattle.std.specs.Prelude.{Ok, Err, is_err}
+use Rattle.rules.specs.Document.Numbers.{Accepted}
 use Rattle.rules.specs.Document.Notation.{zeros}
 use Rattle.rules.specs.Document.Pyramid.{legal_size, area, row, column}
 use Rattle.rules.specs.Document.Calls.{Result, refused, accepted, unless, filled}
+use Rattle.rules.proofs.Laws.Counting.Booleans.{clash}
 use Rattle.rules.proofs.Laws.Family.Sizes.{legal}
 use Rattle.rules.specs.Promises.Vocabulary.{Legal}
 use Rattle.rules.proofs.Laws.Rounding.Planes.{under_first}
 use Rattle.rules.proofs.Laws.Bytes.Output.{clipped_nothing, clipped_append, clipped_fits}
 use Rattle.rules.proofs.Laws.Offspring.Level.{column_lt, row_lt}
 use Rattle.rules.proofs.Laws.Offspring.Block.{index_place}
-use Rattle.pictures.specs.declared.GreyWritten.{GreyWritten}
+use Rattle.pictures.specs.Document.Answers.{as_grey_written}
 use Rattle.pictures.specs.Document.Lifting.{Grid, back, grid_of, picture_of}
 use Rattle.pictures.specs.Document.Netpbm.{grey_lines, grey_file}
 use Rattle.pictures.specs.Document.Calls.{clip, clipped_in, most_decoded, GreyPrint, print_of, printed, grey_out, grey_out_out, grey_out_answer, GreyOut}
 use Rattle.pictures.specs.Laws.Tones.{toned}
 use Rattle.pictures.proofs.Laws.Grids.{list_at, picture_length}
 use Rattle.lifting.specs.Pictures.{TonesOf, NumbersOf, Joining}
-use Rattle.grey.specs.Pixels.{numbers_in}
-use Rattle.grey.specs.Outcomes.{judged_out, RefusedOut, Fits, Printing, PixelsPrinted, Prints}
+use Rattle.grey.proofs.Laws.{numbers_in}
+use Rattle.grey.specs.Outcomes.{judged_out, Fits, Printing, Written, WayBack}
 use Rattle.grey.proofs.Judged.{ruled, ruled_out, judged_out_order}
 
 -- What join_pyramid asks for.
@@ -46,15 +47,10 @@ joining pyramid z work p =
     }
 
 -- The numbers that it leaves.
-map_at : (f : ℕ → ℤ) (xs : List ℕ) (q : ℕ) → q < length xs → get_or (map f xs) q (pos 0) ≡ f (get_or xs q 0)
-map_at f [] q l = absurd (omega arith)
-map_at f (x ∷ xs) zero l = refl
-map_at f (x ∷ xs) (suc q) l = map_at f xs q (omega arith)
-
 numbers_at : (count : ℕ) (s : List ℕ) (q : ℕ) → q < count → count ≤ length s → get_or (numbers_in count s) q (pos 0) ≡ toned (get_or s q 0)
 unfolding numbers_in
 numbers_at count s q l k =
-    map_at toned (take count s) q (omega (arith, length-take-le count s k)) ∙ ap toned (get_or-take count s q 0 l)
+    get_or-map toned (take count s) q 0 (pos 0) (omega (arith, length-take-le count s k)) ∙ ap toned (get_or-take count s q 0 l)
 
 pub joined_numbers : {z : Size} {room space : ℕ} → Fits z room space → (pyramid : List ℤ) (work : List ℕ) → length work ≡ space
     → ((g : Grid) → NumbersOf z pyramid g → TonesOf z work (back z z.n g)) → numbers_in (area z) work ≡ picture_of z pyramid
@@ -99,107 +95,81 @@ module _ (z : Size) (room : ℕ) (numbers : List ℤ) (whole : length numbers �
       ∙ clipped_append room (grey_lines z) (map clip numbers)
       ∙ clipped_fits room print.file (omega (arith, print_length z numbers whole))
 
--- The lines leave an output as long as it was.
 lines_length : (z : Size) (out : List ℕ) {lines : List ℕ} → lines ≡ sets (zeros (length out)) 0 (grey_lines z) → length lines ≡ length out
 lines_length z out e =
     ap length e ∙ length-sets (zeros (length out)) 0 (grey_lines z) ∙ length-replicate (length out) 0
 
-refused_lent : {r : Refusal} {lines out work : List ℕ} {answer : GreyWritten} {out' work' : List ℕ} → length lines ≡ length out
-    → RefusedOut r lines work answer out' work' → RefusedOut r out work answer out' work'
-refused_lent e d = record { answers = d.answers; writes = d.writes ∙ ap zeros e; clears = d.clears }
-
--- The outcomes of the step that prints, and of the way back.
-module _ (pyramid : List ℤ) (z : Size) (out work : List ℕ) where
-  abbrev result : Result GreyPrint
-  result = printed (print_of z (picture_of z pyramid)) (length out)
-
-  pub prints_short : {at : ℕ} {lines : List ℕ} {b : Bool} {answer : GreyWritten} {out' work' : List ℕ} → at ≡ length (grey_lines z)
-      → lines ≡ sets (zeros (length out)) 0 (grey_lines z) → b ≡ leb (at + area z) (length lines) → b ≡ false
-      → RefusedOut refusal.Room lines work answer out' work' → Prints pyramid z out work answer out' work'
-  unfolding grey_out_answer grey_out_out
-  prints_short {at} {lines} a w b f short =
-      let same : length lines ≡ length out = lines_length z out w in
-      let d : RefusedOut refusal.Room out work _ _ _ = refused_lent same short in
-      let l : length out < length (grey_lines z) + area z = omega (arith, leb-false (at + area z) (length lines) (sym b ∙ f), a, same) in
-      let e : result ≡ refused refusal.Room = printed_short z (length out) (picture_of z pyramid) (picture_length z pyramid) l in
-      record {
-        answers = d.answers ∙ sym (ap grey_out_answer e);
-        writes = d.writes ∙ sym (ap (grey_out_out (length out)) e);
-        clears = d.clears;
-      }
-
-  pub prints_whole : {at : ℕ} {lines : List ℕ} {b : Bool} {answer : GreyWritten} {out' work' : List ℕ} → at ≡ length (grey_lines z)
-      → lines ≡ sets (zeros (length out)) 0 (grey_lines z) → b ≡ leb (at + area z) (length lines) → b ≡ true
-      → PixelsPrinted pyramid z at lines work answer out' work' → Prints pyramid z out work answer out' work'
-  unfolding grey_out_answer grey_out_out print_of
-  prints_whole {at} {lines} a w b f d =
-      let l : at + area z ≤ length out = omega (arith, leb-true (at + area z) (length lines) (sym b ∙ f), lines_length z out w) in
-      let numbers : List ℤ = picture_of z pyramid in
-      let whole : length numbers ≡ area z = picture_length z pyramid in
-      let fits : length (grey_lines z) + area z ≤ length out = omega (arith, a) in
-      let e : result ≡ accepted (print_of z numbers) = printed_fits z (length out) numbers whole fits in
-      let long : at + area z ≡ length (grey_file z (map clip numbers)) = ap (λ n. n + area z) a ∙ sym (print_length z numbers whole) in
-      record {
-        answers = d.answers ∙ (λ i. record { verdict = Accepted; length = long i; clipped = clipped_in numbers }) ∙ sym (ap grey_out_answer e);
-        writes =
-            d.writes ∙ ap₂ (λ s n. sets s n (map clip numbers)) w a
-            ∙ printed_bytes z (length out) numbers whole fits ∙ sym (ap (grey_out_out (length out)) e);
-        clears = d.clears;
-      }
+-- Pixels in place of as many bytes of an output.
+pub pixels_placed : (s vs : List ℕ) (at n : ℕ) → length vs ≡ n → at + n ≤ length s → take at s ++ (vs ++ drop (at + n - at) (drop at s)) ≡ sets s at vs
+pixels_placed s vs at n e l =
+    let many : at + n - at ≡ length vs = omega arith in
+    ap (λ m. take at s ++ (vs ++ drop m (drop at s))) many ∙ ap (λ d. take at s ++ (vs ++ d)) (drop-drop (length vs) at s)
+    ∙ sym (sets-eq vs s at (omega arith) ∙ append_assoc (take at s) vs (drop (at + length vs) s))
 
 -- The way back, from what was judged.
-module _ (pyramid : List ℤ) (z : Size) (work : List ℕ) where
-  pub out_printing : {v : Verdict} → v ≡ judged_out pyramid z (length work) → v ≡ Accepted → Printing pyramid z work
-  out_printing e h = judged_out_order pyramid z work (sym e ∙ h)
+module _ (pyramid : List ℤ) (z : Size) (out work : List ℕ) where
+  abbrev numbers : List ℤ
+  numbers = picture_of z pyramid
 
-  module _ (out : List ℕ) {v : Verdict} (e : v ≡ judged_out pyramid z (length work)) where
-    abbrev whole_print : Result GreyPrint
-    whole_print = printed (print_of z (picture_of z pyramid)) (length out)
+  abbrev whole_print : Result GreyPrint
+  whole_print = printed (print_of z numbers) (length out)
 
-    ruled_grey_out : {u : Verdict} → v ≡ u → grey_out pyramid z (length out) (length work) ≡ ruled u whole_print
+  back_is : {x : Result GreyPrint} → grey_out pyramid z (length out) (length work) ≡ x → {r : Refusal} → x ≡ refused r → {out' : List ℕ}
+      → WayBack pyramid z out work (Err r) out'
+  unfolding as_grey_written grey_out_answer
+  back_is e f = record { answers = sym (ap grey_out_answer (e ∙ f)); writes = tt }
+
+  pub back_refused : {r : Refusal} → Err r ≡ judged_out pyramid z (length work) → {out' : List ℕ} → WayBack pyramid z out work (Err r) out'
+  unfolding grey_out
+  back_refused g = back_is (ruled_out pyramid z (length work) whole_print) (ap (λ x. ruled x whole_print) (sym g))
+
+  module _ {u : Unit {0}} (g : Ok u ≡ judged_out pyramid z (length work)) where
+    pub back_printing : Printing pyramid z work
+    back_printing = judged_out_order pyramid z work (sym g)
+
+    judged_print : grey_out pyramid z (length out) (length work) ≡ whole_print
     unfolding grey_out
-    ruled_grey_out h = ruled_out pyramid z (length work) whole_print ∙ ap (λ x. ruled x whole_print) (sym e ∙ h)
+    judged_print = ruled_out pyramid z (length work) whole_print ∙ ap (λ x. ruled x whole_print) (sym g)
 
-    pub out_refused : {r : Refusal} → v ≡ Refused r → {answer : GreyWritten} {out' work' : List ℕ} → RefusedOut r out work answer out' work'
-        → GreyOut pyramid z out work answer out' work'
-    unfolding grey_out_answer grey_out_out
-    out_refused h d =
+    pub back_short : {at : ℕ} → at ≡ length (grey_lines z) → length out < at + area z → {out' : List ℕ}
+        → WayBack pyramid z out work (Err refusal.Room) out'
+    back_short a l = back_is judged_print (printed_short z (length out) numbers (picture_length z pyramid) (omega arith))
+
+    pub back_printed : {at count : ℕ} {lines pixels : List ℕ} → at ≡ length (grey_lines z) → at + area z ≤ length lines
+        → lines ≡ sets (zeros (length out)) 0 (grey_lines z) → count ≡ clipped_in numbers → pixels ≡ map clip numbers
+        → WayBack pyramid z out work (Ok (record { length = at + area z; clipped = count }))
+        (take at lines ++ (pixels ++ drop (at + area z - at) (drop at lines)))
+    unfolding as_grey_written grey_out_answer grey_out_out print_of
+    back_printed {at} {count} {lines} {pixels} a l w c p =
+        let whole : length numbers ≡ area z = picture_length z pyramid in
+        let same : length lines ≡ length out = lines_length z out w in
+        let fits : length (grey_lines z) + area z ≤ length out = omega arith in
+        let e = judged_print ∙ printed_fits z (length out) numbers whole fits in
+        let long : at + area z ≡ length (grey_file z (map clip numbers)) = ap (λ n. n + area z) a ∙ sym (print_length z numbers whole) in
         record {
-          answers = d.answers ∙ sym (ap grey_out_answer (ruled_grey_out h));
-          writes = d.writes ∙ sym (ap (grey_out_out (length out)) (ruled_grey_out h));
-          clears = d.clears;
+          answers = (λ i. record { verdict = Accepted; length = long i; clipped = c i }) ∙ sym (ap grey_out_answer e);
+          writes =
+              pixels_placed lines pixels at (area z) (ap length p ∙ length-map numbers clip ∙ whole) l
+              ∙ rw (w, a, p) (printed_bytes z (length out) numbers whole fits) ∙ sym (ap (grey_out_out (length out)) e);
         }
 
-    pub out_printed : v ≡ Accepted → {answer : GreyWritten} {out' work' : List ℕ} → Prints pyramid z out work answer out' work'
-        → GreyOut pyramid z out work answer out' work'
-    out_printed h d =
-        record {
-          answers = d.answers ∙ sym (ap grey_out_answer (ruled_grey_out h));
-          writes = d.writes ∙ sym (ap (grey_out_out (length out)) (ruled_grey_out h));
-          clears = d.clears;
-        }
+-- What was lent is cleared.
+out_cleared : (x : Result GreyPrint) (room : ℕ) (r : Refusal) → as_grey_written (Err r) ≡ grey_out_answer x → zeros room ≡ grey_out_out room x
+unfolding as_grey_written grey_out_answer grey_out_out
+out_cleared (refused s) room r e = refl
+out_cleared (accepted y) room r e = clash (let v = ap (λ a. a.verdict) e in cc)
+
+module _ {pyramid : List ℤ} {z : Size} {out work left work' : List ℕ} (c : work' ≡ zeros (length work)) where
+  pub out_back_refused : {answer : Written} → WayBack pyramid z out work answer left → is_err answer ≡ true → {out' : List ℕ} → out' ≡ zeros (length out)
+      → GreyOut pyramid z out work (as_grey_written answer) out' work'
+  out_back_refused {answer = Err r} w e o = record { answers = w.answers; writes = o ∙ out_cleared _ (length out) r w.answers; clears = c }
+  out_back_refused {answer = Ok x} w e o = clash (cc)
+
+  pub out_back : {answer : Written} → WayBack pyramid z out work answer left → is_err answer ≡ false
+      → GreyOut pyramid z out work (as_grey_written answer) left work'
+  out_back {answer = Err r} w e = clash (cc)
+  out_back {answer = Ok x} w e = record { answers = w.answers; writes = w.writes; clears = c }
 
 -- A legal side has fewer than five digits.
 pub sides_short : (z : Size) → legal_size z ≡ true → (z.w < 10000) × (z.h < 10000)
 sides_short z e = let Z = legal z e in (omega (arith, Z.width.most), omega (arith, Z.height.most))
-
-pub room_none : (room at count : ℕ) → room < at → false ≡ leb (at + count) room
-room_none room at count l = sym (lt-leb (at + count) room (omega arith))
-
-pub room_left : (room at count : ℕ) → at ≤ room → leb count (room - at) ≡ leb (at + count) room
-room_left room at count l = by (dec_le count (room - at))
-  where
-    by : Dec (count ≤ room - at) → leb count (room - at) ≡ leb (at + count) room
-    by (yes h) = le-leb count (room - at) h ∙ sym (le-leb (at + count) room (omega arith))
-    by (no h) = lt-leb count (room - at) (omega arith) ∙ sym (lt-leb (at + count) room (omega arith))
-
--- What was stored and counted, of the picture.
-pub pixels_printed : {pyramid : List ℤ} {z : Size} {at : ℕ} {out work : List ℕ} {numbers : List ℤ} {count : ℕ} {out' work' : List ℕ}
-    → numbers ≡ picture_of z pyramid → count ≡ clipped_in numbers → out' ≡ sets out at (map clip numbers) → work' ≡ zeros (length work)
-    → PixelsPrinted pyramid z at out work (record { verdict = Accepted; length = at + area z; clipped = count }) out' work'
-pixels_printed {z = z} {at = at} {out = out} same c w k =
-    record {
-      answers = λ i. record { verdict = Accepted; length = at + area z; clipped = (c ∙ ap clipped_in same) i };
-      writes = w ∙ ap (λ v. sets out at (map clip v)) same;
-      clears = k;
-    }

@@ -1,22 +1,22 @@
 // Grey pictures: from a binary grey file to a pyramid, from a pyramid to a file, and how large the picture in a file is.
 #![tactic(auto)]
 
-ghost use Rattle.std.specs.Prelude.{◌≡◌, map, true, ◌+◌, ◌≤◌, ◌<◌, leb, length};
+ghost use Rattle.std.specs.Prelude.{◌≡◌, map, true, ◌+◌, ◌≤◌, ◌<◌, length};
 ghost use Rattle.std.proofs.lemmas.List.Edits.{sets};
 ghost use Rattle.rules.specs.Document.Notation.{zeros};
 ghost use Rattle.rules.specs.Document.Pyramid.{legal_size, area};
+ghost use Rattle.pictures.specs.Document.Answers.{as_grey_read, as_grey_written};
 ghost use Rattle.pictures.specs.Document.Netpbm.{grey_lines};
+ghost use Rattle.pictures.specs.Document.Lifting.{picture_of};
 ghost use Rattle.pictures.specs.Laws.Tones.{toned};
 ghost use Rattle.pictures.specs.Document.Calls.{clip, outside, clipped_in};
 ghost use Rattle.pictures.specs.Document.Calls.{GreyIn, GreyOut, GreySize};
-ghost use Rattle.grey.specs.Pixels.{Loaded, counted, numbers_in};
-ghost use Rattle.grey.specs.Outcomes.{judged_in, judged_out, RefusedIn, RefusedOut, Lifting, Lifted, Printing, PixelsPrinted, Prints};
+ghost use Rattle.grey.specs.Pixels.{Loaded};
+ghost use Rattle.grey.specs.Outcomes.{judged_in, judged_out, Printing, WayIn, WayBack};
 
-use pictures::{Grey, GreyRead, GreyWritten};
-use rules::{Refusal, Size, Verdict};
-
-// A number v stands in the workspace as v + 2^28.
-const BIAS: u32 = 268435456;
+use lifting::BIAS;
+use pictures::{Picture, Printed, Sides};
+use rules::{Refusal, Size};
 
 const GREATEST_PIXEL: u32 = 255;
 
@@ -26,231 +26,154 @@ const MOST_DECODED: u32 = 131071;
 fn tone_of(pixel: u8) -> u32
     ensures { result ≡ 268435456 + pixel }
 {
-    BIAS + pixel as u32
+    BIAS + u32::from(pixel)
 }
 
-// The pixels that begin at a place, as tones at the front of the workspace.
-fn load_pixels(file: &[u8], at: usize, count: usize, work: &mut [u32])
-    requires { (at + count ≤ length file.now) × (count ≤ length work.old) }
-    ensures { Loaded file.now at count work.old work.new }
+// The pixels as tones at the front of the workspace.
+fn load_pixels(pixels: &[u8], work: &mut [u32])
+    requires { length pixels.now ≤ length work.old }
+    ensures { Loaded pixels.now work.old work.new }
 {
-    let mut q = 0;
-    while q < count {
-        work[q] = tone_of(file[at + q]);
-        q += 1;
+    for (q, pixel) in pixels.iter().enumerate() {
+        work[q] = tone_of(*pixel);
     }
 }
 
 // A tone as a pixel, set to the nearer end where it lies outside.
+#[tactic(auto, using(crate::proofs::Laws::clip_tone))]
 fn clipped_pixel(tone: u32) -> u8
     ensures { result ≡ clip (toned tone) }
 {
-    if tone < BIAS {
-        return 0;
-    }
-    if GREATEST_PIXEL < tone - BIAS {
-        return 255;
-    }
-    (tone - BIAS) as u8
+    tone.saturating_sub(BIAS).min(GREATEST_PIXEL) as u8
 }
 
+#[tactic(auto, using(crate::proofs::Laws::outside_under, crate::proofs::Laws::outside_over))]
 fn lies_outside(tone: u32) -> bool
     ensures { result ≡ outside (toned tone) }
 {
-    if tone < BIAS {
-        return true;
-    }
-    GREATEST_PIXEL < tone - BIAS
+    tone < BIAS || GREATEST_PIXEL < tone - BIAS
 }
 
-fn one_more(count: usize, tone: u32) -> usize
-    requires { count < 4294967296 }
-    ensures { result ≡ counted count (toned tone) }
-{
-    if lies_outside(tone) { count + 1 } else { count }
-}
-
-// The first tones of the workspace as pixels from a place on. Answers how many were set to the nearer end.
-fn store_pixels(work: &[u32], count: usize, out: &mut [u8], at: usize) -> usize
-    requires { (count ≤ length work.now) × (at + count ≤ length out.old) × (count ≤ 4294967296) }
-    ensures { (result ≡ clipped_in (numbers_in count work.now))
-        × (out.new ≡ sets out.old at (map clip (numbers_in count work.now))) }
+// Tones as pixels. Answers how many were set to the nearer end.
+fn store_pixels(tones: &[u32], pixels: &mut [u8]) -> usize
+    requires { length pixels.old ≡ length tones.now }
+    ensures { (result ≡ clipped_in (map toned tones.now)) × (pixels.new ≡ map clip (map toned tones.now)) }
 {
     let mut clipped = 0;
-    let mut q = 0;
-    while q < count {
-        let tone = work[q];
-        out[at + q] = clipped_pixel(tone);
-        clipped = one_more(clipped, tone);
-        q += 1;
+    for (q, tone) in tones.iter().enumerate() {
+        pixels[q] = clipped_pixel(*tone);
+        clipped += usize::from(lies_outside(*tone));
     }
     clipped
 }
 
 // What a size, the length of a pyramid and that of a workspace are refused for: 1, 2, 3 in this order.
-fn judged_in(z: Size, length: usize, work: usize) -> Verdict
+#[tactic(auto, using(crate::proofs::Judged::area_fits), unfolding(crate::specs::Outcomes::judged_in))]
+fn judged_in(z: Size, length: usize, work: usize) -> Result<(), Refusal>
     ensures { result ≡ judged_in z length work }
 {
     if !shape::legal_size(z) {
-        return Verdict::Refused(Refusal::Size);
+        Err(Refusal::Size)
+    } else if length != z.w * z.h {
+        Err(Refusal::Length)
+    } else if work < shape::work_for(z) {
+        Err(Refusal::Work)
+    } else {
+        Ok(())
     }
-    let area = z.w * z.h;
-    if length != area {
-        return Verdict::Refused(Refusal::Length);
-    }
-    if work < shape::work_for(z) {
-        return Verdict::Refused(Refusal::Work);
-    }
-    Verdict::Accepted
 }
 
 // And 4 for a pyramid.
-fn judged_out(pyramid: &[i32], z: Size, work: usize) -> Verdict
+#[tactic(auto, unfolding(crate::specs::Outcomes::judged_out, crate::specs::Outcomes::unless_over))]
+fn judged_out(pyramid: &[i32], z: Size, work: usize) -> Result<(), Refusal>
     ensures { result ≡ judged_out pyramid.now z work }
 {
-    let first = judged_in(z, pyramid.len(), work);
-    match first {
-        Verdict::Refused(refusal) => Verdict::Refused(refusal),
-        Verdict::Accepted => {
-            let over = coefficients::first_over(pyramid, MOST_DECODED);
-            if over != pyramid.len() {
-                return Verdict::Refused(Refusal::Range(over));
-            }
-            Verdict::Accepted
-        }
+    judged_in(z, pyramid.len(), work)?;
+    let over = coefficients::first_over(pyramid, MOST_DECODED);
+    if over != pyramid.len() {
+        return Err(Refusal::Range(over));
     }
+    Ok(())
 }
 
-fn refuse_in(refusal: Refusal, out: &mut [i32], work: &mut [u32]) -> GreyRead
-    ensures { RefusedIn refusal out.old work.old result out.new work.new }
+// The pyramid of the picture in a file. What a refusal leaves in the output counts for nothing.
+fn lift(file: &[u8], n: usize, out: &mut [i32], work: &mut [u32]) -> Result<Sides, Refusal>
+    ensures { WayIn file.now n out.old work.old result out.new }
 {
-    memory::zero_i32(out);
-    memory::zero_u32(work);
-    GreyRead {
-        verdict: Verdict::Refused(refusal),
-        w: 0,
-        h: 0,
-    }
-}
-
-fn refuse_out(refusal: Refusal, out: &mut [u8], work: &mut [u32]) -> GreyWritten
-    ensures { RefusedOut refusal out.old work.old result out.new work.new }
-{
-    memory::zero_u8(out);
-    memory::zero_u32(work);
-    GreyWritten {
-        verdict: Verdict::Refused(refusal),
-        length: 0,
-        clipped: 0,
-    }
-}
-
-// The pyramid of the pixels that begin at a place.
-fn lift(file: &[u8], at: usize, z: Size, out: &mut [i32], work: &mut [u32]) -> GreyRead
-    requires { Lifting file.now at z out.old work.old }
-    ensures { Lifted file.now at z work.old result out.new work.new }
-{
-    load_pixels(file, at, z.w * z.h, work);
+    let Picture { w, h, at } = netpbm::read_grey(file).ok_or(Refusal::Grey)?;
+    let z = Size { w, h, n };
+    judged_in(z, out.len(), work.len())?;
+    load_pixels(&file[at..at + z.w * z.h], work);
     lifting::split_picture(z, work, out);
-    memory::zero_u32(work);
-    GreyRead {
-        verdict: Verdict::Accepted,
-        w: z.w,
-        h: z.h,
-    }
+    Ok(Sides { w: z.w, h: z.h })
 }
 
 // From a file to a pyramid.
-pub fn grey_in(file: &[u8], n: usize, out: &mut [i32], work: &mut [u32]) -> GreyRead
-    ensures { GreyIn file.now n out.old work.old result out.new work.new }
+pub fn grey_in(file: &[u8], n: usize, out: &mut [i32], work: &mut [u32]) -> Result<Sides, Refusal>
+    ensures { GreyIn file.now n out.old work.old (as_grey_read result) out.new work.new }
 {
-    let Grey::Picture(w, h, at) = netpbm::read_grey(file) else {
-        return refuse_in(Refusal::Grey, out, work);
-    };
-    let z = Size { w, h, n };
-    let verdict = judged_in(z, out.len(), work.len());
-    match verdict {
-        Verdict::Refused(refusal) => refuse_in(refusal, out, work),
-        Verdict::Accepted => lift(file, at, z, out, work),
+    let lifted = lift(file, n, out, work);
+    if lifted.is_err() {
+        memory::zero(out);
     }
+    memory::zero(work);
+    lifted
 }
 
 // The lines in front of the pixels, in an output that is 0 behind them. Answers how many bytes they are.
+#[tactic(auto, using(crate::proofs::Printing::sides_short))]
 fn write_lines(z: Size, out: &mut [u8]) -> usize
     requires { legal_size z ≡ true }
-    ensures { (result ≡ length (grey_lines z)) × (out.new ≡ sets (zeros (length out.old)) 0 (grey_lines z)) }
+    ensures { (result ≡ length (grey_lines z)) × (result ≤ 17) × (out.new ≡ sets (zeros (length out.old)) 0 (grey_lines z)) }
 {
-    memory::zero_u8(out);
+    memory::zero(out);
     netpbm::write_header(z, out)
 }
 
-// The pixels that a pyramid gives, behind these lines.
-fn print_pixels(
-    pyramid: &[i32],
-    z: Size,
-    at: usize,
-    out: &mut [u8],
-    work: &mut [u32],
-) -> GreyWritten
-    requires { Printing pyramid.now z work.old × (at + area z ≤ length out.old) }
-    ensures { PixelsPrinted pyramid.now z at out.old work.old result out.new work.new }
+// The pixels that a pyramid gives. Answers how many were set to the nearer end.
+fn print_pixels(pyramid: &[i32], z: Size, pixels: &mut [u8], work: &mut [u32]) -> usize
+    requires { Printing pyramid.now z work.old × (length pixels.old ≡ area z) }
+    ensures { (result ≡ clipped_in (picture_of z pyramid.now)) × (pixels.new ≡ map clip (picture_of z pyramid.now)) }
 {
     lifting::join_pyramid(z, pyramid, work);
-    let clipped = store_pixels(work, z.w * z.h, out, at);
-    memory::zero_u32(work);
-    GreyWritten {
-        verdict: Verdict::Accepted,
-        length: at + z.w * z.h,
-        clipped,
-    }
+    store_pixels(&work[..z.w * z.h], pixels)
 }
 
-// The sum is not formed: nothing bounds the two.
-fn has_room(room: usize, at: usize, count: usize) -> bool
-    ensures { result ≡ leb (at + count) room }
+// The file of the picture that a pyramid gives, where there is room for it. What a refusal leaves in the output counts for nothing.
+fn print(pyramid: &[i32], z: Size, out: &mut [u8], work: &mut [u32]) -> Result<Printed, Refusal>
+    ensures { WayBack pyramid.now z out.old work.old result out.new }
 {
-    if room < at { false } else { count <= room - at }
-}
-
-// The file of the picture that a pyramid gives, where there is room for it.
-fn print(pyramid: &[i32], z: Size, out: &mut [u8], work: &mut [u32]) -> GreyWritten
-    requires { Printing pyramid.now z work.old }
-    ensures { Prints pyramid.now z out.old work.old result out.new work.new }
-{
+    judged_out(pyramid, z, work.len())?;
     let at = write_lines(z, out);
-    if has_room(out.len(), at, z.w * z.h) {
-        print_pixels(pyramid, z, at, out, work)
-    } else {
-        refuse_out(Refusal::Room, out, work)
+    let length = at + z.w * z.h;
+    if out.len() < length {
+        return Err(Refusal::Room);
     }
+    let clipped = print_pixels(pyramid, z, &mut out[at..length], work);
+    Ok(Printed { length, clipped })
 }
 
 // From a pyramid to a file.
-pub fn grey_out(pyramid: &[i32], z: Size, out: &mut [u8], work: &mut [u32]) -> GreyWritten
-    ensures { GreyOut pyramid.now z out.old work.old result out.new work.new }
+pub fn grey_out(
+    pyramid: &[i32],
+    z: Size,
+    out: &mut [u8],
+    work: &mut [u32],
+) -> Result<Printed, Refusal>
+    ensures { GreyOut pyramid.now z out.old work.old (as_grey_written result) out.new work.new }
 {
-    let verdict = judged_out(pyramid, z, work.len());
-    match verdict {
-        Verdict::Refused(refusal) => refuse_out(refusal, out, work),
-        Verdict::Accepted => print(pyramid, z, out, work),
+    let printed = print(pyramid, z, out, work);
+    if printed.is_err() {
+        memory::zero(out);
     }
+    memory::zero(work);
+    printed
 }
 
 // How large the picture in a file is, legal or not.
-pub fn grey_size(file: &[u8]) -> GreyRead
-    ensures { GreySize file.now result }
+pub fn grey_size(file: &[u8]) -> Result<Sides, Refusal>
+    ensures { GreySize file.now (as_grey_read result) }
 {
-    let read = netpbm::read_grey(file);
-    match read {
-        Grey::NotGrey => GreyRead {
-            verdict: Verdict::Refused(Refusal::Grey),
-            w: 0,
-            h: 0,
-        },
-        Grey::Picture(w, h, _) => GreyRead {
-            verdict: Verdict::Accepted,
-            w,
-            h,
-        },
-    }
+    let Picture { w, h, .. } = netpbm::read_grey(file).ok_or(Refusal::Grey)?;
+    Ok(Sides { w, h })
 }

@@ -1,27 +1,23 @@
 -- Joining name by name: what each record offers, one turn, and what it comes to at the end.
+use Rattle.std.specs.Prelude.{Option, Some, None, MatchOption, Ok, Err, is_err}
 use mathlib.Core.Path.{◌≡◌, refl, ap, ap₂, sym, ◌∙◌, subst}
 use mathlib.Core.List.{List, [], ◌∷◌, ◌++◌, map, append_assoc, append-nil}
-use mathlib.Core.Bool.{Bool, true, false, cond, not, true≢false}
-use mathlib.Core.Logic.{◌↔◌, ◌≢◌, inl, inr}
+use mathlib.Core.Bool.{Bool, true, false, cond, true≢false}
+use mathlib.Core.Logic.{◌↔◌}
 use Prim.Native.Nat.{ℕ, zero, suc, ◌+◌, ◌-◌, ◌^◌, ◌≤◌, ◌<◌}
 use native.Mathlib.Omega.{arith}
-use native.Mathlib.Decide.{dec_lt}
 use lib.ListN.{length, take, drop, length-append, length-replicate}
-use borrow.Author.Tests.{le-leb, lt-leb, eq-eqb, ne_eqb, not-false}
+use borrow.Author.Tests.{le-leb, lt-leb}
 use lib.Seq.{sets, length-sets, length-take-le}
-use types.Run.{OneOf}
-use denote.Enum.Declared.{tag_of}
-use Rattle.rules.specs.contracts.PartRead.{the_type}
 use Rattle.rules.specs.declared.Refusal.{Refusal}
 use Rattle.rules.specs.declared.Refusal.TheVariants as refusal
-use Rattle.rules.specs.declared.Verdict.TheVariants.{Accepted, Refused}
-use Rattle.rules.specs.declared.Coded.{Coded}
+use Rattle.rules.specs.Document.Numbers.{Accepted, Refused}
+use Rattle.rules.specs.Document.Answers.{as_coded}
 use Rattle.rules.specs.declared.Header.{Header}
 use Rattle.rules.specs.declared.Part.{Part}
-use Rattle.rules.specs.declared.PartRead.{PartRead}
-use Rattle.rules.specs.declared.PartRead.TheVariants as part
+use Rattle.rules.specs.Document.Numbers.{PartRead}
+use Rattle.rules.specs.declared.Piece.TheVariants as part
 use Rattle.rules.specs.Document.Notation.{any, flat, zeros}
-use Rattle.rules.specs.Document.Pyramid.{legal_size}
 use Rattle.rules.specs.Document.Passes.{PartName, parts_of_plane, part_names}
 use Rattle.rules.specs.Document.Layout.{whole_of, name_of, same_name}
 use Rattle.rules.specs.Document.Numbers.{top_level, Reading, read_part}
@@ -50,17 +46,14 @@ use Rattle.joins.specs.Laws.Joined.{Agrees}
 use Rattle.joins.specs.Laws.Joined.{Readable}
 use Rattle.joins.proofs.Laws.Joined.{readable_within, agrees_clear, same_bytes_lem, bytes_same, same_header, on_record_readable, joining_read}
 use Rattle.joins.proofs.Laws.JoinRefusals.{clash_behind}
-use Rattle.survey.specs.declared.Survey.{Survey}
-use Rattle.survey.specs.Surveyed.{survey_of}
+use Rattle.survey.specs.declared.Contents.{Contents}
+use Rattle.survey.specs.Surveyed.{Survey, as_survey, survey_of}
 use Rattle.survey.proofs.AsServing.{survey_of_case}
 use Rattle.record.specs.declared.walk.Cursor.{Cursor}
 use Rattle.record.specs.Walk.{first_of, next_of, past_of}
-use Rattle.joiner.specs.declared.Offer.{Offer}
 use Rattle.joiner.specs.declared.Joint.{Joint}
-use Rattle.joiner.specs.declared.Step.{Step}
-use Rattle.joiner.specs.declared.Step.TheVariants.{On, Clash}
-use Rattle.joiner.specs.Ahead.{Refusing, Stepped, BothRead, no_offer, offer_of, bytes_of, Differs, Copied, Appended, names_from, Before}
-use Rattle.joiner.specs.Ahead.{AfterTurn, left, Standing, Ahead, Clashed}
+use Rattle.joiner.specs.Ahead.{Surveyed, Step, Answer, offer_of, bytes_of, count_of, hand_of, Alike, Differs, Copied, Appended, names_from, left}
+use Rattle.joiner.specs.Ahead.{Standing, Ahead, Clashed, Stepped, Before, AfterTurn, BothRead, Answered}
 
 -- The next part has the name, or its name is one of those behind.
 among_this : (x : PartName) (ns : List PartName) (y : PartName) (ys : List PartName) → InOrder x ns → same_name x y ≡ true → Among (y ∷ ys) (x ∷ ns)
@@ -79,19 +72,18 @@ among_other x ns y ys e (other r) = r
 among_none : (x : PartName) (ns : List PartName) → Among [] (x ∷ ns) → Among [] ns
 among_none x ns (other r) = r
 
--- Whether a part of the name was taken from a record, or none was there.
-pub data Taking (h : Header) (s : List ℕ) (x : PartName) (hand : Cursor) (r : Offer) : Type 0 where
-  taken : (p : Part) → left h s hand ≡ p ∷ left h s r.hand → name_of p ≡ x → r.place ≡ p.place → 1 ≤ r.count → bytes_of s r ≡ whole_of s p
-      → Taking h s x hand r
-  passed : left h s hand ≡ left h s r.hand → r.count ≡ 0 → Taking h s x hand r
+-- Whether a part of the name was taken from a record: the next one, and it has some bytes.
+abbrev Taking : Header → List ℕ → PartName → Cursor → Option Part → Type 0
+Taking h s x hand None = Unit {0}
+Taking h s x hand (Some p) = (left h s hand ≡ p ∷ left h s (past_of p)) × (name_of p ≡ x) × (1 ≤ p.end - p.place)
 
 -- What a record offers under the next name.
-pub record Offered (h : Header) (s : List ℕ) (x : PartName) (ns : List PartName) (hand : Cursor) (r : Offer) : Type 0 where
+pub record Offered (h : Header) (s : List ℕ) (x : PartName) (ns : List PartName) (hand : Cursor) (r : Option Part) : Type 0 where
   pub bytes : bytes_of s r ≡ part_named s (left h s hand) x
-  pub long : length (bytes_of s r) ≡ r.count
-  pub standing : Standing h s ns r.hand
-  pub same : (y : PartName) → After x y → part_named s (left h s hand) y ≡ part_named s (left h s r.hand) y
-  pub further : hand.place + r.count ≤ r.hand.place
+  pub long : length (bytes_of s r) ≡ count_of r
+  pub standing : Standing h s ns (hand_of hand r)
+  pub same : (y : PartName) → After x y → part_named s (left h s hand) y ≡ part_named s (left h s (hand_of hand r)) y
+  pub further : hand.place + count_of r ≤ (hand_of hand r).place
   pub taking : Taking h s x hand r
 
 module _ (h : Header) (s : List ℕ) (x : PartName) (ns : List PartName) (hand : Cursor) (o : InOrder x ns) (st : Standing h s (x ∷ ns) hand) where
@@ -102,7 +94,7 @@ module _ (h : Header) (s : List ℕ) (x : PartName) (ns : List PartName) (hand :
   behind_all k t = among_all (After x) ns (map name_of (left h s k)) t.among (order_after x ns o)
 
   -- no part of this name
-  offered_none : Among (map name_of (left h s hand)) ns → Offered h s x ns hand (no_offer hand)
+  offered_none : Among (map name_of (left h s hand)) ns → Offered h s x ns hand None
   offered_none r =
       let t : Standing h s ns hand = record { among = r; within = st.within } in
       record {
@@ -111,15 +103,15 @@ module _ (h : Header) (s : List ℕ) (x : PartName) (ns : List PartName) (hand :
         standing = t;
         same = λ y a. refl;
         further = omega arith;
-        taking = passed refl refl;
+        taking = tt;
       }
 
-  offered_end : left h s hand ≡ [] → Offered h s x ns hand (no_offer hand)
+  offered_end : left h s hand ≡ [] → Offered h s x ns hand None
   offered_end e =
       offered_none (subst (λ l. Among (map name_of l) ns) (sym e) (among_none x ns (subst (λ l. Among (map name_of l) (x ∷ ns)) e st.among)))
 
   -- a part, of this name or a later one
-  module _ (p : Part) (e : read_part h s before hand.place ≡ part.Part p) where
+  module _ (p : Part) (e : read_part h s before hand.place ≡ Ok (part.Part p)) where
     abbrev rest : List Part
     rest = (parts_from h s (name_of p) p.end).parts
 
@@ -129,8 +121,7 @@ module _ (h : Header) (s : List ℕ) (x : PartName) (ns : List PartName) (hand :
     there : Among (name_of p ∷ map name_of rest) (x ∷ ns)
     there = subst (λ l. Among (map name_of l) (x ∷ ns)) next st.among
 
-    offered_part : same_name x (name_of p) ≡ true
-        → Offered h s x ns hand (record { place = p.place; count = p.end - p.place; hand = past_of p })
+    offered_part : same_name x (name_of p) ≡ true → Offered h s x ns hand (Some p)
     unfolding part_named whole_of name_of
     offered_part f =
         let q = read_part_stands h s before hand.place p e in
@@ -141,25 +132,25 @@ module _ (h : Header) (s : List ℕ) (x : PartName) (ns : List PartName) (hand :
           standing = record { among = among_this x ns (name_of p) (map name_of rest) o f there; within = q.within };
           same = λ y a. ap (λ l. part_named s l y) next ∙ rw (ap (same_name y) (sym n) ∙ (after_other x y a).0);
           further = omega (arith, q.placed, q.after, q.end);
-          taking = taken p next (sym n) refl (omega (arith, q.placed, q.after, q.end)) refl;
+          taking = (next, sym n, omega (arith, q.placed, q.after, q.end));
         }
 
-    offered_later : same_name x (name_of p) ≡ false → Offered h s x ns hand (no_offer hand)
+    offered_later : same_name x (name_of p) ≡ false → Offered h s x ns hand None
     offered_later f = offered_none (subst (λ l. Among (map name_of l) ns) (sym next) (among_other x ns (name_of p) (map name_of rest) f there))
 
-  pub offered_is : (r : Offer) → r ≡ offer_of hand x (read_part h s before hand.place) → Offered h s x ns hand r
+  pub offered_is : (r : Option Part) → r ≡ offer_of x (read_part h s before hand.place) → Offered h s x ns hand r
   offered_is r e = subst (Offered h s x ns hand) (sym e) (by (read_part h s before hand.place) refl)
     where
-      part_by : (p : Part) → read_part h s before hand.place ≡ part.Part p → (t : Bool) → same_name x (name_of p) ≡ t
-          → Offered h s x ns hand (cond t (record { place = p.place; count = p.end - p.place; hand = past_of p }) (no_offer hand))
+      part_by : (p : Part) → read_part h s before hand.place ≡ Ok (part.Part p) → (t : Bool) → same_name x (name_of p) ≡ t
+          → Offered h s x ns hand (cond t (Some p) None)
       part_by p f true g = offered_part p f g
       part_by p f false g = offered_later p f g
 
-      by : (y : PartRead) → read_part h s before hand.place ≡ y → Offered h s x ns hand (offer_of hand x y)
-      by (part.Part p) f = part_by p f (same_name x (name_of p)) refl
-      by (part.Cut p) f = offered_end (ap (λ (y : Reading). y.parts) (parts_from_cut h s before hand.place p f))
-      by part.Tail f = offered_end (ap (λ (y : Reading). y.parts) (parts_from_tail h s before hand.place f))
-      by (part.Refused q) f = offered_end (ap (λ (y : Reading). y.parts) (parts_from_fault h s before hand.place q f))
+      by : (y : PartRead) → read_part h s before hand.place ≡ y → Offered h s x ns hand (offer_of x y)
+      by (Ok (part.Part p)) f = part_by p f (same_name x (name_of p)) refl
+      by (Ok (part.Cut p)) f = offered_end (ap (λ (y : Reading). y.parts) (parts_from_cut h s before hand.place p f))
+      by (Ok part.Tail) f = offered_end (ap (λ (y : Reading). y.parts) (parts_from_tail h s before hand.place f))
+      by (Err q) f = offered_end (ap (λ (y : Reading). y.parts) (parts_from_fault h s before hand.place q f))
 
 -- Clashes: of a part with parts behind its name there is none, and a part before all others' names clashes with none of them.
 module _ (a b : List ℕ) where
@@ -175,7 +166,7 @@ module _ (a b : List ℕ) where
   clash_skip q qs (p ∷ ps) f y = rw ((after_other (name_of q) (name_of p) f.0).0, clash_skip q qs ps f.1 y)
 
 -- One name, of both records.
-module _ (a b : List ℕ) (h : Header) (x : PartName) (ns : List PartName) (o : InOrder x ns) (one two : Cursor) (mine theirs : Offer)
+module _ (a b : List ℕ) (h : Header) (x : PartName) (ns : List PartName) (o : InOrder x ns) (one two : Cursor) (mine theirs : Option Part)
     (m : Offered h a x ns one mine) (t : Offered h b x ns two theirs) where
   abbrev ps : List Part
   ps = left h a one
@@ -184,10 +175,10 @@ module _ (a b : List ℕ) (h : Header) (x : PartName) (ns : List PartName) (o : 
   qs = left h b two
 
   abbrev ps' : List Part
-  ps' = left h a mine.hand
+  ps' = left h a (hand_of one mine)
 
   abbrev qs' : List Part
-  qs' = left h b theirs.hand
+  qs' = left h b (hand_of two theirs)
 
   after_mine : All (After x) (map name_of ps')
   after_mine = among_all (After x) ns (map name_of ps') m.standing.among (order_after x ns o)
@@ -196,40 +187,42 @@ module _ (a b : List ℕ) (h : Header) (x : PartName) (ns : List PartName) (o : 
   after_theirs = among_all (After x) ns (map name_of qs') t.standing.among (order_after x ns o)
 
   -- No clash there: they go on behind it.
-  goes_on : {X : Type 0} → (1 ≤ mine.count → 1 ≤ theirs.count → bytes_of a mine ≡ bytes_of b theirs) → (y : Result X)
-      → unless_clash a ps b qs y ≡ unless_clash a ps' b qs' y
-  unfolding unless_clash unless All
-  goes_on {X} same y = by m.taking t.taking
+  goes_on : {X : Type 0} → Alike a mine b theirs → (y : Result X) → unless_clash a ps b qs y ≡ unless_clash a ps' b qs' y
+  unfolding unless_clash unless All whole_of
+  goes_on {X} alike y = by mine theirs m.taking t.taking after_mine after_theirs alike
     where
-      by : Taking h a x one mine → Taking h b x two theirs → unless_clash a ps b qs y ≡ unless_clash a ps' b qs' y
-      by (passed e c) (passed f d) = ap₂ (λ l k. unless_clash a l b k y) e f
-      by (passed e c) (taken q f n u l w) =
-          ap₂ (λ l k. unless_clash a l b k y) e f
-          ∙ clash_skip a b q qs' ps' (subst (λ z. All (After z) (map name_of ps')) (sym n) after_mine) y
-      by (taken p e n u l w) (passed f d) =
-          let clear : clashes a b qs' p ≡ false
-          = agrees_clear a b p qs' (clear_behind a b p qs' (subst (λ z. All (After z) (map name_of qs')) (sym n) after_theirs)) in
-          ap₂ (λ l k. unless_clash a l b k y) e f ∙ rw clear
-      by (taken p e n u l w) (taken q f k v i z) =
-          let clear : clashes a b (q ∷ qs') p ≡ false
-          = agrees_clear a b p (q ∷ qs')
-          (λ g. sym w ∙ same l i ∙ z, clear_behind a b p qs' (subst (λ z. All (After z) (map name_of qs')) (sym n) after_theirs)) in
-          ap₂ (λ l k. unless_clash a l b k y) e f ∙ rw clear
-          (clash_skip a b q qs' ps' (subst (λ z. All (After z) (map name_of ps')) (sym k) after_mine) y)
+      by : (u w : Option Part) → Taking h a x one u → Taking h b x two w → All (After x) (map name_of (left h a (hand_of one u)))
+          → All (After x) (map name_of (left h b (hand_of two w))) → Alike a u b w
+          → unless_clash a ps b qs y ≡ unless_clash a (left h a (hand_of one u)) b (left h b (hand_of two w)) y
+      by None None e f k l same = refl
+      by None (Some q) e f k l same =
+          ap (λ l. unless_clash a ps b l y) f.0
+          ∙ clash_skip a b q (left h b (past_of q)) ps (subst (λ z. All (After z) (map name_of ps)) (sym f.1) k) y
+      by (Some p) None e f k l same =
+          let clear : clashes a b qs p ≡ false
+          = agrees_clear a b p qs (clear_behind a b p qs (subst (λ z. All (After z) (map name_of qs)) (sym e.1) l)) in
+          ap (λ l. unless_clash a l b qs y) e.0 ∙ rw clear
+      by (Some p) (Some q) e f k l same =
+          let later = left h a (past_of p) in
+          let others = left h b (past_of q) in
+          let clear : clashes a b (q ∷ others) p ≡ false
+          = agrees_clear a b p (q ∷ others) (λ g. same, clear_behind a b p others (subst (λ z. All (After z) (map name_of others)) (sym e.1) l)) in
+          ap₂ (λ l k. unless_clash a l b k y) e.0 f.0 ∙ rw clear
+          (clash_skip a b q others later (subst (λ z. All (After z) (map name_of later)) (sym f.1) k) y)
 
   -- A clash there.
-  clashes_here : {X : Type 0} → 1 ≤ mine.count → 1 ≤ theirs.count → bytes_of a mine ≢ bytes_of b theirs → (y : Result X)
-      → unless_clash a ps b qs y ≡ refused (refusal.Clash mine.place)
-  unfolding All
-  clashes_here {X} c d differ y = by m.taking t.taking
+  clashes_here : {X : Type 0} (why : Refusal) → Differs a mine b theirs why → (y : Result X) → unless_clash a ps b qs y ≡ refused why
+  unfolding All whole_of
+  clashes_here {X} why differ y = by mine theirs m.taking t.taking differ
     where
-      by : Taking h a x one mine → Taking h b x two theirs → unless_clash a ps b qs y ≡ refused (refusal.Clash mine.place)
-      by (passed e z) u = absurd (omega arith)
-      by (taken p e n u l w) (passed f z) = absurd (omega arith)
-      by (taken p e n u l w) (taken q f k v i z) =
-          ap₂ (λ l k. unless_clash a l b k y) e f
-          ∙ clash_behind a b (q ∷ qs') [] p ps' y tt (λ g. differ (w ∙ g.0 (ap₂ same_name n k ∙ name_same x x refl refl) ∙ sym z))
-          ∙ ap (λ at. refused (refusal.Clash at)) (sym u)
+      by : (u w : Option Part) → Taking h a x one u → Taking h b x two w → Differs a u b w why → unless_clash a ps b qs y ≡ refused why
+      by None w e f d = absurd d
+      by (Some p) None e f d = absurd d
+      by (Some p) (Some q) e f d =
+          ap₂ (λ l k. unless_clash a l b k y) e.0 f.0
+          ∙ clash_behind a b (q ∷ left h b (past_of q)) [] p (left h a (past_of p)) y tt
+          (λ g. d.1 (g.0 (ap₂ same_name e.1 f.1 ∙ name_same x x refl refl)))
+          ∙ ap refused (sym d.0)
 
   -- What is left to write.
   flat_on : flat (joined_part a ps b qs) (x ∷ ns) ≡ or_else (bytes_of a mine) (bytes_of b theirs) ++ flat (joined_part a ps' b qs') ns
@@ -241,8 +234,7 @@ module _ (a b : List ℕ) (h : Header) (x : PartName) (ns : List PartName) (o : 
 
 -- One turn.
 module _ (a b : List ℕ) (h : Header) (room : ℕ) (x : PartName) (ns : List PartName) (j : Joint) (out : List ℕ) (v : Ahead a b h room (x ∷ ns) j out)
-    (mine theirs : Offer) (me : mine ≡ offer_of j.one x (next_of h a j.one))
-    (te : theirs ≡ offer_of j.two x (next_of h b j.two)) where
+    (mine theirs : Option Part) (me : mine ≡ offer_of x (next_of h a j.one)) (te : theirs ≡ offer_of x (next_of h b j.two)) where
   behind : InOrder x ns
   unfolding InOrder
   behind = v.in_order.1
@@ -254,7 +246,7 @@ module _ (a b : List ℕ) (h : Header) (room : ℕ) (x : PartName) (ns : List Pa
   of_second = offered_is h b x ns j.two behind v.two theirs te
 
   -- both fit behind what was written
-  pub fits : (j.written + mine.count < 2 ^ 64) × (j.written + theirs.count < 2 ^ 64)
+  pub fits : (j.written + count_of mine < 2 ^ 64) × (j.written + count_of theirs < 2 ^ 64)
   fits =
       let m = of_first in
       let t = of_second in (
@@ -262,24 +254,26 @@ module _ (a b : List ℕ) (h : Header) (room : ℕ) (x : PartName) (ns : List Pa
         omega (arith, v.small, v.behind, t.further, t.standing.within, v.one.within),
       )
 
-  pub turn_clash : 1 ≤ mine.count → 1 ≤ theirs.count → bytes_of a mine ≢ bytes_of b theirs → Clashed a b room mine.place out
-  turn_clash c d n =
+  pub turn_clash : (why : Refusal) → Differs a mine b theirs why → Clashed a b room why out
+  turn_clash why d =
       record {
-        refuses = v.comes_to ∙ clashes_here a b h x ns behind j.one j.two mine theirs of_first of_second c d n _;
+        refuses = v.comes_to ∙ clashes_here a b h x ns behind j.one j.two mine theirs of_first of_second why d _;
         same = ap length v.holds ∙ clipped_length room v.bytes;
       }
 
   -- what is taken, from either
-  module _ (same : 1 ≤ mine.count → 1 ≤ theirs.count → bytes_of a mine ≡ bytes_of b theirs) (written : ℕ) (out' : List ℕ) where
-    taken_on : (s : List ℕ) (o : Offer) → or_else (bytes_of a mine) (bytes_of b theirs) ≡ bytes_of s o → length (bytes_of s o) ≡ o.count
-        → o.count ≤ mine.count + theirs.count → Copied s o out j.written written out'
-        → Ahead a b h room ns (record { one = mine.hand; two = theirs.hand; written = written }) out'
+  module _ (alike : Alike a mine b theirs) (written : ℕ) (out' : List ℕ) where
+    abbrev onward : Joint
+    onward = record { one = hand_of j.one mine; two = hand_of j.two theirs; written = written }
+
+    taken_on : (s : List ℕ) (o : Option Part) → or_else (bytes_of a mine) (bytes_of b theirs) ≡ bytes_of s o → length (bytes_of s o) ≡ count_of o
+        → count_of o ≤ count_of mine + count_of theirs → Copied s o out j.written written out' → Ahead a b h room ns onward out'
     taken_on s o e l most c =
         let m = of_first in
         let t = of_second in
         let own = bytes_of s o in
-        let ps = left h a mine.hand in
-        let qs = left h b theirs.hand in
+        let ps = left h a (hand_of j.one mine) in
+        let qs = left h b (hand_of j.two theirs) in
         record {
           legal = v.legal;
           small = v.small;
@@ -291,25 +285,27 @@ module _ (a b : List ℕ) (h : Header) (room : ℕ) (x : PartName) (ns : List Pa
           count = length-append v.bytes own ∙ ap₂ ◌+◌ v.count l ∙ sym c.counts;
           behind = omega (arith, v.behind, m.further, t.further, c.counts);
           holds = c.copies ∙ ap₂ (λ (k : List ℕ) (n : ℕ). sets k n own) v.holds (sym v.count) ∙ clipped_append room v.bytes own;
-          comes_to = v.comes_to ∙ goes_on a b h x ns behind j.one j.two mine theirs m t same _
+          comes_to = v.comes_to ∙ goes_on a b h x ns behind j.one j.two mine theirs m t alike _
               ∙ ap (λ l. unless_clash a ps b qs (fitted l room))
               (ap (λ l. v.bytes ++ l)
               (flat_on a b h x ns behind j.one j.two mine theirs m t ∙ ap (λ k. k ++ flat (joined_part a ps b qs) ns) e)
               ∙ sym (append_assoc v.bytes own _));
         }
 
-    pub turn_on : Appended a mine b theirs out j.written written out'
-        → Ahead a b h room ns (record { one = mine.hand; two = theirs.hand; written = written }) out'
+    pub turn_on : Appended a mine b theirs out j.written written out' → Ahead a b h room ns onward out'
     unfolding or_else
-    turn_on c = by (dec_lt 0 mine.count)
+    turn_on c = by mine refl
       where
-        by : Dec (0 < mine.count) → Ahead a b h room ns (record { one = mine.hand; two = theirs.hand; written = written }) out'
-        by (yes l) =
-            taken_on a mine (or_first (bytes_of a mine) (bytes_of b theirs) (omega (arith, of_first.long))) of_first.long (omega arith) (c.first l)
-        by (no l) =
-            let z : mine.count ≡ 0 = omega arith in
-            let e : bytes_of a mine ≡ [] = ap (λ n. take n (drop mine.place a)) z in
-            taken_on b theirs (ap (λ k. or_else k (bytes_of b theirs)) e) of_second.long (omega arith) (c.else z)
+        by : (o : Option Part) → mine ≡ o → Ahead a b h room ns onward out'
+        by (Some p) e =
+            let some = (subst (Taking h a x j.one) e of_first.taking).2 in
+            let l : 1 ≤ length (bytes_of a mine) = omega (arith, of_first.long, ap count_of e, some) in
+            let d : Copied a (Some p) out j.written written out' = subst (λ k. Appended a k b theirs out j.written written out') e c in
+            taken_on a mine (or_first (bytes_of a mine) (bytes_of b theirs) l) of_first.long (omega arith)
+            (subst (λ k. Copied a k out j.written written out') (sym e) d)
+        by None e =
+            taken_on b theirs (ap (λ k. or_else (bytes_of a k) (bytes_of b theirs)) e) of_second.long (omega arith)
+            (subst (λ k. Appended a k b theirs out j.written written out') e c)
 
 -- The same by plane and level.
 names_next : (top n k : ℕ) → 1 ≤ k → names_from top n k ≡ at n k ∷ names_from top n (k - 1)
@@ -317,62 +313,32 @@ unfolding names_from parts_of_plane
 names_next top n zero l = absurd (omega arith)
 names_next top n (suc k) l = let e : k ≡ suc k - 1 = omega arith in ap (λ m. at n (suc k) ∷ names_from top n m) e
 
-pub before_legal : {a b : List ℕ} {h : Header} {plane : Plane} {level : Level} {j : Joint} {out : List ℕ} → Before a b h plane level j out
-    → legal_size h.size ≡ true
-before_legal v = v.ahead.legal
-
-module _ (a b : List ℕ) (h : Header) (plane : Plane) (level : Level) (j : Joint) (out : List ℕ) (v : Before a b h plane level j out) (mine theirs : Offer)
-    (me : mine ≡ offer_of j.one (name_by plane level) (next_of h a j.one))
-    (te : theirs ≡ offer_of j.two (name_by plane level) (next_of h b j.two)) where
+module _ (a b : List ℕ) (h : Header) (plane : Plane) (level : Level) (j : Joint) (out : List ℕ) (v : Before a b h plane level j out)
+    (mine theirs : Option Part) (me : mine ≡ offer_of (name_by plane level) (next_of h a j.one))
+    (te : theirs ≡ offer_of (name_by plane level) (next_of h b j.two)) where
   abbrev behind_it : List PartName
   behind_it = names_from (top_level h) plane.0 (level.0 - 1)
 
   at_it : Ahead a b h (length out) (name_by plane level ∷ behind_it) j out
   at_it = subst (λ ns. Ahead a b h (length out) ns j out) (names_next (top_level h) plane.0 level.0 v.some) v.ahead
 
-  pub turn_fits : (j.written + mine.count < 2 ^ 64) × (j.written + theirs.count < 2 ^ 64)
+  pub turn_fits : (j.written + count_of mine < 2 ^ 64) × (j.written + count_of theirs < 2 ^ 64)
   turn_fits = fits a b h (length out) (name_by plane level) behind_it j out at_it mine theirs me te
 
-  module _ (r : Bool) (d : Differs a mine b theirs r) where
-    pub turn_clashes : r ≡ true → AfterTurn a b h plane level out (Clash mine.place) out
-    unfolding Stepped
-    turn_clashes e =
-        let k = d.told e in
-        turn_clash a b h (length out) (name_by plane level) behind_it j out at_it mine theirs me te k.0 k.1 k.2
+  pub turn_clashes : (why : Refusal) → Differs a mine b theirs why → AfterTurn a b h plane level out (Err why) out
+  unfolding Stepped
+  turn_clashes why d = turn_clash a b h (length out) (name_by plane level) behind_it j out at_it mine theirs me te why d
 
-    pub turn_joins : r ≡ false → (written : ℕ) (out' : List ℕ) → Appended a mine b theirs out j.written written out'
-        → AfterTurn a b h plane level out (On (record { one = mine.hand; two = theirs.hand; written = written })) out'
-    unfolding Stepped
-    turn_joins e written out' c =
-        turn_on a b h (length out) (name_by plane level) behind_it j out at_it mine theirs me te (d.alike e) written out' c
+  pub turn_joins : Alike a mine b theirs → (written : ℕ) (out' : List ℕ) → Appended a mine b theirs out j.written written out'
+      → (one two : Cursor) → one ≡ hand_of j.one mine → two ≡ hand_of j.two theirs
+      → AfterTurn a b h plane level out (Ok (record { one = one; two = two; written = written })) out'
+  unfolding Stepped
+  turn_joins alike written out' c one two e f =
+      rw (e, f) (turn_on a b h (length out) (name_by plane level) behind_it j out at_it mine theirs me te alike written out' c)
 
--- Whether they differ, and what is copied.
-module _ (a : List ℕ) (mine : Offer) (b : List ℕ) (theirs : Offer) where
-  pub none_mine : mine.count ≡ 0 → Differs a mine b theirs false
-  none_mine z = record { told = λ e. absurd (true≢false (sym e)); alike = λ e l m. absurd (omega arith) }
-
-  pub none_theirs : theirs.count ≡ 0 → Differs a mine b theirs false
-  none_theirs z = record { told = λ e. absurd (true≢false (sym e)); alike = λ e l m. absurd (omega arith) }
-
-  pub both_there : mine.count ≢ 0 → theirs.count ≢ 0 → (t : Bool) → (t ≡ true) ↔ (bytes_of a mine ≡ bytes_of b theirs)
-      → Differs a mine b theirs (not t)
-  both_there l m true k = record { told = λ e. absurd (true≢false (sym e)); alike = λ e x y. k.0 refl }
-  both_there l m false k =
-      record {
-        told = λ e. (some mine.count l, some theirs.count m, λ f. true≢false (sym (k.1 f)));
-        alike = λ e x y. absurd (true≢false e);
-      }
-    where
-      some : (n : ℕ) → n ≢ 0 → 1 ≤ n
-      some zero d = absurd (d refl)
-      some (suc n) d = omega arith
-
-  module _ (out : List ℕ) (written : ℕ) (out' : List ℕ) where
-    pub from_second : mine.count ≡ 0 → out' ≡ sets out written (bytes_of b theirs) → Appended a mine b theirs out written (written + theirs.count) out'
-    from_second z e = record { first = λ l. absurd (omega arith); else = λ f. record { counts = refl; copies = e } }
-
-    pub from_first : mine.count ≢ 0 → out' ≡ sets out written (bytes_of a mine) → Appended a mine b theirs out written (written + mine.count) out'
-    from_first z e = record { first = λ l. record { counts = refl; copies = e }; else = λ f. absurd (z f) }
+pub hand_is : (hand : Cursor) (o : Option Part) (r : Cursor) → MatchOption o (r ≡ hand) (λ p. r ≡ past_of p) → r ≡ hand_of hand o
+hand_is hand None r m = m
+hand_is hand (Some p) r m = m
 
 -- From step to step: the room is that of the output, whoever has it.
 module _ (a b : List ℕ) (h : Header) (room : ℕ) (ns : List PartName) (j : Joint) (out : List ℕ) (v : Ahead a b h room ns j out) where
@@ -383,42 +349,28 @@ module _ (a b : List ℕ) (h : Header) (room : ℕ) (ns : List PartName) (j : Jo
     stepped : Stepped a b h room later r out'
     stepped = subst (λ n. Stepped a b h n later r out') ahead_same s
 
-    pub step_on : (k : Joint) → r ≡ On k → Ahead a b h room later k out'
+    pub step_on : (k : Joint) → r ≡ Ok k → Ahead a b h room later k out'
     unfolding Stepped
     step_on k e = subst (λ (q : Step). Stepped a b h room later q out') e stepped
 
-    clashed : (place : ℕ) → r ≡ Clash place → Clashed a b room place out'
+    clashed : (why : Refusal) → r ≡ Err why → Clashed a b room why out'
     unfolding Stepped
-    clashed place e = subst (λ (q : Step). Stepped a b h room later q out') e stepped
+    clashed why e = subst (λ (q : Step). Stepped a b h room later q out') e stepped
 
-    pub step_clash : (place : ℕ) → r ≡ Clash place → (last : List PartName) → Stepped a b h room last (Clash place) out'
+    pub step_clash : (why : Refusal) → r ≡ Err why → (last : List PartName) → Stepped a b h room last (Err why) out'
     unfolding Stepped
-    step_clash place e last = clashed place e
-
-    pub clash_same : (place : ℕ) → r ≡ Clash place → length out' ≡ room
-    clash_same place e = (clashed place e).same
+    step_clash why e last = clashed why e
 
 -- All levels of a plane.
 module _ (a b : List ℕ) (h : Header) (room : ℕ) (plane : Plane) (level : ℕ) (j : Joint) (out : List ℕ)
     (v : Ahead a b h room (names_from (top_level h) plane.0 level) j out) where
-  pub level_before : 0 < level → Before a b h plane (record { 0 = level }) j out
-  level_before l =
-      record { some = l; ahead = subst (λ n. Ahead a b h n (names_from (top_level h) plane.0 level) j out) (sym (ahead_same a b h room _ j out v)) v }
-
-  pub level_last : level ≤ 0 → Stepped a b h room (part_names (top_level h) plane.0) (On j) out
+  pub level_last : level ≤ 0 → Stepped a b h room (part_names (top_level h) plane.0) (Ok j) out
   unfolding Stepped names_from parts_of_plane
   level_last l = let e : level ≡ 0 = omega arith in subst (λ k. Ahead a b h room (names_from (top_level h) plane.0 k) j out) e v
 
 pub few_levels : {a b : List ℕ} {h : Header} {room : ℕ} {ns : List PartName} {j : Joint} {out : List ℕ} → Ahead a b h room ns j out
     → h.size.n + 1 < 2 ^ 64
 few_levels {h = h} v = omega (arith, (legal h.size v.legal).few)
-
-pub level_first : (a b : List ℕ) (h : Header) (room : ℕ) (plane : Plane) (j : Joint) (out : List ℕ)
-    → Ahead a b h room (names_from (top_level h) plane.0 (top_level h)) j out
-    → Ahead a b h room (names_from (top_level h) plane.0 (h.size.n + 1)) j out
-level_first a b h room plane j out v =
-    let e : top_level h ≡ h.size.n + 1 = omega arith in
-    subst (λ k. Ahead a b h room (names_from (top_level h) plane.0 k) j out) e v
 
 -- All planes.
 plane_names : (top n : ℕ) → 0 < n → part_names top n ≡ names_from top (n - 1) top
@@ -432,29 +384,47 @@ module _ (a b : List ℕ) (h : Header) (room n : ℕ) (j : Joint) (out : List �
       subst (λ ns. Ahead a b h (length out) ns j out) (plane_names (top_level h) n l)
       (subst (λ m. Ahead a b h m (part_names (top_level h) n) j out) (sym (ahead_same a b h room _ j out v)) v)
 
-  pub plane_last : n ≤ 0 → Stepped a b h room (part_names (top_level h) 0) (On j) out
+  pub plane_last : n ≤ 0 → Stepped a b h room (part_names (top_level h) 0) (Ok j) out
   unfolding Stepped
   plane_last l = let e : n ≡ 0 = omega arith in subst (λ k. Ahead a b h room (part_names (top_level h) k) j out) e v
 
--- A call as a whole, refused: the output is as long then as it was lent.
-pub refusing : (a b out then : List ℕ) (r : Refusal) (answer : Coded) (out' : List ℕ) → joining a b (length out) ≡ refused r
-    → length then ≡ length out → Refusing r then answer out' → Joining a b out answer out'
-unfolding code_answer code_out
-refusing a b out then r answer out' e l f =
-    record { answers = f.answers ∙ ap code_answer (sym e); writes = f.clears ∙ ap zeros l ∙ ap (code_out (length out)) (sym e) }
+-- A call as a whole, but that the output of a refusal is still to be cleared.
+err_same : {q r : Refusal} → ◌≡◌ {A = Answer} (Err q) (Err r) → q ≡ r
+err_same e = cc
+
+module _ (a b out : List ℕ) where
+  refused_with : (why : Refusal) (then : List ℕ) → length then ≡ length out → joining a b (length out) ≡ refused why → Answered a b out (Err why) then
+  refused_with why then l e =
+      record {
+        same = l;
+        refuses = λ q f. e ∙ ap refused (err_same f);
+        joins = λ n f. absurd (let z : ◌≡◌ {A = ℕ} 0 1 = cc in omega arith);
+      }
+
+  -- Behind it, what was written for a refusal is cleared.
+  module _ (r : Answer) (then : List ℕ) (w : Answered a b out r then) where
+    pub cleared : is_err r ≡ true → (out' : List ℕ) → out' ≡ zeros (length then) → Joining a b out (as_coded r) out'
+    unfolding as_coded code_answer code_out
+    cleared f out' g = by r refl
+      where
+        by : (x : Answer) → r ≡ x → Joining a b out (as_coded r) out'
+        by (Ok n) h = absurd (true≢false (sym f ∙ ap is_err h))
+        by (Err why) h =
+            let e = w.refuses why h in
+            record { answers = rw (h, e); writes = g ∙ ap zeros w.same ∙ ap (code_out (length out)) (sym e) }
 
 -- The beginning: two records that were read, and whether their headers are the same.
 module _ (a b : List ℕ) (h g : Header) (r : BothRead a b h g) (t : Bool) (k : (t ≡ true) ↔ (take h.end (drop 0 a) ≡ take g.end (drop 0 b))) where
-  pub mixed : not t ≡ true → (out : List ℕ) (answer : Coded) (out' : List ℕ) → Refusing refusal.Mixed out answer out' → Joining a b out answer out'
+  pub mixed : t ≡ false → (out : List ℕ) → Answered a b out (Err refusal.Mixed) out
   unfolding unless
-  mixed e out answer out' f =
+  mixed e out =
       let unlike : same_bytes (take h.end a) (take g.end b) ≡ false
-      = not_test _ (λ u. true≢false (sym e ∙ ap not (k.1 (same_bytes_lem _ _ u)))) in
-      refusing a b out out refusal.Mixed answer out' (joining_read r.one r.two (length out) ∙ rw unlike) refl f
+      = not_test _ (λ u. true≢false (sym (k.1 (same_bytes_lem _ _ u)) ∙ e)) in
+      refused_with a b out refusal.Mixed out refl (joining_read r.one r.two (length out) ∙ rw unlike)
 
-  module _ (e : not t ≡ false) where
+  module _ (e : t ≡ true) where
     front : take h.end a ≡ take g.end b
-    front = k.0 (not-false t e)
+    front = k.0 e
 
     one_head : g ≡ h
     one_head = sym (same_header r.one r.two front)
@@ -515,14 +485,13 @@ nothing_left (p ∷ ps) e = absurd (let z : ◌≡◌ {A = ℕ} 0 1 = cc in omeg
 
 module _ (a b : List ℕ) (h : Header) (lent : List ℕ) (room : ℕ) (r : Step) (out : List ℕ)
     (s : Stepped a b h room (part_names (top_level h) 0) r out) (long : room ≡ length lent) where
-  pub ended_clash : (place : ℕ) → r ≡ Clash place → (answer : Coded) (out' : List ℕ) → Refusing (refusal.Clash place) out answer out'
-      → Joining a b lent answer out'
+  pub ended_clash : (why : Refusal) → r ≡ Err why → Answered a b lent (Err why) out
   unfolding Stepped
-  ended_clash place e answer out' f =
-      let c : Clashed a b room place out = subst (λ (q : Step). Stepped a b h room (part_names (top_level h) 0) q out) e s in
-      refusing a b lent out (refusal.Clash place) answer out' (ap (joining a b) (sym long) ∙ c.refuses) (c.same ∙ long) f
+  ended_clash why e =
+      let c : Clashed a b room why out = subst (λ (q : Step). Stepped a b h room (part_names (top_level h) 0) q out) e s in
+      refused_with a b lent why out (c.same ∙ long) (ap (joining a b) (sym long) ∙ c.refuses)
 
-  module _ (j : Joint) (e : r ≡ On j) where
+  module _ (j : Joint) (e : r ≡ Ok j) where
     last : Ahead a b h room [] j out
     unfolding Stepped part_names
     last = subst (λ (q : Step). Stepped a b h room [] q out) e s
@@ -538,20 +507,25 @@ module _ (a b : List ℕ) (h : Header) (lent : List ℕ) (room : ℕ) (r : Step)
     as_lent : length out ≡ length lent
     as_lent = ahead_same a b h room [] j out last ∙ long
 
-    pub ended_short : length out < j.written → (answer : Coded) (out' : List ℕ) → Refusing refusal.Room out answer out' → Joining a b lent answer out'
+    pub ended_short : length out < j.written → Answered a b lent (Err refusal.Room) out
     unfolding fitted unless
-    ended_short l answer out' f =
+    ended_short l =
         let m : length lent < length last.bytes = omega (arith, last.count, as_lent) in
-        refusing a b lent out refusal.Room answer out' (comes_to_fitted ∙ rw (lt-leb (length last.bytes) (length lent) m)) as_lent f
+        refused_with a b lent refusal.Room out as_lent (comes_to_fitted ∙ rw (lt-leb (length last.bytes) (length lent) m))
 
-    pub ended_joined : j.written ≤ length out → Joining a b lent (record { verdict = Accepted; length = j.written }) out
-    unfolding fitted unless code_answer code_out
+    pub ended_joined : j.written ≤ length out → Answered a b lent (Ok j.written) out
+    unfolding fitted unless code_answer code_out as_coded
     ended_joined l =
         let m : length last.bytes ≤ length lent = omega (arith, last.count, as_lent) in
         let f : joining a b (length lent) ≡ accepted last.bytes = comes_to_fitted ∙ rw (le-leb (length last.bytes) (length lent) m) in
         record {
-          answers = ap (λ n. record { verdict = Accepted; length = n }) (sym last.count) ∙ ap code_answer (sym f);
-          writes = last.holds ∙ ap (λ n. clipped n last.bytes) long ∙ clipped_fits (length lent) last.bytes m ∙ ap (code_out (length lent)) (sym f);
+          same = as_lent;
+          refuses = λ why g. absurd (let z : ◌≡◌ {A = ℕ} 0 1 = cc in omega arith);
+          joins = λ n g.
+              record {
+                answers = ap (λ n. record { verdict = Accepted; length = n }) (sym last.count) ∙ ap code_answer (sym f);
+                writes = last.holds ∙ ap (λ n. clipped n last.bytes) long ∙ clipped_fits (length lent) last.bytes m ∙ ap (code_out (length lent)) (sym f);
+              };
         }
 
 -- What a survey says of a record.
@@ -577,70 +551,27 @@ surveyed_refused s go r =
     accepted_refused : Accepted ≡ Refused r → ⊥
     accepted_refused e = let z : ◌≡◌ {A = ℕ} 0 1 = cc in omega arith
 
-module _ (a b : List ℕ) (v : Survey) (e : v ≡ survey_of a) where
-  pub first_refused : (r : Refusal) → v.verdict ≡ Refused r → (out : List ℕ) (answer : Coded) (out' : List ℕ) → Refusing r out answer out'
-      → Joining a b out answer out'
-  unfolding joining
-  first_refused r f out answer out' d =
-      refusing a b out out r answer out' (surveyed_refused a _ r (ap (λ (x : Survey). x.verdict) (sym e) ∙ f)) refl d
+-- Two surveys: the first refused, the second, or neither.
+module _ (a b : List ℕ) (v : Surveyed) (e : as_survey v ≡ survey_of a) where
+  pub first_refused : (why : Refusal) → v ≡ Err why → (out : List ℕ) → Answered a b out (Err why) out
+  unfolding joining as_survey
+  first_refused why f out = refused_with a b out why out refl (surveyed_refused a _ why (ap (λ (x : Survey). x.verdict) (sym e ∙ ap as_survey f)))
 
-  module _ (f : v.verdict ≡ Accepted) (w : Survey) (g : w ≡ survey_of b) where
-    first_read : Readable a v.header
-    first_read = subst (λ (x : Survey). x.verdict ≡ Accepted → Readable a x.header) (sym e) (surveyed_read a) f
+  module _ (one : Contents) (f : v ≡ Ok one) (w : Surveyed) (g : as_survey w ≡ survey_of b) where
+    first_read : Readable a one.header
+    unfolding as_survey
+    first_read =
+        let same : as_survey (Ok one) ≡ survey_of a = ap as_survey (sym f) ∙ e in
+        subst (λ (x : Survey). x.verdict ≡ Accepted → Readable a x.header) (sym same) (surveyed_read a) refl
 
-    pub second_refused : (r : Refusal) → w.verdict ≡ Refused r → (out : List ℕ) (answer : Coded) (out' : List ℕ) → Refusing r out answer out'
-        → Joining a b out answer out'
-    unfolding joining
-    second_refused r k out answer out' d =
-        refusing a b out out r answer out'
-        (on_record_readable a _ v.header first_read ∙ surveyed_refused b _ r (ap (λ (x : Survey). x.verdict) (sym g) ∙ k)) refl d
+    pub second_refused : (why : Refusal) → w ≡ Err why → (out : List ℕ) → Answered a b out (Err why) out
+    unfolding joining as_survey
+    second_refused why k out =
+        refused_with a b out why out refl
+        (on_record_readable a _ one.header first_read ∙ surveyed_refused b _ why (ap (λ (x : Survey). x.verdict) (sym g ∙ ap as_survey k)))
 
-    pub both_read : w.verdict ≡ Accepted → BothRead a b v.header w.header
-    both_read k =
-        record { one = first_read; two = subst (λ (x : Survey). x.verdict ≡ Accepted → Readable b x.header) (sym g) (surveyed_read b) k }
-
--- a tail, a part that is cut, or a fault
-abbrev NoPart : PartRead → Type 0
-NoPart r = OneOf (2 ∷ 1 ∷ 3 ∷ []) (tag_of the_type r)
-
--- What is read, part or none, as it is offered.
-module _ (h : Header) (s : List ℕ) (hand : Cursor) (plane : Plane) (level : Level) (r : PartRead)
-    (e : r ≡ next_of h s hand) where
-  abbrev expected : Offer
-  expected = offer_of hand (name_by plane level) (next_of h s hand)
-
-  offers : (y : PartRead) → r ≡ y → (o : Offer) → o ≡ offer_of hand (name_by plane level) y → o ≡ expected
-  offers y f o g = g ∙ ap (offer_of hand (name_by plane level)) (sym f ∙ e)
-
-  pub offers_none : NoPart r → (o : Offer) → o ≡ no_offer hand → o ≡ expected
-  offers_none d o g = cases r refl d
-    where
-      cases : (y : PartRead) → r ≡ y → NoPart y → o ≡ expected
-      cases (part.Part p) f (inl d) = absurd (omega arith)
-      cases (part.Part p) f (inr (inl d)) = absurd (omega arith)
-      cases (part.Part p) f (inr (inr d)) = absurd (omega arith)
-      cases (part.Cut p) f d = offers (part.Cut p) f o g
-      cases part.Tail f d = offers part.Tail f o g
-      cases (part.Refused q) f d = offers (part.Refused q) f o g
-
-  module _ (p : Part) (f : r ≡ part.Part p) where
-    pub offers_ordered : p.place ≤ p.end
-    offers_ordered = let q = read_part_stands h s (named hand.before) hand.place p (sym e ∙ f) in omega (arith, q.placed, q.after, q.end)
-
-    other_name : same_name (name_by plane level) (name_of p) ≡ false → (o : Offer) → o ≡ no_offer hand → o ≡ expected
-    other_name d o g = offers (part.Part p) f o (g ∙ rw d)
-
-    pub offers_plane : p.plane.0 ≢ plane.0 → (o : Offer) → o ≡ no_offer hand → o ≡ expected
-    unfolding same_name name_of
-    offers_plane d = other_name (rw (ne_eqb plane.0 p.plane.0 (λ g. d (sym g))))
-
-    pub offers_level : p.plane.0 ≡ plane.0 → p.level.0 ≢ level.0 → (o : Offer) → o ≡ no_offer hand → o ≡ expected
-    unfolding same_name name_of
-    offers_level n d = other_name (rw (eq-eqb plane.0 p.plane.0 (sym n), ne_eqb level.0 p.level.0 (λ g. d (sym g))))
-
-    pub offers_part : p.plane.0 ≡ plane.0 → p.level.0 ≡ level.0 → (next : Cursor) → next ≡ past_of p
-        → record { place = p.place; count = p.end - p.place; hand = next } ≡ expected
-    unfolding same_name name_of
-    offers_part n k next g =
-        ap (λ (x : Cursor). record { place = p.place; count = p.end - p.place; hand = x }) g
-        ∙ offers (part.Part p) f _ (rw (eq-eqb plane.0 p.plane.0 (sym n), eq-eqb level.0 p.level.0 (sym k)))
+    pub both_read : (two : Contents) → w ≡ Ok two → BothRead a b one.header two.header
+    unfolding as_survey
+    both_read two k =
+        let same : as_survey (Ok two) ≡ survey_of b = ap as_survey (sym k) ∙ g in
+        record { one = first_read; two = subst (λ (x : Survey). x.verdict ≡ Accepted → Readable b x.header) (sym same) (surveyed_read b) refl }

@@ -1,66 +1,82 @@
 -- What the pieces of joining leave, and what is ahead on the way: at each name, what is left to do is what was to do.
-use Rattle.std.specs.Prelude.{◌≡◌, List, ◌++◌, map, Bool, true, false, cond, ◌≢◌, ℕ, ◌+◌, ◌-◌, ◌^◌, ◌≤◌, ◌<◌, length, take, drop}
+use Rattle.std.specs.Prelude.{◌≡◌, List, [], ◌++◌, map, cond, ◌≢◌, ℕ, ◌+◌, ◌-◌, ◌^◌, ◌≤◌, ◌<◌, length, take, drop}
+use Rattle.std.specs.Prelude.{true, Option, Some, None, Result, Ok, Err}
 use Rattle.std.proofs.lemmas.List.Edits.{sets}
 use Rattle.rules.specs.declared.Refusal.{Refusal}
 use Rattle.rules.specs.declared.Refusal.TheVariants as refusal
-use Rattle.rules.specs.declared.Verdict.TheVariants.{Refused}
-use Rattle.rules.specs.declared.Coded.{Coded}
 use Rattle.rules.specs.declared.Header.{Header}
 use Rattle.rules.specs.declared.Plane.{Plane}
 use Rattle.rules.specs.declared.Level.{Level}
 use Rattle.rules.specs.declared.Part.{Part}
-use Rattle.rules.specs.declared.PartRead.{PartRead}
-use Rattle.rules.specs.declared.PartRead.TheVariants as part
-use Rattle.rules.specs.Document.Notation.{flat, zeros}
+use Rattle.rules.specs.declared.Piece.TheVariants as part
+use Rattle.rules.specs.Document.Numbers.{PartRead, top_level}
+use Rattle.rules.specs.Document.Notation.{flat}
 use Rattle.rules.specs.Document.Pyramid.{legal_size}
-use Rattle.rules.specs.Document.Numbers.{top_level}
 use Rattle.rules.specs.Document.Passes.{PartName, parts_of_plane, part_names}
 use Rattle.rules.specs.Document.Layout.{name_of, same_name}
 use Rattle.rules.specs.Document.Calls.{refused, fitted}
+use Rattle.rules.specs.Document.Answers.{as_coded}
 use Rattle.rules.specs.Laws.Reading.Parts.{InOrder}
 use Rattle.rules.specs.Laws.Reading.Walk.{parts_from}
 use Rattle.rules.specs.Laws.Bytes.Output.{clipped}
 use Rattle.record.specs.Named.{named}
-use Rattle.joins.specs.Document.Joining.{joined_part, unless_clash, joining}
+use Rattle.joins.specs.Document.Joining.{joined_part, unless_clash, joining, Joining}
 use Rattle.joins.specs.Laws.ByName.{Among}
 use Rattle.joins.specs.Laws.Joined.{Readable}
 use Rattle.record.specs.declared.walk.Cursor.{Cursor}
 use Rattle.record.specs.Walk.{past_of}
-use Rattle.joiner.specs.declared.Offer.{Offer}
+use Rattle.survey.specs.declared.Contents.{Contents}
 use Rattle.joiner.specs.declared.Joint.{Joint}
-use Rattle.joiner.specs.declared.Step.{Step}
-use Rattle.joiner.specs.declared.Step.TheVariants.{On, Clash}
 
-pub record Refusing (r : Refusal) (out : List ℕ) (answer : Coded) (out' : List ℕ) : Type 0 where
-  pub answers : answer ≡ record { verdict = Refused r; length = 0 }
-  pub clears : out' ≡ zeros (length out)
+-- what a survey hands back, one turn, and joining
+abbrev pub Surveyed : Type 0
+Surveyed = Result Contents Refusal
+
+abbrev pub Step : Type 0
+Step = Result Joint Refusal
+
+abbrev pub Answer : Type 0
+Answer = Result ℕ Refusal
 
 -- what is offered under a name by the part that was read
-abbrev pub no_offer : Cursor → Offer
-no_offer hand = record { place = 0; count = 0; hand = hand }
+abbrev pub offer_of : PartName → PartRead → Option Part
+offer_of x (Ok (part.Part p)) = cond (same_name x (name_of p)) (Some p) None
+offer_of x (Ok (part.Cut p)) = None
+offer_of x (Ok part.Tail) = None
+offer_of x (Err r) = None
 
-abbrev pub offer_of : Cursor → PartName → PartRead → Offer
-offer_of hand x (part.Part p) =
-    cond (same_name x (name_of p)) (record { place = p.place; count = p.end - p.place; hand = past_of p }) (no_offer hand)
-offer_of hand x (part.Cut p) = no_offer hand
-offer_of hand x part.Tail = no_offer hand
-offer_of hand x (part.Refused r) = no_offer hand
+-- its bytes, how many they are, and where the record is read on
+abbrev pub bytes_of : List ℕ → Option Part → List ℕ
+bytes_of s None = []
+bytes_of s (Some p) = take (p.end - p.place) (drop p.place s)
 
-abbrev pub bytes_of : List ℕ → Offer → List ℕ
-bytes_of s o = take o.count (drop o.place s)
+abbrev pub count_of : Option Part → ℕ
+count_of None = 0
+count_of (Some p) = p.end - p.place
 
--- both records have a part of the name, and not the same; or not
-pub record Differs (a : List ℕ) (mine : Offer) (b : List ℕ) (theirs : Offer) (r : Bool) : Type 0 where
-  pub told : r ≡ true → (1 ≤ mine.count) × (1 ≤ theirs.count) × (bytes_of a mine ≢ bytes_of b theirs)
-  pub alike : r ≡ false → 1 ≤ mine.count → 1 ≤ theirs.count → bytes_of a mine ≡ bytes_of b theirs
+abbrev pub hand_of : Cursor → Option Part → Cursor
+hand_of hand None = hand
+hand_of hand (Some p) = past_of p
 
-pub record Copied (s : List ℕ) (o : Offer) (out : List ℕ) (written r : ℕ) (out' : List ℕ) : Type 0 where
-  pub counts : r ≡ written + o.count
+-- A part that both records have is the same in both, or not, which is told at its place in the first.
+abbrev pub Alike : List ℕ → Option Part → List ℕ → Option Part → Type 0
+Alike a None b theirs = Unit {0}
+Alike a (Some p) b None = Unit {0}
+Alike a (Some p) b (Some q) = bytes_of a (Some p) ≡ bytes_of b (Some q)
+
+abbrev pub Differs : List ℕ → Option Part → List ℕ → Option Part → Refusal → Type 0
+Differs a None b theirs why = ⊥
+Differs a (Some p) b None why = ⊥
+Differs a (Some p) b (Some q) why = (why ≡ refusal.Clash p.place) × (bytes_of a (Some p) ≢ bytes_of b (Some q))
+
+pub record Copied (s : List ℕ) (o : Option Part) (out : List ℕ) (written r : ℕ) (out' : List ℕ) : Type 0 where
+  pub counts : r ≡ written + count_of o
   pub copies : out' ≡ sets out written (bytes_of s o)
 
-pub record Appended (a : List ℕ) (mine : Offer) (b : List ℕ) (theirs : Offer) (out : List ℕ) (written r : ℕ) (out' : List ℕ) : Type 0 where
-  pub first : 1 ≤ mine.count → Copied a mine out written r out'
-  pub else : mine.count ≡ 0 → Copied b theirs out written r out'
+-- the first record's part, else the second's
+abbrev pub Appended : List ℕ → Option Part → List ℕ → Option Part → List ℕ → ℕ → ℕ → List ℕ → Type 0
+Appended a None b theirs out written r out' = Copied b theirs out written r out'
+Appended a (Some p) b theirs out written r out' = Copied a (Some p) out written r out'
 
 -- the names from level k of plane n on
 unfoldable pub names_from : ℕ → ℕ → ℕ → List PartName
@@ -91,13 +107,13 @@ pub record Ahead (a b : List ℕ) (h : Header) (room : ℕ) (ns : List PartName)
       ≡ unless_clash a (left h a j.one) b (left h b j.two)
       (fitted (bytes ++ flat (joined_part a (left h a j.one) b (left h b j.two)) ns) room)
 
-pub record Clashed (a b : List ℕ) (room at : ℕ) (out : List ℕ) : Type 0 where
-  pub refuses : joining a b room ≡ refused (refusal.Clash at)
+pub record Clashed (a b : List ℕ) (room : ℕ) (why : Refusal) (out : List ℕ) : Type 0 where
+  pub refuses : joining a b room ≡ refused why
   pub same : length out ≡ room
 
 unfoldable pub Stepped : List ℕ → List ℕ → Header → ℕ → List PartName → Step → List ℕ → Type 0
-Stepped a b h room ns (On j) out = Ahead a b h room ns j out
-Stepped a b h room ns (Clash at) out = Clashed a b room at out
+Stepped a b h room ns (Ok j) out = Ahead a b h room ns j out
+Stepped a b h room ns (Err why) out = Clashed a b room why out
 
 -- before a name's turn, and after it
 pub record Before (a b : List ℕ) (h : Header) (plane : Plane) (level : Level) (j : Joint) (out : List ℕ) : Type 0 where
@@ -118,3 +134,9 @@ AfterPlane a b h n out r out' = Stepped a b h (length out) (part_names (top_leve
 pub record BothRead (a b : List ℕ) (h g : Header) : Type 0 where
   pub one : Readable a h
   pub two : Readable b g
+
+-- Joining, but that the output of a refusal is still to be cleared.
+pub record Answered (a b out : List ℕ) (r : Answer) (out' : List ℕ) : Type 0 where
+  pub same : length out' ≡ length out
+  pub refuses : (why : Refusal) → r ≡ Err why → joining a b (length out) ≡ refused why
+  pub joins : (n : ℕ) → r ≡ Ok n → Joining a b out (as_coded r) out'

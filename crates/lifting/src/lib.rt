@@ -17,7 +17,8 @@ ghost use Rattle.lifting.specs.Pictures.{Splitting, Split, Joining, Joined};
 
 use rules::Size;
 
-const BIAS: u32 = 1 << 28;
+// A number v stands in the workspace as its tone, v + 2^28.
+pub const BIAS: u32 = 1 << 28;
 
 // A turn: half the sides of its block, the width of a row of the pyramid, and where in the workspace the lines stand.
 #[derive(Clone, Copy)]

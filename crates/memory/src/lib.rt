@@ -4,98 +4,78 @@
 ghost use Rattle.std.specs.Prelude.{◌≡◌, true, ◌↔◌, ◌+◌, ◌-◌, min, length, replicate, take, drop, pos};
 ghost use Rattle.std.proofs.lemmas.List.Edits.{sets};
 
-pub fn zero_u8(s: &mut [u8])
-    ensures { s.new ≡ replicate (length s.old) 0 }
+// A number that lent memory is made of, and the one that it is cleared to.
+pub trait Word: Copy {
+    ghost ZERO: { Self };
+
+    const ZERO: Self;
+}
+
+impl Word for u8 {
+    ghost ZERO = { 0 };
+
+    const ZERO: u8 = 0;
+}
+
+impl Word for u32 {
+    ghost ZERO = { 0 };
+
+    const ZERO: u32 = 0;
+}
+
+impl Word for u64 {
+    ghost ZERO = { 0 };
+
+    const ZERO: u64 = 0;
+}
+
+impl Word for i32 {
+    ghost ZERO = { pos 0 };
+
+    const ZERO: i32 = 0;
+}
+
+pub fn zero<T: Word>(s: &mut [T])
+    ensures { s.new ≡ replicate (length s.old) T.ZERO }
 {
-    let mut i = 0;
-    while i < s.len() {
-        s[i] = 0u8;
-        i += 1;
+    for i in 0..s.len() {
+        s[i] = T::ZERO;
     }
 }
 
-pub fn zero_u32(s: &mut [u32])
-    ensures { s.new ≡ replicate (length s.old) 0 }
+// The `count` bytes from `start` on, as far as they are there.
+fn stretch(bytes: &[u8], start: usize, count: usize) -> &[u8]
+    ensures { result.now ≡ take count (drop start bytes.now) }
 {
-    let mut i = 0;
-    while i < s.len() {
-        s[i] = 0u32;
-        i += 1;
-    }
-}
-
-pub fn zero_u64(s: &mut [u64])
-    ensures { s.new ≡ replicate (length s.old) 0 }
-{
-    let mut i = 0;
-    while i < s.len() {
-        s[i] = 0u64;
-        i += 1;
-    }
-}
-
-pub fn zero_i32(s: &mut [i32])
-    ensures { s.new ≡ replicate (length s.old) (pos 0) }
-{
-    let mut i = 0;
-    while i < s.len() {
-        s[i] = 0i32;
-        i += 1;
-    }
-}
-
-fn lesser(a: usize, b: usize) -> usize
-    ensures { result ≡ min a b }
-{
-    if a < b { a } else { b }
-}
-
-// How many places of a slice of this length lie from `at` on.
-fn places_from(at: usize, length: usize) -> usize
-    ensures { result ≡ length - at }
-{
-    if at < length { length - at } else { 0 }
+    let from = start.min(bytes.len());
+    let to = from + count.min(bytes.len() - from);
+    &bytes[from..to]
 }
 
 // The `count` bytes of `from` at `start` are copied to `to`, from `at` on.
 pub fn copy(from: &[u8], start: usize, count: usize, to: &mut [u8], at: usize)
     ensures { to.new ≡ sets to.old at (take count (drop start from.now)) }
 {
-    let there = lesser(count, places_from(start, from.len()));
-    let fitting = lesser(there, places_from(at, to.len()));
-    let mut i = 0;
-    while i < fitting {
-        to[at + i] = from[start + i];
-        i += 1;
-    }
+    let bytes = stretch(from, start, count);
+    let first = at.min(to.len());
+    let fitting = bytes.len().min(to.len() - first);
+    to[first..first + fitting].copy_from_slice(&bytes[..fitting]);
 }
 
-// Whether the `count` bytes of `a` at `start` are the same as the `many` bytes of `b` at `from`.
+// Whether the `count` bytes of `one` at `start` are the same as the `many` bytes of `other` at `from`.
 pub fn same(one: &[u8], start: usize, count: usize, other: &[u8], from: usize, many: usize) -> bool
     ensures { (result ≡ true) ↔ (take count (drop start one.now) ≡ take many (drop from other.now)) }
 {
-    let there = lesser(count, places_from(start, one.len()));
-    let others = lesser(many, places_from(from, other.len()));
-    if there != others {
-        return false;
-    }
-    let mut i = 0;
-    while i < there {
-        if one[start + i] != other[from + i] {
-            return false;
-        }
-        i += 1;
-    }
-    true
+    stretch(one, start, count) == stretch(other, from, many)
 }
 
-// The `count` bytes at `start` move `by` places to the right, the last one first: they may lie over their new place.
+// The `count` bytes at `start` move `by` places to the right; they may lie over their new place.
 pub fn move_right(bytes: &mut [u8], start: usize, count: usize, by: usize)
     ensures { bytes.new ≡ sets bytes.old (start + by) (take count (drop start bytes.old)) }
 {
-    let mut i = lesser(count, places_from(by, places_from(start, bytes.len())));
-    while 0 < i {
-        i -= 1;
-        bytes[start + by + i] = bytes[start + i];
+    let room = bytes.len().saturating_sub(start).saturating_sub(by);
+    let fitting = count.min(room);
+    if 0 < fitting {
+        bytes.copy_within(start..start + fitting, start + by);
     }
 }

@@ -2,18 +2,18 @@
 use mathlib.Core.Path.{◌≡◌, refl, ap, sym, ◌∙◌, subst}
 use mathlib.Core.List.{List, [], ◌∷◌}
 use mathlib.Core.Bool.{Bool, true, false, cond, not, true≢false, and-false}
-use Prim.Native.Nat.{ℕ, zero, suc, ◌+◌, ◌-◌, ◌*◌, ◌/◌, ◌≤◌, ◌<◌}
-use native.Mathlib.Nat.{le-div_iff_mul-le, mul-le-mul, mul_comm}
+use Prim.Native.Nat.{ℕ, zero, suc, ◌+◌, ◌-◌, ◌*◌, ◌≤◌, ◌<◌}
+use native.Mathlib.Nat.{mul-le-mul, mul_comm}
 use native.Mathlib.Numerals.{add-one}
 use native.Mathlib.Omega.{arith}
 use native.Mathlib.Decide.{dec_le}
 use lib.Dec.{leb, eqb}
 use lib.ListN.{length, get_or, drop, drop_of_length-le, get_or-eq_default}
 use lib.Seq.{drop-cons, drop-drop}
-use borrow.Author.Tests.{leb-true, leb-false, le-leb, lt-leb, eq-eqb, ne_eqb}
-use Rattle.rules.proofs.Laws.Counting.Booleans.{clash, both_left, both_right, same_test}
-use Rattle.pictures.specs.declared.Grey.{Grey}
-use Rattle.pictures.specs.declared.Grey.TheVariants.{Picture, NotGrey}
+use borrow.Author.Tests.{leb-true, leb-false, eq-eqb, ne_eqb}
+use Rattle.rules.proofs.Laws.Counting.Booleans.{both_right}
+use Rattle.std.specs.Prelude.{Option, Some, None}
+use Rattle.pictures.specs.declared.Picture.{Picture}
 use Rattle.pictures.specs.Document.Netpbm.{line_end, blank, hash, gap_byte, digit, begins, after_comment, after_blanks, after_gap}
 use Rattle.pictures.specs.Document.Netpbm.{number, GreyHeader, no_header}
 use Rattle.pictures.specs.Document.Netpbm.{header, is_p5, on_magic, on_number, last_blank, on_end, greatest_pixel, read_grey, greatest_told, told}
@@ -21,64 +21,8 @@ use Rattle.pictures.specs.Laws.GreyCauses.{no_more}
 use Rattle.pictures.specs.Laws.GreyCauses.Gap.{a_blank}
 use Rattle.pictures.proofs.Laws.GreyCases.{end_blank, gap_passed}
 use Rattle.netpbm.specs.declared.Digits.{Digits}
-use Rattle.netpbm.specs.declared.Field.{Field}
-use Rattle.netpbm.specs.declared.Field.TheVariants.{Number, Missing}
 use Rattle.netpbm.specs.Told.{Tells, no_header_lem, too_short, all_there}
 use Rattle.netpbm.specs.Places.{Moved, DigitsAt, FieldAt, missing, there, EndTold, GreatestTold}
-
--- Tests of bytes.
-module _ (b : ℕ) where
-  pub ends_lf : b ≡ 10 → true ≡ line_end b
-  unfolding line_end
-  ends_lf e = rw (eq-eqb b 10 e)
-
-  pub ends_cr : ¬ (b ≡ 10) → eqb b 13 ≡ line_end b
-  unfolding line_end
-  ends_cr n = rw (ne_eqb b 10 n)
-
-  pub blank_end : {x : Bool} → x ≡ line_end b → x ≡ true → true ≡ blank b
-  unfolding blank
-  blank_end e y = rw (sym e ∙ y)
-
-  pub blank_space : {x : Bool} → x ≡ line_end b → x ≡ false → b ≡ 32 → true ≡ blank b
-  unfolding blank
-  blank_space e n q = rw (sym e ∙ n, eq-eqb b 32 q)
-
-  pub blank_tab : {x : Bool} → x ≡ line_end b → x ≡ false → ¬ (b ≡ 32) → eqb b 9 ≡ blank b
-  unfolding blank
-  blank_tab e n q = rw (sym e ∙ n, ne_eqb b 32 q)
-
-  pub gap_of_blank : {x : Bool} → x ≡ blank b → x ≡ true → true ≡ gap_byte b
-  unfolding gap_byte
-  gap_of_blank e y = rw (sym e ∙ y)
-
-  pub gap_of_hash : {x : Bool} → x ≡ blank b → x ≡ false → eqb b hash ≡ gap_byte b
-  unfolding gap_byte
-  gap_of_hash e n = rw (sym e ∙ n)
-
-  pub digit_under : b < 48 → false ≡ digit b
-  unfolding digit
-  digit_under l = rw (lt-leb 48 b l)
-
-  pub digit_upto : 48 ≤ b → leb b 57 ≡ digit b
-  unfolding digit
-  digit_upto l = rw (le-leb 48 b l)
-
-  pub digit_least : digit b ≡ true → 48 ≤ b
-  unfolding digit
-  digit_least e = leb-true 48 b (both_left _ _ e)
-
-  pub digit_most : digit b ≡ true → b ≤ 57
-  unfolding digit
-  digit_most e = leb-true b 57 (both_right (leb 48 b) _ e)
-
-pub p5_first : (s : List ℕ) {a : ℕ} → a ≡ get_or s 0 0 → ¬ (a ≡ 80) → false ≡ is_p5 s
-unfolding is_p5
-p5_first s {a} e n = rw (← e, ne_eqb a 80 n)
-
-pub p5_second : (s : List ℕ) {a b : ℕ} → a ≡ get_or s 0 0 → a ≡ 80 → b ≡ get_or s 1 0 → eqb b 53 ≡ is_p5 s
-unfolding is_p5
-p5_second s {a} e y f = rw (← e, eq-eqb a 80 y, f)
 
 -- What is left from a place on.
 module _ (s : List ℕ) (i : ℕ) where
@@ -129,9 +73,9 @@ module _ {s : List ℕ} {at i : ℕ} (x : Still after_comment s at i) where
   unfolding after_comment
   comment_ends l e n = still_stops x (rw (left_next s i l, sym e ∙ n))
 
-  pub comment_out : length s ≤ i → Moved s at i (after_comment (drop at s))
+  pub comment_out : length s ≤ i → Moved s at (length s) (after_comment (drop at s))
   unfolding after_comment
-  comment_out l = still_stops x (rw (left_none s i l))
+  comment_out l = let end : length s ≡ i = omega (arith, x.within) in rw end (still_stops x (rw (left_none s i l)))
 
 -- Gaps.
 comment_in_gap : (s : List ℕ) → after_blanks true s ≡ after_gap (after_comment s)
@@ -171,14 +115,6 @@ module _ {s : List ℕ} {at i : ℕ} (x : Still after_gap s at i) where
         ∙ ap after_gap (sym m.leaves))
 
 -- Digits: what those passed are worth, which may be more than can be told.
-pub with_told : (value d : ℕ) → value ≤ (greatest_told - d) / 10 → d < 10 → 10 * value + d ≡ told (10 * value + d)
-unfolding told
-with_told value d l k = omega arith
-
-pub with_more : (value d : ℕ) → (greatest_told - d) / 10 < value → d < 10 → greatest_told ≡ told (10 * value + d)
-unfolding told
-with_more value d l k = omega arith
-
 told_digit : (v d : ℕ) → told (10 * told v + d) ≡ told (10 * v + d)
 unfolding told
 told_digit v d = omega arith
@@ -207,9 +143,9 @@ module _ {s : List ℕ} {at i value : ℕ} (x : Counting s at i value) where
   unfolding number
   counting_ends l e n = counting_stops (rw (left_next s i l, sym e ∙ n))
 
-  pub counting_out : length s ≤ i → DigitsAt s at (record { value = value; end = i })
+  pub counting_out : length s ≤ i → DigitsAt s at (record { value = value; end = length s })
   unfolding number
-  counting_out l = counting_stops (rw (left_none s i l))
+  counting_out l = let end : length s ≡ i = omega (arith, x.within) in rw end (counting_stops (rw (left_none s i l)))
 
   pub counting_on : {b : Bool} {d next : ℕ} → i < length s → b ≡ digit (get_or s i 0) → b ≡ true → d ≡ get_or s i 0 - 48
       → next ≡ told (10 * value + d) → Counting s at (i + 1) next
@@ -241,7 +177,7 @@ module _ (s : List ℕ) (at : ℕ) where
   begins_gap : {b : Bool} {byte : ℕ} → byte ≡ get_or s at 0 → b ≡ gap_byte byte → begins gap_byte (drop at s) ≡ b
   begins_gap r e = begins_left gap_byte no_gap_byte s at ∙ ap gap_byte (sym r) ∙ sym e
 
-  pub field_no_gap : {b : Bool} {byte : ℕ} → byte ≡ get_or s at 0 → b ≡ gap_byte byte → b ≡ false → FieldAt s at Missing
+  pub field_no_gap : {b : Bool} {byte : ℕ} → byte ≡ get_or s at 0 → b ≡ gap_byte byte → b ≡ false → FieldAt s at None
   unfolding on_number
   field_no_gap r e n = missing (λ go. rw (begins_gap r e ∙ n))
 
@@ -249,15 +185,15 @@ module _ (s : List ℕ) (at : ℕ) where
     begins_digit : {b : Bool} {byte : ℕ} → byte ≡ get_or s from 0 → b ≡ digit byte → begins digit (after_gap (drop at s)) ≡ b
     begins_digit r e = ap (begins digit) (sym m.leaves) ∙ begins_left digit no_digit_byte s from ∙ ap digit (sym r) ∙ sym e
 
-    pub field_no_digit : {b : Bool} {byte : ℕ} → byte ≡ get_or s from 0 → b ≡ digit byte → b ≡ false → FieldAt s at Missing
+    pub field_no_digit : {b : Bool} {byte : ℕ} → byte ≡ get_or s from 0 → b ≡ digit byte → b ≡ false → FieldAt s at None
     unfolding on_number
     field_no_digit r e n = missing (λ go. rw (begins_digit r e ∙ n, and-false (begins gap_byte (drop at s))))
 
     pub field_read : {a b : Bool} {first byte : ℕ} {d : Digits} → first ≡ get_or s at 0 → a ≡ gap_byte first → a ≡ true
-        → byte ≡ get_or s from 0 → b ≡ digit byte → b ≡ true → DigitsAt s from d → FieldAt s at (Number d.value d.end)
+        → byte ≡ get_or s from 0 → b ≡ digit byte → b ≡ true → DigitsAt s from d → FieldAt s at (Some d)
     unfolding on_number
     field_read {d = d} q f y r e o D =
-        subst (λ v. FieldAt s at (Number v d.end)) (sym D.worth)
+        subst (λ v. FieldAt s at (Some (record { value = v; end = d.end }))) (sym D.worth)
         (there (omega (arith, m.onward, D.moves.onward)) D.moves.within (λ go.
         rw (begins_gap q f ∙ y, begins_digit r e ∙ o)
         (ap (λ z. go (number 0 z).value (number 0 z).behind) (sym m.leaves) ∙ ap (go (number 0 (drop from s)).value) (sym D.moves.leaves))))
@@ -269,18 +205,8 @@ pub record FieldThere (s : List ℕ) (at value end : ℕ) : Type 0 where
   pub within : end ≤ length s
   pub reads : (go : ℕ → List ℕ → GreyHeader) → on_number (drop at s) go ≡ go worth (drop end s)
 
-pub field_there : {s : List ℕ} {at : ℕ} {f : Field} (value end : ℕ) → FieldAt s at f → f ≡ Number value end → FieldThere s at value end
-field_there value end (missing n) e = clash (cc)
-field_there {s} {at} value end (there {v = v} {end = here} l k r) e =
-    let p : told v ≡ value = cc in
-    let q : here ≡ end = cc in
-    record {
-      worth = v;
-      tells = sym p;
-      onward = subst (λ x. at ≤ x) q l;
-      within = subst (λ x. x ≤ length s) q k;
-      reads = λ go. r go ∙ ap (λ x. go v (drop x s)) q;
-    }
+pub field_there : {s : List ℕ} {at : ℕ} {d : Digits} → FieldAt s at (Some d) → FieldThere s at d.value d.end
+field_there (there {v = v} l k r) = record { worth = v; tells = refl; onward = l; within = k; reads = r }
 
 -- The end of a header.
 module _ (s : List ℕ) (at : ℕ) where
@@ -300,7 +226,7 @@ module _ (s : List ℕ) (at : ℕ) where
     begins_blank : begins blank (last_blank (drop at s)) ≡ b
     begins_blank = ap (begins blank) (sym m.leaves) ∙ begins_left blank no_blank_byte s last ∙ ap blank (sym r) ∙ sym e
 
-    pub end_missing : {width height : ℕ} → b ≡ false → EndTold s width height at NotGrey
+    pub end_missing : {width height : ℕ} → b ≡ false → EndTold s width height at None
     unfolding on_end
     end_missing n w h p q = rw (begins_blank ∙ n) no_header_lem
 
@@ -312,14 +238,6 @@ module _ (s : List ℕ) (at : ℕ) where
     end_read y w h = rw (begins_blank ∙ y, ← m.leaves) (ap (header w h) (drop-drop 1 last s))
 
 -- The pixels: the numbers told are as good as the numbers.
-pub all_none : (width height bytes : ℕ) → height ≡ 0 → true ≡ leb (width * height) bytes
-all_none width height bytes e = sym (le-leb (width * height) bytes (rw e (omega arith)))
-
-pub all_fit : (width height bytes : ℕ) → ¬ (height ≡ 0) → leb width (bytes / height) ≡ leb (width * height) bytes
-all_fit width height bytes n =
-    let k : 0 < height = omega arith in
-    same_test _ _ (λ e. le-leb _ _ ((le-div_iff_mul-le k).0 (leb-true _ _ e))) (λ e. le-leb _ _ ((le-div_iff_mul-le k).1 (leb-true _ _ e)))
-
 -- a product with a number that can't be told is over every number that can
 over_told : (w h n : ℕ) → n < greatest_told → greatest_told < w → told w * told h ≤ n → told h ≡ 0
 unfolding told
@@ -351,12 +269,12 @@ told_product w h n l k = cases (dec_le w greatest_told) (dec_le h greatest_told)
 
 module _ {s : List ℕ} {at last byte : ℕ} {b x : Bool} {width height : ℕ} (m : Moved s at last (last_blank (drop at s))) (r : byte ≡ get_or s last 0)
     (e : b ≡ blank byte) (y : b ≡ true) (f : x ≡ leb (width * height) (length s - (last + 1))) where
-  pub end_all : x ≡ true → length s - (last + 1) < greatest_told → EndTold s width height at (Picture width height (last + 1))
+  pub end_all : x ≡ true → length s - (last + 1) < greatest_told → EndTold s width height at (Some (record { w = width; h = height; at = last + 1 }))
   end_all t l w h p q =
       let k : told w * told h ≤ length s - (last + 1) = rw (← p, ← q) (leb-true _ _ (sym f ∙ t)) in
       rw (end_read s at m r e y w h, p, q) (all_there {w = w} {h = h} (end_within s at m r e y) (told_product w h _ l k))
 
-  pub end_short : x ≡ false → EndTold s width height at NotGrey
+  pub end_short : x ≡ false → EndTold s width height at None
   unfolding told
   end_short t w h p q =
       let k : length s - (last + 1) < told w * told h = rw (← p, ← q) (leb-false _ _ (sym f ∙ t)) in
@@ -364,7 +282,7 @@ module _ {s : List ℕ} {at last byte : ℕ} {b x : Bool} {width height : ℕ} (
       rw (end_read s at m r e y w h) (too_short {w = w} {h = h} (end_within s at m r e y) (omega arith))
 
 -- The maxval.
-module _ {s : List ℕ} {width height at greatest behind : ℕ} {r : Grey} (F : FieldThere s at greatest behind) where
+module _ {s : List ℕ} {width height at greatest behind : ℕ} {r : Option Picture} (F : FieldThere s at greatest behind) where
   pub greatest_right : greatest ≡ greatest_pixel → EndTold s width height behind r → GreatestTold s width height at r
   unfolding told
   greatest_right e E w h p q =
@@ -372,7 +290,7 @@ module _ {s : List ℕ} {width height at greatest behind : ℕ} {r : Grey} (F : 
       rw (F.reads (λ g d. cond (eqb g greatest_pixel) (on_end d (λ e. header w h e)) no_header), eq-eqb F.worth greatest_pixel v) (E w h p q)
 
 module _ {s : List ℕ} {width height at greatest behind : ℕ} (F : FieldThere s at greatest behind) where
-  pub greatest_wrong : ¬ (greatest ≡ greatest_pixel) → GreatestTold s width height at NotGrey
+  pub greatest_wrong : ¬ (greatest ≡ greatest_pixel) → GreatestTold s width height at None
   unfolding told
   greatest_wrong n w h p q =
       let other : ¬ (F.worth ≡ greatest_pixel) = λ e. n (omega (arith, F.tells)) in
@@ -380,17 +298,15 @@ module _ {s : List ℕ} {width height at greatest behind : ℕ} (F : FieldThere 
       no_header_lem
 
 -- A field that is missing, whatever was to come.
-pub missing_told : {s : List ℕ} {at : ℕ} {f : Field} → FieldAt s at f → f ≡ Missing → (go : ℕ → List ℕ → GreyHeader)
-    → Tells s (on_number (drop at s) go) NotGrey
-missing_told (missing n) e go = rw (n go) no_header_lem
-missing_told (there l k r) e go = clash (cc)
+pub missing_told : {s : List ℕ} {at : ℕ} → FieldAt s at None → (go : ℕ → List ℕ → GreyHeader) → Tells s (on_number (drop at s) go) None
+missing_told (missing n) go = rw (n go) no_header_lem
 
-pub greatest_missing : {s : List ℕ} {width height at : ℕ} {f : Field} → FieldAt s at f → f ≡ Missing → GreatestTold s width height at NotGrey
-greatest_missing f e w h p q = missing_told f e _
+pub greatest_missing : {s : List ℕ} {width height at : ℕ} → FieldAt s at None → GreatestTold s width height at None
+greatest_missing f w h p q = missing_told f _
 
 -- The whole header.
 module _ (s : List ℕ) {a : Bool} (e : a ≡ is_p5 s) where
-  pub not_p5 : a ≡ false → Tells s (read_grey s) NotGrey
+  pub not_p5 : a ≡ false → Tells s (read_grey s) None
   unfolding read_grey on_magic
   not_p5 n = rw (sym e ∙ n) no_header_lem
 
@@ -403,21 +319,21 @@ module _ (s : List ℕ) {a : Bool} (e : a ≡ is_p5 s) where
     from_height w b =
         on_number b (λ h c. on_number c (λ greatest d. cond (eqb greatest greatest_pixel) (on_end d (λ e. header w h e)) no_header))
 
-    behind_p5 : {r : Grey} → Tells s (on_number (drop 2 s) from_height) r → Tells s (read_grey s) r
+    behind_p5 : {r : Option Picture} → Tells s (on_number (drop 2 s) from_height) r → Tells s (read_grey s) r
     unfolding read_grey on_magic
     behind_p5 t = rw (sym e ∙ y) t
 
-    pub no_width : {f : Field} → FieldAt s 2 f → f ≡ Missing → Tells s (read_grey s) NotGrey
-    no_width f m = behind_p5 (missing_told f m from_height)
+    pub no_width : FieldAt s 2 None → Tells s (read_grey s) None
+    no_width f = behind_p5 (missing_told f from_height)
 
     module _ {width behind : ℕ} (W : FieldThere s 2 width behind) where
-      behind_width : {r : Grey} → Tells s (from_height W.worth (drop behind s)) r → Tells s (read_grey s) r
+      behind_width : {r : Option Picture} → Tells s (from_height W.worth (drop behind s)) r → Tells s (read_grey s) r
       behind_width t = behind_p5 (rw (W.reads from_height) t)
 
-      pub no_height : {f : Field} → FieldAt s behind f → f ≡ Missing → Tells s (read_grey s) NotGrey
-      no_height f m = behind_width (missing_told f m _)
+      pub no_height : FieldAt s behind None → Tells s (read_grey s) None
+      no_height f = behind_width (missing_told f _)
 
-      pub sides_read : {height at : ℕ} {r : Grey} → FieldThere s behind height at → GreatestTold s width height at r → Tells s (read_grey s) r
+      pub sides_read : {height at : ℕ} {r : Option Picture} → FieldThere s behind height at → GreatestTold s width height at r → Tells s (read_grey s) r
       sides_read H g =
           behind_width
           (rw (H.reads (λ h c. on_number c (λ greatest d. cond (eqb greatest greatest_pixel) (on_end d (λ e. header W.worth h e)) no_header)))

@@ -1,4 +1,5 @@
 -- What each turn of the loops that read and write a number keeps, and what it comes to at the end.
+use Rattle.std.specs.Prelude.{Err}
 use mathlib.Core.Path.{◌≡◌, refl, sym, ap, ◌∙◌}
 use mathlib.Core.List.{List}
 use Prim.Native.Nat.{ℕ, suc, ◌+◌, ◌-◌, ◌*◌, ◌/◌, ◌%◌, ◌^◌, ◌≤◌, ◌<◌}
@@ -7,52 +8,56 @@ use native.Mathlib.Numerals.{add-one}
 use lib.ListN.{length, get_or, set, length-set}
 use lib.Seq.{sets}
 use lib.Pow.{pow_mono, pow-add}
-use Rattle.rules.specs.declared.Number.TheVariants.{TooManyBytes, CutOff}
+use Rattle.rules.specs.declared.NoNumber.TheVariants.{TooManyBytes, CutOff}
 use Rattle.rules.specs.Document.Layout.{groups, number_bytes, number_from, read_number}
 use Rattle.rules.specs.Laws.Bytes.Numbers.{too_large}
 use Rattle.rules.proofs.Laws.Bytes.Numbers.{groups_last, groups_next, number_bytes_last, number_bytes_next, number_bytes_length}
 use Rattle.rules.proofs.Laws.Bytes.Numbers.{number_from_cut, number_from_last, number_from_next}
 use Rattle.numbers.specs.LastByte.{last_byte}
 
--- What is left to read of a number that began at `at`: up to `left` bytes, the next one at `place`.
-pub record Reading (s : List ℕ) (at place worth value left : ℕ) : Type 0 where
-  pub same : number_from left s place worth value ≡ read_number s at
-  pub worth_is : worth ≡ 2 ^ (28 - 7 * left)
-  pub most : left ≤ 4
+-- Of a number that began at `at`, `read` bytes with a top bit set are read, the next one stands at `place`.
+pub record Reading (s : List ℕ) (at place worth value read : ℕ) : Type 0 where
+  pub same : number_from (4 - read) s place worth value ≡ read_number s at
+  pub worth_is : worth ≡ 2 ^ (7 * read)
   pub below : value < worth
 
 module _ {s : List ℕ} {at : ℕ} where
-  pub reading_begins : Reading s at at 1 0 4
+  pub reading_begins : Reading s at at 1 0 0
   unfolding read_number
-  reading_begins = record { same = refl; worth_is = refl; most = omega arith; below = omega arith }
+  reading_begins = record { same = refl; worth_is = refl; below = omega arith }
 
-  module _ {place worth value left : ℕ} (r : Reading s at place worth value left) where
-    pub reading_none : left ≡ 0 → TooManyBytes ≡ read_number s at
+  module _ {place worth value read : ℕ} (r : Reading s at place worth value read) where
+    pub reading_none : 4 ≤ read → Err TooManyBytes ≡ read_number s at
     unfolding number_from
-    reading_none z = rw z at r.same
+    reading_none h = let z : 4 - read ≡ 0 = omega arith in rw z at r.same
 
-    module _ (h : 0 < left) where
-      from_more : number_from (suc (left - 1)) s place worth value ≡ read_number s at
-      from_more = let e : suc (left - 1) ≡ left = omega arith in rw e r.same
+    module _ (h : read < 4) where
+      left : ℕ
+      left = 3 - read
+
+      from_more : number_from (suc left) s place worth value ≡ read_number s at
+      unfolding left
+      from_more = let e : suc (3 - read) ≡ 4 - read = omega arith in rw e r.same
 
       pub reading_worth : worth * 128 ≤ too_large
-      reading_worth = let e : worth ≤ 2 ^ 21 = rw r.worth_is (pow_mono {i = 28 - 7 * left} {j = 21} (omega arith)) in omega arith
+      reading_worth = let e : worth ≤ 2 ^ 21 = rw r.worth_is (pow_mono {i = 7 * read} {j = 21} (omega arith)) in omega arith
 
-      pub reading_cut : length s ≤ place → CutOff ≡ read_number s at
-      reading_cut g = sym (number_from_cut (left - 1) s place worth value g) ∙ from_more
+      pub reading_cut : length s ≤ place → Err CutOff ≡ read_number s at
+      reading_cut g = sym (number_from_cut left s place worth value g) ∙ from_more
 
       module _ (i : place < length s) {byte : ℕ} (e : byte ≡ get_or s place 0) where
         pub reading_last : byte < 128 → last_byte value worth byte (place + 1) ≡ read_number s at
-        reading_last g = rw e (sym (number_from_last (left - 1) s place worth value i (omega arith)) ∙ from_more)
+        reading_last g = rw e (sym (number_from_last left s place worth value i (omega arith)) ∙ from_more)
 
         pub reading_next : {next : ℕ} → 128 ≤ byte → (next ≡ value + (byte - 128) * worth) × (next < worth * 128)
-            → Reading s at (place + 1) (worth * 128) next (left - 1)
+            → Reading s at (place + 1) (worth * 128) next (read + 1)
+        unfolding left
         reading_next {next} g n =
-            let d : 28 - 7 * left + 7 ≡ 28 - 7 * (left - 1) = omega arith in
+            let d : 7 * read + 7 ≡ 7 * (read + 1) = omega arith in
+            let f : 3 - read ≡ 4 - (read + 1) = omega arith in
             record {
-              same = rw (n.0, e) (sym (number_from_next (left - 1) s place worth value i (omega arith)) ∙ from_more);
-              worth_is = ap (λ x. x * 128) r.worth_is ∙ sym (pow-add 2 (28 - 7 * left) 7) ∙ ap (λ x. 2 ^ x) d;
-              most = omega arith;
+              same = rw (← f, n.0, e) (sym (number_from_next (3 - read) s place worth value i (omega arith)) ∙ from_more);
+              worth_is = ap (λ x. x * 128) r.worth_is ∙ sym (pow-add 2 (7 * read) 7) ∙ ap (λ x. 2 ^ x) d;
               below = n.1;
             }
 
@@ -91,9 +96,6 @@ pub record Writing (d : List ℕ) (at value : ℕ) (out : List ℕ) (place rest 
   pub list : sets out place (number_bytes rest) ≡ sets d at (number_bytes value)
 
 module _ {d : List ℕ} {at value : ℕ} where
-  pub writing_begins : value < 2 ^ 28 → Writing d at value d at value
-  writing_begins h = record { fits = h; same = refl; ends = refl; list = refl }
-
   module _ {out : List ℕ} {place rest : ℕ} (w : Writing d at value out place rest) where
     pub writing_place : place ≤ at + 3
     writing_place = omega (arith, number_bytes_length value, number_bytes_length rest)
@@ -114,6 +116,3 @@ module _ {d : List ℕ} {at value : ℕ} where
       writing_last s h =
           let e = number_bytes_last rest h in
           (omega (arith, w.ends, ap length e), s ∙ ap (sets out place) (sym e) ∙ w.list)
-
-      pub writing_same : stored ≡ set out place rest → length stored ≡ length d
-      writing_same s = ap length s ∙ length-set out place rest ∙ w.same

@@ -1,20 +1,15 @@
 // Numbers of a record: groups of seven bits, lowest group first, at most four bytes, shortest form only.
 #![tactic(auto)]
 
-ghost use Rattle.std.specs.Prelude.{◌≡◌, ◌+◌, ◌*◌, ◌^◌, ◌≤◌, ◌<◌, length, get_or, set};
+ghost use Rattle.std.specs.Prelude.{◌≡◌, ◌+◌, ◌*◌, ◌^◌, ◌≤◌, ◌<◌, length, set};
 ghost use Rattle.std.proofs.lemmas.List.Edits.{sets};
 ghost use Rattle.rules.specs.Document.Layout.{number_bytes, read_number};
 ghost use Rattle.rules.specs.Laws.Bytes.Numbers.{too_large};
 ghost use Rattle.numbers.specs.LastByte.{last_byte};
 
-use rules::Number;
+use rules::NoNumber;
 
-fn byte_at(bytes: &[u8], at: usize) -> usize
-    requires { at < length bytes.now }
-    ensures { (result ≡ get_or bytes.now at 0) × (result < 256) }
-{
-    bytes[at] as usize
-}
+const MOST_BYTES: usize = 4;
 
 // The value so far with a group of seven bits that is worth so much.
 fn with_group(value: usize, worth: usize, group: usize) -> usize
@@ -25,40 +20,43 @@ fn with_group(value: usize, worth: usize, group: usize) -> usize
 }
 
 // What the last byte makes of a number: of several bytes the last may not be 0.
-fn last_byte(value: usize, worth: usize, byte: usize, end: usize) -> Number
+fn last_byte(
+    value: usize,
+    worth: usize,
+    byte: usize,
+    end: usize,
+) -> Result<(usize, usize), NoNumber>
     requires { (value < worth) × (worth * 128 ≤ too_large) × (byte < 128) }
     ensures { result ≡ last_byte value worth byte end }
 {
-    if 1 < worth {
-        if byte == 0 {
-            return Number::LongForm;
-        }
+    if 1 < worth && byte == 0 {
+        Err(NoNumber::LongForm)
+    } else {
+        Ok((with_group(value, worth, byte), end))
     }
-    Number::Value(with_group(value, worth, byte), end)
 }
 
-// The number that stands at a place.
-pub fn read_number(bytes: &[u8], at: usize) -> Number
+// The number that stands at a place: its value, and the place after it.
+pub fn read_number(bytes: &[u8], at: usize) -> Result<(usize, usize), NoNumber>
     ensures { result ≡ read_number bytes.now at }
 {
-    let mut place = at;
     let mut worth = 1;
     let mut value = 0;
-    let mut bytes_left: usize = 4;
-    while 0 < bytes_left {
-        if bytes.len() <= place {
-            return Number::CutOff;
-        }
-        let byte = byte_at(bytes, place);
+    // Counted by hand: a range of places from `at` may not fit, since the contract takes every `at`.
+    let mut place = at;
+    for _ in 0..MOST_BYTES {
+        let Some(&byte) = bytes.get(place) else {
+            return Err(NoNumber::CutOff);
+        };
+        let byte = usize::from(byte);
         place += 1;
         if byte < 128 {
             return last_byte(value, worth, byte, place);
         }
         value = with_group(value, worth, byte - 128);
         worth *= 128;
-        bytes_left -= 1;
     }
-    Number::TooManyBytes
+    Err(NoNumber::TooManyBytes)
 }
 
 // How many bytes a number takes.
@@ -90,6 +88,7 @@ pub fn write_number(out: &mut [u8], at: usize, value: usize) -> usize
     requires { (value < too_large) × (at < 2 ^ 62) }
     ensures { (result ≡ at + length (number_bytes value)) × (out.new ≡ sets out.old at (number_bytes value)) }
 {
+    // Counted by hand: the loop ends by what is left, and to count the bytes first for a range is no plainer.
     let mut place = at;
     let mut rest = value;
     while 128 <= rest {

@@ -5,77 +5,46 @@
 ghost use Rattle.std.specs.Prelude.{◌≤◌, length};
 
 use record::walk::Cursor;
-use rules::{Header, Part, PartRead, Verdict};
+use rules::{Header, Part, Piece, Refusal};
 use std::io;
 use std::io::Read;
 
-fn print_number(rt: &impl Print, n: usize) -> io::Result<()> {
-    print!(rt; " {n}")
-}
-
-fn end_line(rt: &impl Print) -> io::Result<()> {
-    println!(rt)
-}
-
+// A println each, and no Display: an impl of its own would hold the same line.
 fn print_header(rt: &impl Print, h: Header) -> io::Result<()> {
-    let size = h.size;
-    print!(rt; "record")?;
-    print_number(rt, size.w)?;
-    print_number(rt, size.h)?;
-    print_number(rt, size.n)?;
-    print_number(rt, h.planes)?;
-    end_line(rt)
+    let z = h.size;
+    println!(rt; "record {} {} {} {}", z.w, z.h, z.n, h.planes)
 }
 
 fn print_part(rt: &impl Print, p: Part) -> io::Result<()> {
-    let plane = p.plane;
-    let level = p.level;
-    print!(rt; "part")?;
-    print_number(rt, plane.0)?;
-    print_number(rt, level.0)?;
-    print_number(rt, p.bits)?;
-    end_line(rt)
+    println!(rt; "part {} {} {}", p.plane.0, p.level.0, p.bits)
 }
 
 fn print_parts(rt: &impl Print, bytes: &[u8], h: Header) -> io::Result<()> {
     let mut cursor = Cursor::first(h);
-    loop {
-        let PartRead::Part(p) = survey::part_at(bytes, cursor) else {
-            return Ok(());
-        };
+    while let Ok(Piece::Part(p)) = survey::part_at(bytes, cursor) {
         print_part(rt, p)?;
         cursor = Cursor::past(p);
     }
+    Ok(())
 }
 
-fn print_tail(rt: &impl Print, length: usize) -> io::Result<()> {
-    print!(rt; "tail")?;
-    print_number(rt, length)?;
-    end_line(rt)
-}
-
-fn print_refusal(rt: &impl Print, verdict: Verdict) -> io::Result<()> {
-    print!(rt; "refused")?;
-    print_number(rt, answers::number(verdict) as usize)?;
-    print_number(rt, answers::place(verdict) as usize)?;
-    end_line(rt)
+fn print_refusal(rt: &impl Print, r: Refusal) -> io::Result<()> {
+    println!(rt; "refused {} {}", answers::number(Err(r)), answers::place(Err(r)))
 }
 
 fn print_listing(rt: &impl Print, bytes: &[u8]) -> io::Result<()> {
-    let found = survey::listed(bytes);
-    let verdict = found.verdict;
-    let header = found.header;
-    match verdict {
-        Verdict::Accepted => {
-            print_header(rt, header)?;
-            print_parts(rt, bytes, header)?;
-            print_tail(rt, found.tail)
+    match survey::listed(bytes) {
+        Ok(found) => {
+            print_header(rt, found.header)?;
+            print_parts(rt, bytes, found.header)?;
+            println!(rt; "tail {}", found.tail)
         }
-        Verdict::Refused(_) => print_refusal(rt, verdict),
+        Err(r) => print_refusal(rt, r),
     }
 }
 
-// Reads until the buffer is full, the input ends or a read fails, and returns how many bytes it put at its front.
+// Reads until the buffer is full, the input ends or a read fails, and returns how many bytes it put at its front. By hand: the library reads to the
+// end onto the heap, or all of a buffer or nothing that counts.
 fn read_full(input: &mut impl Read, buffer: &mut [u8]) -> usize
     ensures { result ≤ length buffer.new }
 {

@@ -2,3 +2,4 @@
 pub mod Lifting
 pub mod Netpbm
 pub mod Calls
+pub mod Answers

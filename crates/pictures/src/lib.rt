@@ -1,29 +1,26 @@
 // Grey pictures: definitions and laws, in specs, and the types that the crates above share. There is no code here.
 #![tactic(auto)]
 
-use rules::Verdict;
-
-// What a file holds: a picture's width and height, with the place where its pixels begin; or no grey picture.
+// A picture in a file: its width and height, and the place where its pixels begin.
 #[derive(Clone, Copy)]
-pub enum Grey {
-    Picture(usize, usize, usize),
-    NotGrey,
+pub struct Picture {
+    pub w: usize,
+    pub h: usize,
+    pub at: usize,
 }
 
 // The length of each grey call's answer.
 pub const GREY_PLACES: usize = 4;
 
-// The answers of the way in, a grey file's to its pyramid, and of the way back.
+// What is told of a result beside its numbers: on the way in the picture's sides, on the way back the length and how many pixels were set to an end.
 #[derive(Clone, Copy)]
-pub struct GreyRead {
-    pub verdict: Verdict,
+pub struct Sides {
     pub w: usize,
     pub h: usize,
 }
 
 #[derive(Clone, Copy)]
-pub struct GreyWritten {
-    pub verdict: Verdict,
+pub struct Printed {
     pub length: usize,
     pub clipped: usize,
 }

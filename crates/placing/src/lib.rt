@@ -204,7 +204,7 @@ fn clear_level(z: Size, k: Level, work: &mut [u32])
     ensures { LevelCleared z k.0 work.old work.new }
 {
     let from = stretches::stretch_from(z, k);
-    memory::zero_u32(&mut work[from..from + shape::level_size(z, k)]);
+    memory::zero(&mut work[from..from + shape::level_size(z, k)]);
 }
 
 // Before anything is drawn.

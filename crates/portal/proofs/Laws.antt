@@ -1,25 +1,19 @@
 -- An exported call: an answer slice that is too short, and one that takes the answer.
-use mathlib.Core.Path.{◌≡◌, ap, ◌∙◌}
+use mathlib.Core.Path.{◌≡◌, ap, subst, ◌∙◌}
 use mathlib.Core.List.{List}
 use Prim.Native.Nat.{ℕ, ◌≤◌, ◌<◌}
 use lib.ListN.{length, replicate}
 use lib.IntN.{ℤ, pos}
 use borrow.Author.Tests.{le-leb, lt-leb}
 use Rattle.rules.specs.declared.Size.{Size}
-use Rattle.rules.specs.declared.Coded.{Coded}
-use Rattle.rules.specs.declared.Served.{Served}
-use Rattle.rules.specs.declared.Decoded.{Decoded}
 use Rattle.rules.specs.Document.Notation.{zeros}
 use Rattle.rules.specs.Document.Calls.{returned, reported, lent_out, code_places, coding, code_answer, code_numbers, Coding, AfsCode, serve_places, serving}
 use Rattle.rules.specs.Document.Calls.{serve_answer, serve_numbers, Serving, AfsServe, decode_places, decoding, decode_answer, decode_numbers}
-use Rattle.rules.specs.Document.Calls.{Decoding, AfsDecode}
+use Rattle.rules.specs.Document.Calls.{Decoding, AfsDecode, Decoded, Served, Coded}
 use Rattle.joins.specs.Document.Joining.{joining, Joining, AfsJoin}
-use Rattle.survey.specs.declared.Survey.{Survey}
-use Rattle.survey.specs.Surveyed.{survey_places, survey_of, survey_numbers, AfsSurvey}
-use Rattle.pictures.specs.declared.GreyRead.{GreyRead}
-use Rattle.pictures.specs.declared.GreyWritten.{GreyWritten}
+use Rattle.survey.specs.Surveyed.{survey_places, survey_of, survey_numbers, AfsSurvey, Survey}
 use Rattle.pictures.specs.Document.Netpbm.{read_file}
-use Rattle.pictures.specs.Document.Calls.{grey_in, grey_in_answer, GreyIn, grey_out, grey_out_answer, GreyOut, grey_size, GreySize}
+use Rattle.pictures.specs.Document.Calls.{grey_in, grey_in_answer, GreyIn, grey_out, grey_out_answer, GreyOut, grey_size, GreySize, GreyWritten, GreyRead}
 use Rattle.pictures.specs.Document.Calls.{grey_read_numbers, grey_written_numbers, grey_places, AfsGreyIn, AfsGreyOut, AfsGreySize}
 use Rattle.answers.specs.Report.{Reported}
 
@@ -66,9 +60,11 @@ module _ (pyramid : List ℤ) (z : Size) (out work answer out' work' answer' : L
         clears = g;
       }
 
-  pub code_long : (a : Coded) (n : ℕ) → code_places ≤ length answer → Coding pyramid z out work a out' work' → Reported (code_numbers a) answer n answer'
+  pub code_long : (a : Coded) (n : ℕ) → code_places ≤ length answer → Coding pyramid z out work a out' work'
+      → {t : List ℕ} → t ≡ code_numbers a → Reported t answer n answer'
       → AfsCode pyramid z out work answer n out' work' answer'
-  code_long a n l v r =
+  code_long a n l v f g =
+      let r : Reported (code_numbers a) answer n answer' = subst (λ t. Reported t answer n answer') f g in
       let e : code_numbers a ≡ code_numbers (code_answer (coding pyramid z (length out) (length work))) = ap code_numbers v.answers in
       record {
         returns = returned_long code_places answer (code_numbers a) n answer' l r ∙ ap (returned code_places answer) e;
@@ -88,9 +84,11 @@ module _ (s : List ℕ) (level plane : ℕ) (out answer out' answer' : List ℕ)
         writes = e ∙ lent_short serve_places answer numbers _ _ l;
       }
 
-  pub serve_long : (a : Served) (n : ℕ) → serve_places ≤ length answer → Serving s level plane out a out' → Reported (serve_numbers a) answer n answer'
+  pub serve_long : (a : Served) (n : ℕ) → serve_places ≤ length answer → Serving s level plane out a out'
+      → {t : List ℕ} → t ≡ serve_numbers a → Reported t answer n answer'
       → AfsServe s level plane out answer n out' answer'
-  serve_long a n l v r =
+  serve_long a n l v f g =
+      let r : Reported (serve_numbers a) answer n answer' = subst (λ t. Reported t answer n answer') f g in
       let e : serve_numbers a ≡ serve_numbers (serve_answer (serving s level plane (length out))) = ap serve_numbers v.answers in
       record {
         returns = returned_long serve_places answer (serve_numbers a) n answer' l r ∙ ap (returned serve_places answer) e;
@@ -108,9 +106,10 @@ module _ (a b out answer out' answer' : List ℕ) where
         writes = e ∙ lent_short code_places answer numbers _ _ l;
       }
 
-  pub join_long : (r : Coded) (n : ℕ) → code_places ≤ length answer → Joining a b out r out' → Reported (code_numbers r) answer n answer'
+  pub join_long : (r : Coded) (n : ℕ) → code_places ≤ length answer → Joining a b out r out' → {t : List ℕ} → t ≡ code_numbers r → Reported t answer n answer'
       → AfsJoin a b out answer n out' answer'
-  join_long r n l v t =
+  join_long r n l v f g =
+      let t : Reported (code_numbers r) answer n answer' = subst (λ t. Reported t answer n answer') f g in
       let e : code_numbers r ≡ code_numbers (code_answer (joining a b (length out))) = ap code_numbers v.answers in
       record {
         returns = returned_long code_places answer (code_numbers r) n answer' l t ∙ ap (returned code_places answer) e;
@@ -130,9 +129,11 @@ module _ (s : List ℕ) (out : List ℤ) (work answer : List ℕ) (out' : List �
         clears = g;
       }
 
-  pub decode_long : (a : Decoded) (n : ℕ) → decode_places ≤ length answer → Decoding s out work a out' work' → Reported (decode_numbers a) answer n answer'
+  pub decode_long : (a : Decoded) (n : ℕ) → decode_places ≤ length answer → Decoding s out work a out' work'
+      → {t : List ℕ} → t ≡ decode_numbers a → Reported t answer n answer'
       → AfsDecode s out work answer n out' work' answer'
-  decode_long a n l v r =
+  decode_long a n l v f g =
+      let r : Reported (decode_numbers a) answer n answer' = subst (λ t. Reported t answer n answer') f g in
       let e : decode_numbers a ≡ decode_numbers (decode_answer (decoding s (length out) (length work))) = ap decode_numbers v.answers in
       record {
         returns = returned_long decode_places answer (decode_numbers a) n answer' l r ∙ ap (returned decode_places answer) e;
@@ -150,9 +151,10 @@ module _ (s answer answer' : List ℕ) where
         reports = reported_short survey_places answer numbers n answer' l r;
       }
 
-  pub survey_long : (a : Survey) (n : ℕ) → survey_places ≤ length answer → a ≡ survey_of s → Reported (survey_numbers a) answer n answer'
+  pub survey_long : (a : Survey) (n : ℕ) → survey_places ≤ length answer → a ≡ survey_of s → {t : List ℕ} → t ≡ survey_numbers a → Reported t answer n answer'
       → AfsSurvey s answer n answer'
-  survey_long a n l v r =
+  survey_long a n l v f g =
+      let r : Reported (survey_numbers a) answer n answer' = subst (λ t. Reported t answer n answer') f g in
       let e : survey_numbers a ≡ survey_numbers (survey_of s) = ap survey_numbers v in
       record {
         returns = returned_long survey_places answer (survey_numbers a) n answer' l r ∙ ap (returned survey_places answer) e;
@@ -172,9 +174,11 @@ module _ (file : List ℕ) (m : ℕ) (out : List ℤ) (work answer : List ℕ) (
         clears = g;
       }
 
-  pub in_long : (a : GreyRead) (n : ℕ) → grey_places ≤ length answer → GreyIn file m out work a out' work' → Reported (grey_read_numbers a) answer n answer'
+  pub in_long : (a : GreyRead) (n : ℕ) → grey_places ≤ length answer → GreyIn file m out work a out' work'
+      → {t : List ℕ} → t ≡ grey_read_numbers a → Reported t answer n answer'
       → AfsGreyIn file m out work answer n out' work' answer'
-  in_long a n l v r =
+  in_long a n l v f g =
+      let r : Reported (grey_read_numbers a) answer n answer' = subst (λ t. Reported t answer n answer') f g in
       let e : grey_read_numbers a ≡ grey_read_numbers (grey_in_answer (grey_in file m (length out) (length work))) = ap grey_read_numbers v.answers in
       record {
         returns = returned_long grey_places answer (grey_read_numbers a) n answer' l r ∙ ap (returned grey_places answer) e;
@@ -196,8 +200,9 @@ module _ (pyramid : List ℤ) (z : Size) (out work answer out' work' answer' : L
       }
 
   pub out_long : (a : GreyWritten) (n : ℕ) → grey_places ≤ length answer → GreyOut pyramid z out work a out' work'
-      → Reported (grey_written_numbers a) answer n answer' → AfsGreyOut pyramid z out work answer n out' work' answer'
-  out_long a n l v r =
+      → {t : List ℕ} → t ≡ grey_written_numbers a → Reported t answer n answer' → AfsGreyOut pyramid z out work answer n out' work' answer'
+  out_long a n l v f g =
+      let r : Reported (grey_written_numbers a) answer n answer' = subst (λ t. Reported t answer n answer') f g in
       let e : grey_written_numbers a ≡ grey_written_numbers (grey_out_answer (grey_out pyramid z (length out) (length work)))
       = ap grey_written_numbers v.answers in
       record {
@@ -216,9 +221,10 @@ module _ (file answer answer' : List ℕ) where
         reports = reported_short grey_places answer numbers n answer' l r;
       }
 
-  pub size_long : (a : GreyRead) (n : ℕ) → grey_places ≤ length answer → GreySize file a → Reported (grey_read_numbers a) answer n answer'
+  pub size_long : (a : GreyRead) (n : ℕ) → grey_places ≤ length answer → GreySize file a → {t : List ℕ} → t ≡ grey_read_numbers a → Reported t answer n answer'
       → AfsGreySize file answer n answer'
-  size_long a n l v r =
+  size_long a n l v f g =
+      let r : Reported (grey_read_numbers a) answer n answer' = subst (λ t. Reported t answer n answer') f g in
       let e : grey_read_numbers a ≡ grey_read_numbers (grey_size (read_file file)) = ap grey_read_numbers v.answers in
       record {
         returns = returned_long grey_places answer (grey_read_numbers a) n answer' l r ∙ ap (returned grey_places answer) e;

@@ -9,15 +9,16 @@ ghost use Rattle.pictures.specs.Document.Calls.{AfsGreySize, AfsGreyIn, AfsGreyO
 ghost use Rattle.survey.specs.Surveyed.{AfsSurvey};
 
 use pictures::GREY_PLACES;
-use rules::{CODE_PLACES, DECODE_PLACES, Level, Plane, SERVE_PLACES, Size};
+use rules::{CODE_PLACES, DECODE_PLACES, Level, Plane, Refusal, SERVE_PLACES, Size};
 use survey::SURVEY_PLACES;
 
 // An answer slice that its answer doesn't fit in: all 0, and the number of ROOM is only returned.
+#[tactic(auto, unfolding(rules::specs::Document::Answers::as_verdict))]
 fn too_short(answer: &mut [u64]) -> u64
     ensures { (result ≡ 5) × (answer.new ≡ zeros (length answer.old)) }
 {
-    memory::zero_u64(answer);
-    5
+    memory::zero(answer);
+    answers::number(Err(Refusal::Room))
 }
 
 #[unsafe(no_mangle)]
@@ -35,8 +36,8 @@ pub extern "C" fn afs_code(
         result out.new work.new answer.new }
 {
     if answer.len() < CODE_PLACES {
-        memory::zero_u8(out);
-        memory::zero_u32(work);
+        memory::zero(out);
+        memory::zero(work);
         return too_short(answer);
     }
     let z = Size {
@@ -44,8 +45,8 @@ pub extern "C" fn afs_code(
         h: h as usize,
         n: n as usize,
     };
-    let a = coder::code(pyramid, z, out, work);
-    answers::report_coded(a, answer)
+    let coded = coder::code(pyramid, z, out, work);
+    answers::report(answers::code_numbers(coded), answer)
 }
 
 #[unsafe(no_mangle)]
@@ -59,11 +60,11 @@ pub extern "C" fn afs_serve(
     ensures { AfsServe bytes.now level plane out.old answer.old result out.new answer.new }
 {
     if answer.len() < SERVE_PLACES {
-        memory::zero_u8(out);
+        memory::zero(out);
         return too_short(answer);
     }
-    let a = server::serve(bytes, Level(level as usize), Plane(plane as usize), out);
-    answers::report_served(a, answer)
+    let served = server::serve(bytes, Level(level as usize), Plane(plane as usize), out);
+    answers::report(answers::serve_numbers(served), answer)
 }
 
 #[unsafe(no_mangle)]
@@ -71,11 +72,11 @@ pub extern "C" fn afs_join(first: &[u8], second: &[u8], out: &mut [u8], answer: 
     ensures { AfsJoin first.now second.now out.old answer.old result out.new answer.new }
 {
     if answer.len() < CODE_PLACES {
-        memory::zero_u8(out);
+        memory::zero(out);
         return too_short(answer);
     }
-    let a = joiner::join(first, second, out);
-    answers::report_coded(a, answer)
+    let coded = joiner::join(first, second, out);
+    answers::report(answers::code_numbers(coded), answer)
 }
 
 #[unsafe(no_mangle)]
@@ -89,12 +90,12 @@ pub extern "C" fn afs_decode(
         result out.new work.new answer.new }
 {
     if answer.len() < DECODE_PLACES {
-        memory::zero_i32(out);
-        memory::zero_u32(work);
+        memory::zero(out);
+        memory::zero(work);
         return too_short(answer);
     }
-    let a = decoder::decode(bytes, out, work);
-    answers::report_decoded(a, answer)
+    let decoded = decoder::decode(bytes, out, work);
+    answers::report(answers::decode_numbers(decoded), answer)
 }
 
 #[unsafe(no_mangle)]
@@ -104,8 +105,8 @@ pub extern "C" fn afs_survey(bytes: &[u8], answer: &mut [u64]) -> u64
     if answer.len() < SURVEY_PLACES {
         return too_short(answer);
     }
-    let a = survey::survey_of(bytes);
-    answers::report_surveyed(a, answer)
+    let surveyed = survey::survey_of(bytes);
+    answers::report(answers::survey_numbers(surveyed), answer)
 }
 
 #[unsafe(no_mangle)]
@@ -115,8 +116,8 @@ pub extern "C" fn afs_grey_size(file: &[u8], answer: &mut [u64]) -> u64
     if answer.len() < GREY_PLACES {
         return too_short(answer);
     }
-    let a = grey::grey_size(file);
-    answers::report_grey_read(a, answer)
+    let read = grey::grey_size(file);
+    answers::report(answers::grey_read_numbers(read), answer)
 }
 
 #[unsafe(no_mangle)]
@@ -131,12 +132,12 @@ pub extern "C" fn afs_grey_in(
         result pyramid.new work.new answer.new }
 {
     if answer.len() < GREY_PLACES {
-        memory::zero_i32(pyramid);
-        memory::zero_u32(work);
+        memory::zero(pyramid);
+        memory::zero(work);
         return too_short(answer);
     }
-    let a = grey::grey_in(file, decompositions as usize, pyramid, work);
-    answers::report_grey_read(a, answer)
+    let read = grey::grey_in(file, decompositions as usize, pyramid, work);
+    answers::report(answers::grey_read_numbers(read), answer)
 }
 
 #[unsafe(no_mangle)]
@@ -154,8 +155,8 @@ pub extern "C" fn afs_grey_out(
         result out.new work.new answer.new }
 {
     if answer.len() < GREY_PLACES {
-        memory::zero_u8(out);
-        memory::zero_u32(work);
+        memory::zero(out);
+        memory::zero(work);
         return too_short(answer);
     }
     let z = Size {
@@ -163,6 +164,6 @@ pub extern "C" fn afs_grey_out(
         h: height as usize,
         n: decompositions as usize,
     };
-    let a = grey::grey_out(pyramid, z, out, work);
-    answers::report_grey_written(a, answer)
+    let written = grey::grey_out(pyramid, z, out, work);
+    answers::report(answers::grey_written_numbers(written), answer)
 }

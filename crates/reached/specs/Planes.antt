@@ -1,8 +1,8 @@
 -- The planes reached, held level 1 first: what they are before any part and after one, and the test whether a part is usable.
 use Rattle.std.proofs.Math.Path.{◌≡◌, refl, ap}
-use Rattle.std.proofs.Common.{ap₂, sym, ◌∙◌}
-use mathlib.Core.List.{List, [], ◌∷◌, map}
-use Rattle.std.specs.Prelude.{true, false, leb, eqb, length, replicate}
+use Rattle.std.proofs.Common.{ap₂, sym, ◌∙◌, add-one, length-take-le}
+use mathlib.Core.List.{List, [], ◌∷◌, ◌++◌, map}
+use Rattle.std.specs.Prelude.{true, false, leb, eqb, length, replicate, take, drop}
 use Rattle.std.proofs.Math.Bool.{cond, and-false}
 use Prim.Native.Nat.{ℕ, zero, suc, ◌+◌, ◌-◌, ◌≤◌, ◌<◌}
 use native.Mathlib.Omega.{arith}
@@ -179,3 +179,30 @@ module _ (h : Header) {levels : ℕ} where
             (record { 0 = cond (leb k (top_level h)) (reached (top_level h) h.planes [] k) 0 })
         level k f (yes m) = rw (le-leb k (top_level h) m, reached_none (top_level h) h.planes k f m)
         level k f (no m) = rw (lt-leb k (top_level h) (omega arith))
+
+-- The first levels filled with all planes, of six places that hold nothing.
+abbrev pub no_planes : List Plane
+no_planes = replicate level_places (record { 0 = 0 })
+
+pub levels_within : (z : Size) → legal_size z ≡ true → length (take (z.n + 1) no_planes) ≡ z.n + 1
+levels_within z l = length-take-le (z.n + 1) no_planes (omega (arith, size_levels z l))
+
+set_next : {X : Type 0} (i : ℕ) (xs : List X) (x : X) → i < length xs
+    → replicate (suc i) x ++ drop (suc i) xs ≡ set (replicate i x ++ drop i xs) i x
+set_next i [] x l = absurd (omega arith)
+set_next zero (y ∷ ys) x l = refl
+set_next (suc i) (y ∷ ys) x l = ap (λ zs. x ∷ zs) (set_next i ys x (omega arith))
+
+module _ (h : Header) (lawful : legal_size h.size ≡ true) where
+  filled : (levels : ℕ) → levels ≡ h.size.n + 1 → (done : ℕ) → done ≤ levels
+      → Begun h levels done (replicate done (record { 0 = h.planes }) ++ drop done no_planes)
+  filled levels e zero l = begun_none h lawful e
+  filled levels e (suc i) l =
+      let six : i < length no_planes = omega (arith, size_levels h.size lawful) in
+      let b : Begun h levels (i + 1) _ = begun_more h (filled levels e i (omega arith)) (omega arith) in
+      rw (set_next i no_planes (record { 0 = h.planes }) six) (rw add-one at b)
+
+  pub filled_all : (front : List Plane) → front ≡ replicate (length (take (h.size.n + 1) no_planes)) (record { 0 = h.planes })
+      → front ++ drop (h.size.n + 1) no_planes ≡ reached_planes h []
+  filled_all front e =
+      rw (e, levels_within h.size lawful) (begun_all h (filled (h.size.n + 1) refl (h.size.n + 1) (omega arith)) (omega arith))

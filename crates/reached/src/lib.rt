@@ -11,55 +11,47 @@ ghost use Rattle.reached.specs.Planes.{reached_at};
 use rules::{Header, LEVEL_PLACES, Level, Plane};
 
 // The plane that a level reached. Behind the last place there is nothing to reach.
+#[tactic(auto, using(crate::specs::Planes::reached_at_beyond), unfolding(rules::specs::Document::Calls::plane_in))]
 fn reached_plane(reached: [Plane; LEVEL_PLACES], level: Level) -> Plane
     requires { (1 ≤ level.0) × (length reached ≡ level_places) }
     ensures { result.0 ≡ reached_at reached level.0 }
 {
-    let at = level.0 - 1;
-    if at < LEVEL_PLACES {
-        reached[at]
-    } else {
-        Plane(0)
-    }
+    reached.get(level.0 - 1).copied().unwrap_or(Plane(0))
 }
 
 // Whether a part is usable, by what was reached before it: its level the plane above, the next coarser level its plane.
+#[tactic(auto, unfolding(rules::specs::Laws::Reading::OneWalk::usable_now))]
 pub fn is_usable(reached: [Plane; LEVEL_PLACES], plane: Plane, level: Level) -> bool
     requires { (plane.0 < most_planes) × (1 ≤ level.0) × (level.0 ≤ level_places) × (length reached ≡ level_places) }
     ensures { result ≡ usable_now (reached_at reached) (name_by plane level) }
 {
     let own = reached_plane(reached, level);
     let coarser = reached_plane(reached, Level(level.0 + 1));
-    if own.0 == plane.0 + 1 {
-        return coarser.0 <= plane.0;
-    }
-    false
+    own.0 == plane.0 + 1 && coarser <= plane
 }
 
+// That a level has a place stands in three contracts: a type of such levels would ask more of callers, and Level is the definitions' own.
 // A level has reached a plane.
 pub fn with_reached(
-    reached: [Plane; LEVEL_PLACES],
+    mut reached: [Plane; LEVEL_PLACES],
     plane: Plane,
     level: Level,
 ) -> [Plane; LEVEL_PLACES]
     requires { (1 ≤ level.0) × (level.0 ≤ level_places) }
     ensures { result ≡ set reached (level.0 - 1) plane }
 {
-    let at = level.0 - 1;
-    let mut next = reached;
-    next[at] = plane;
-    next
+    reached[level.0 - 1] = plane;
+    reached
 }
 
 // One more part of a level was skipped.
-pub fn with_skipped(skipped: [usize; LEVEL_PLACES], level: Level) -> [usize; LEVEL_PLACES]
+#[tactic(auto, unfolding(rules::specs::Document::Calls::count_in))]
+pub fn with_skipped(mut skipped: [usize; LEVEL_PLACES], level: Level) -> [usize; LEVEL_PLACES]
     requires { (1 ≤ level.0) × (level.0 ≤ level_places) × (count_in skipped (level.0 - 1) < 2 ^ 32) }
     ensures { result ≡ set skipped (level.0 - 1) (count_in skipped (level.0 - 1) + 1) }
 {
-    let at = level.0 - 1;
-    let mut next = skipped;
-    next[at] = skipped[at] + 1;
-    next
+    skipped[level.0 - 1] += 1;
+    skipped
 }
 
 // What the levels reach without any part: no plane, and nothing where there is no such level.
@@ -67,12 +59,7 @@ pub fn none_reached(h: Header) -> [Plane; LEVEL_PLACES]
     requires { legal_size h.size ≡ true }
     ensures { result ≡ reached_planes h [] }
 {
-    let levels = h.size.n + 1;
     let mut reached = [Plane(0); LEVEL_PLACES];
-    let mut done = 0;
-    while done < levels {
-        reached[done] = Plane(h.planes);
-        done += 1;
-    }
+    reached[..h.size.n + 1].fill(Plane(h.planes));
     reached
 }

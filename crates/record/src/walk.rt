@@ -4,7 +4,7 @@ ghost use Rattle.rules.specs.Document.Pyramid.{legal_size};
 ghost use Rattle.record.specs.Walk.{first_of, next_of, past_of};
 
 use crate::{Name, read};
-use rules::{Header, Level, Part, PartRead, Plane};
+use rules::{Header, Level, Part, Piece, Plane, Refusal};
 
 // The name of the part before, and the place of the next one.
 #[derive(Clone, Copy)]
@@ -28,7 +28,7 @@ impl Cursor {
     }
 
     // The part that stands here, or what is there instead of it.
-    pub fn next(self, bytes: &[u8], h: Header) -> PartRead
+    pub fn next(self, bytes: &[u8], h: Header) -> Result<Piece, Refusal>
         requires { legal_size h.size ≡ true }
         ensures { result ≡ next_of h bytes.now self }
     {
@@ -39,10 +39,8 @@ impl Cursor {
     pub fn past(p: Part) -> Cursor
         ensures { result ≡ past_of p }
     {
-        let plane = p.plane;
-        let level = p.level;
         Cursor {
-            before: Name { plane, level },
+            before: Name::from(p),
             place: p.end,
         }
     }

@@ -6,3 +6,4 @@ pub mod Passes
 pub mod Layout
 pub mod Numbers
 pub mod Calls
+pub mod Answers

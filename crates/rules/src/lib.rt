@@ -18,10 +18,10 @@ pub const SERVE_PLACES: usize = 4;
 pub const DECODE_PLACES: usize = 3 + 2 * LEVEL_PLACES;
 
 // Planes and levels are counted apart: a place for one never accepts the other.
-#[derive(Clone, Copy)]
+#[derive(Clone, Copy, PartialEq, Eq, PartialOrd, Ord)]
 pub struct Plane(pub usize);
 
-#[derive(Clone, Copy)]
+#[derive(Clone, Copy, PartialEq, Eq, PartialOrd, Ord)]
 pub struct Level(pub usize);
 
 // Width, height and decomposition count.
@@ -52,38 +52,24 @@ pub enum Refusal {
     Clash(usize),
 }
 
+// What is told of a result beside its bytes: of serving the lengths of the whole and of the tail; of decoding the tail's length, the plane that each
+// level reached and how many of its parts were skipped.
 #[derive(Clone, Copy)]
-pub enum Verdict {
-    Accepted,
-    Refused(Refusal),
-}
-
-// The answers of coding, serving and decoding.
-#[derive(Clone, Copy)]
-pub struct Coded {
-    pub verdict: Verdict,
-    pub length: usize,
-}
-
-#[derive(Clone, Copy)]
-pub struct Served {
-    pub verdict: Verdict,
+pub struct Extent {
     pub length: usize,
     pub tail: usize,
 }
 
 #[derive(Clone, Copy)]
-pub struct Decoded {
-    pub verdict: Verdict,
+pub struct Reach {
     pub tail: usize,
     pub reached: [Plane; LEVEL_PLACES],
     pub skipped: [usize; LEVEL_PLACES],
 }
 
-// A number read: its value and the place after it, or why it is none.
+// Why no number stands at a place.
 #[derive(Clone, Copy)]
-pub enum Number {
-    Value(usize, usize),
+pub enum NoNumber {
     TooManyBytes,
     LongForm,
     CutOff,
@@ -97,12 +83,6 @@ pub struct Header {
     pub end: usize,
 }
 
-#[derive(Clone, Copy)]
-pub enum HeaderRead {
-    Header(Header),
-    Refused(Refusal),
-}
-
 // A part of a record: its head, and where it, its body and the next part begin.
 #[derive(Clone, Copy)]
 pub struct Part {
@@ -114,11 +94,10 @@ pub struct Part {
     pub end: usize,
 }
 
-// What stands at a place: a part, one that is whole but for its body, less than a head, or what is refused.
+// What stands at a place of a record that is in order: a part, one that is whole but for its body, or less than a head.
 #[derive(Clone, Copy)]
-pub enum PartRead {
+pub enum Piece {
     Part(Part),
     Cut(Part),
     Tail,
-    Refused(Refusal),
 }

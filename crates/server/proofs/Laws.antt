@@ -1,5 +1,7 @@
 -- Serving step by step: the request, one part kept, and what is left of the walk.
+use Rattle.std.specs.Prelude.{◌⊎◌, Result, Ok, Err, is_err}
 use mathlib.Core.Path.{◌≡◌, refl, ap, ap₂, sym, ◌∙◌}
+use mathlib.Core.Logic.{inl, inr}
 use mathlib.Core.List.{List, [], ◌∷◌, ◌++◌, append_assoc, append-nil}
 use mathlib.Core.Bool.{Bool, true, false, cond, ◌&&◌}
 use Prim.Native.Nat.{ℕ, ◌+◌, ◌-◌, ◌≤◌, ◌<◌}
@@ -10,20 +12,16 @@ use lib.Seq.{sets, length-sets, length-take-le}
 use borrow.Author.Tests.{le-leb, lt-leb}
 use Rattle.rules.specs.declared.Refusal.{Refusal}
 use Rattle.rules.specs.declared.Refusal.TheVariants as refusal
-use Rattle.rules.specs.declared.Verdict.TheVariants.{Accepted}
-use Rattle.rules.specs.declared.Served.{Served}
-use Rattle.rules.specs.declared.HeaderRead.{HeaderRead}
 use Rattle.rules.specs.declared.Header.{Header}
-use Rattle.rules.specs.declared.HeaderRead.TheVariants as header
 use Rattle.rules.specs.declared.Part.{Part}
-use Rattle.rules.specs.declared.PartRead.{PartRead}
-use Rattle.rules.specs.declared.PartRead.TheVariants as part
+use Rattle.rules.specs.declared.Piece.{Piece}
+use Rattle.rules.specs.declared.Piece.TheVariants as part
 use Rattle.rules.specs.declared.Plane.{Plane}
 use Rattle.rules.specs.declared.Level.{Level}
 use Rattle.rules.specs.Document.Notation.{flat, zeros}
 use Rattle.rules.specs.Document.Pyramid.{legal_size}
 use Rattle.rules.specs.Document.Layout.{whole_of}
-use Rattle.rules.specs.Document.Numbers.{Ending, tail, fault, Reading, read_header, read_parts, top_level}
+use Rattle.rules.specs.Document.Numbers.{Ending, tail, fault, Reading, read_header, read_parts, PartRead, HeaderRead, Accepted}
 use Rattle.rules.specs.Document.Calls.{refused, accepted, unless, on_header, on_ending, legal_ask, kept_of, served_bytes, portioned}
 use Rattle.rules.specs.Document.Calls.{serving, serve_out, serve_answer, Serving}
 use Rattle.rules.proofs.Laws.Counting.Sums.{flat_append}
@@ -32,23 +30,9 @@ use Rattle.rules.proofs.Laws.Bytes.Output.{clipped_nothing, clipped_length, clip
 use Rattle.rules.proofs.Laws.Serving.Selection.{whole_length}
 use Rattle.record.specs.declared.walk.Cursor.{Cursor}
 use Rattle.record.specs.Walk.{first_of, next_of, past_of, Stands, stands_first, stands_legal, next_stands, Short, stands_past, stands_short, stands_fault}
-use Rattle.server.specs.declared.Ended.{Ended}
-use Rattle.server.specs.declared.Ended.TheVariants.{Whole, Fault}
-use Rattle.server.specs.Walk.{Refusing, Copies, Kept, Begun, end_of, result, Walked}
-
--- The request, cause by cause.
-module _ (h : Header) (level : Level) (plane : Plane) where
-  pub ask_low : level.0 < 1 → false ≡ legal_ask h level.0 plane.0
-  unfolding legal_ask
-  ask_low l = rw (lt-leb 1 level.0 l)
-
-  pub ask_high : 1 ≤ level.0 → h.size.n < level.0 - 1 → false ≡ legal_ask h level.0 plane.0
-  unfolding legal_ask
-  ask_high k l = rw (le-leb 1 level.0 k, lt-leb level.0 (top_level h) (omega arith))
-
-  pub ask_plane : 1 ≤ level.0 → level.0 - 1 ≤ h.size.n → leb plane.0 h.planes ≡ legal_ask h level.0 plane.0
-  unfolding legal_ask
-  ask_plane k l = rw (le-leb 1 level.0 k, le-leb level.0 (top_level h) (omega arith))
+use Rattle.rules.specs.declared.Extent.{Extent}
+use Rattle.rules.specs.Document.Answers.{as_served}
+use Rattle.server.specs.Walk.{Copies, Kept, Begun, end_of, result, Walked, Answered}
 
 -- One part.
 module _ (s : List ℕ) (p : Part) (level : Level) (plane : Plane) (out : List ℕ) (written : ℕ) where
@@ -59,13 +43,10 @@ module _ (s : List ℕ) (p : Part) (level : Level) (plane : Plane) (out : List �
         copies = ap (λ (l : List ℕ). sets out written l) (sym e);
       }
 
-  pub kept_coarse : p.level.0 < level.0 → Kept s p level plane out written written out
+  pub kept_none : (p.level.0 < level.0) ⊎ ((level.0 ≤ p.level.0) × (p.plane.0 < plane.0)) → Kept s p level plane out written written out
   unfolding kept_of
-  kept_coarse l = kept_nothing (rw (lt-leb level.0 p.level.0 l))
-
-  pub kept_low : level.0 ≤ p.level.0 → p.plane.0 < plane.0 → Kept s p level plane out written written out
-  unfolding kept_of
-  kept_low k l = kept_nothing (rw (le-leb level.0 p.level.0 k, lt-leb plane.0 p.plane.0 l))
+  kept_none (inl l) = kept_nothing (rw (lt-leb level.0 p.level.0 l))
+  kept_none (inr (k, l)) = kept_nothing (rw (le-leb level.0 p.level.0 k, lt-leb plane.0 p.plane.0 l))
 
   pub kept_whole : Copies s p written → level.0 ≤ p.level.0 → plane.0 ≤ p.plane.0 → (out' : List ℕ)
       → out' ≡ sets out written (take (p.end - p.place) (drop p.place s)) → Kept s p level plane out written (written + (p.end - p.place)) out'
@@ -130,12 +111,12 @@ module _ (s : List ℕ) (h : Header) (level : Level) (plane : Plane) where
     walking_legal = stands_legal h s c w.seen w.stands
 
     module _ (found : PartRead) (e : found ≡ next_of h s c) where
-      pub walking_copies : (p : Part) → found ≡ part.Part p → Copies s p written
+      pub walking_copies : (p : Part) → found ≡ Ok (part.Part p) → Copies s p written
       walking_copies p f =
           let st = next_stands h s c found e p f in
           record { behind = omega (arith, w.behind, st.placed); ordered = omega (arith, st.placed, st.after, st.end); within = st.within }
 
-      pub walking_past : (p : Part) (d : Cursor) (more : ℕ) (out' : List ℕ) → found ≡ part.Part p → d ≡ past_of p
+      pub walking_past : (p : Part) (d : Cursor) (more : ℕ) (out' : List ℕ) → found ≡ Ok (part.Part p) → d ≡ past_of p
           → Kept s p level plane out written more out' → Walking s h level plane room out' d more
       walking_past p d more out' f g k =
           let own = kept_of s level.0 plane.0 p in
@@ -159,17 +140,18 @@ module _ (s : List ℕ) (h : Header) (level : Level) (plane : Plane) where
       walking_same = ap length w.holds ∙ clipped_length room (bytes w.seen) ∙ lent
 
       module _ (found : PartRead) (e : found ≡ next_of h s c) where
-        pub walking_whole : Short found → Walked s h level plane first (Whole written (length s - c.place)) out
+        pub walking_whole : (x : Piece) → found ≡ Ok x → Short x
+            → Walked s h level plane first (Ok (record { length = written; tail = length s - c.place })) out
         unfolding end_of
-        walking_whole f =
-            let all : read_parts h s ≡ record { parts = w.seen; ending = tail (length s - c.place) } = stands_short h s c found e w.seen w.stands f in
+        walking_whole x f short =
+            let all : read_parts h s ≡ record { parts = w.seen; ending = tail (length s - c.place) } = stands_short h s c found e w.seen w.stands x f short in
             record {
-              ends = rw all (ap (λ (n : ℕ). Whole n (length s - c.place)) w.count);
+              ends = rw all (ap (λ (n : ℕ). Ok (record { length = n; tail = length s - c.place })) w.count);
               same = walking_same;
               holds = λ n u. rw all (w.holds ∙ ap (λ (k : ℕ). clipped k (bytes w.seen)) lent);
             }
 
-        pub walking_fault : (q : Refusal) → found ≡ part.Refused q → Walked s h level plane first (Fault q) out
+        pub walking_fault : (q : Refusal) → found ≡ Err q → Walked s h level plane first (Err q) out
         unfolding end_of
         walking_fault q f =
             let all : read_parts h s ≡ record { parts = w.seen; ending = fault q } = stands_fault h s c found e w.seen w.stands q f in
@@ -180,35 +162,47 @@ module _ (s : List ℕ) (h : Header) (level : Level) (plane : Plane) where
             }
 
 -- How a walk that ended so ended.
-ended_fault : (y : Ending) (bytes : List ℕ) (q : Refusal) → end_of y bytes ≡ Fault q → y ≡ fault q
+ended_fault : (y : Ending) (bytes : List ℕ) (q : Refusal) → end_of y bytes ≡ Err q → y ≡ fault q
 unfolding end_of
 ended_fault (tail t) bytes q e = absurd (let z : ◌≡◌ {A = ℕ} 0 1 = cc in omega arith)
 ended_fault (fault r) bytes q e = cc
 
-ended_whole : (y : Ending) (bytes : List ℕ) (n t : ℕ) → end_of y bytes ≡ Whole n t → (y ≡ tail t) × (n ≡ length bytes)
+ended_whole : (y : Ending) (bytes : List ℕ) (x : Extent) → end_of y bytes ≡ Ok x → (y ≡ tail x.tail) × (x.length ≡ length bytes)
 unfolding end_of
-ended_whole (tail u) bytes n t e = (cc, cc)
-ended_whole (fault r) bytes n t e = absurd (let z : ◌≡◌ {A = ℕ} 0 1 = cc in omega arith)
+ended_whole (tail u) bytes x e = let same : record { length = length bytes; tail = u } ≡ x = cc in (ap (λ z. tail z.tail) same, sym (ap (λ z. z.length) same))
+ended_whole (fault r) bytes x e = absurd (let z : ◌≡◌ {A = ℕ} 0 1 = cc in omega arith)
+
+err_same : {q r : Refusal} → ◌≡◌ {A = Result Extent Refusal} (Err q) (Err r) → q ≡ r
+err_same e = cc
 
 -- The call as a whole, for a header that was read and a request that was judged.
 module _ (s : List ℕ) (level : Level) (plane : Plane) (out : List ℕ) where
-  -- refused with r, the output cleared by whoever had it then, as long as it was lent
-  refusing : (r : Refusal) (a : Served) (then out' : List ℕ) → length then ≡ length out → Refusing r then a out'
-      → serving s level.0 plane.0 (length out) ≡ refused r → Serving s level.0 plane.0 out a out'
-  unfolding serve_answer serve_out
-  refusing r a then out' l f e =
-      record { answers = f.answers ∙ ap serve_answer (sym e); writes = f.clears ∙ ap zeros l ∙ ap (serve_out (length out)) (sym e) }
+  refused_with : (q : Refusal) (then : List ℕ) → length then ≡ length out → serving s level.0 plane.0 (length out) ≡ refused q
+      → Answered s level plane out (Err q) then
+  refused_with q then l e =
+      record {
+        same = l;
+        refuses = λ r f. e ∙ ap refused (err_same f);
+        serves = λ x f. absurd (let z : ◌≡◌ {A = ℕ} 0 1 = cc in omega arith);
+      }
 
-  pub unheaded : (x : HeaderRead) (r : Refusal) (a : Served) (out' : List ℕ) → x ≡ read_header s → x ≡ header.Refused r → Refusing r out a out'
-      → Serving s level.0 plane.0 out a out'
+  -- Behind it, what was written for a refusal is cleared.
+  pub cleared : (r : Result Extent Refusal) (then out' : List ℕ) → Answered s level plane out r then → is_err r ≡ true → out' ≡ replicate (length then) 0
+      → Serving s level.0 plane.0 out (as_served r) out'
+  unfolding as_served serve_answer serve_out
+  cleared (Ok x) then out' w e g = absurd (let z : ◌≡◌ {A = ℕ} 0 1 = cc in omega arith)
+  cleared (Err q) then out' w e g =
+      let f = w.refuses q refl in
+      record { answers = rw f; writes = g ∙ ap (λ n. replicate n 0) w.same ∙ ap (serve_out (length out)) (sym f) }
+
+  pub unheaded : (x : HeaderRead) (q : Refusal) → x ≡ read_header s → x ≡ Err q → Answered s level plane out (Err q) out
   unfolding serving on_header
-  unheaded x r a out' e f g = refusing r a out out' refl g (rw (sym e ∙ f))
+  unheaded x q e f = refused_with q out refl (rw (sym e ∙ f))
 
-  module _ (h : Header) (read : read_header s ≡ header.Header h) where
-    pub unasked : (b : Bool) (a : Served) (out' : List ℕ) → b ≡ legal_ask h level.0 plane.0 → b ≡ false → Refusing refusal.Ask out a out'
-        → Serving s level.0 plane.0 out a out'
+  module _ (h : Header) (read : read_header s ≡ Ok h) where
+    pub unasked : (b : Bool) → b ≡ legal_ask h level.0 plane.0 → b ≡ false → Answered s level plane out (Err refusal.Ask) out
     unfolding serving on_header unless
-    unasked b a out' e f g = refusing refusal.Ask a out out' refl g (rw (read, sym e ∙ f))
+    unasked b e f = refused_with refusal.Ask out refl (rw (read, sym e ∙ f))
 
     -- The output zeroed, and the header copied to its front.
     module _ (zeroed copied : List ℕ) (zeroes : zeroed ≡ replicate (length out) 0) (copies : copied ≡ sets zeroed 0 (take h.end (drop 0 s))) where
@@ -228,34 +222,37 @@ module _ (s : List ℕ) (level : Level) (plane : Plane) (out : List ℕ) where
           }
 
       -- The walk has ended.
-      module _ (b : Bool) (asked : b ≡ legal_ask h level.0 plane.0) (legal_ask_lem : b ≡ true) (e : Ended) (out₁ : List ℕ)
+      module _ (b : Bool) (asked : b ≡ legal_ask h level.0 plane.0) (legal_ask_lem : b ≡ true) (e : Result Extent Refusal) (out₁ : List ℕ)
           (w : Walked s h level plane copied e out₁) where
-        pub faulted : (q : Refusal) (a : Served) (out' : List ℕ) → e ≡ Fault q → Refusing q out₁ a out' → Serving s level.0 plane.0 out a out'
+        pub faulted : (q : Refusal) → e ≡ Err q → Answered s level plane out (Err q) out₁
         unfolding serving on_header unless on_ending
-        faulted q a out' f g =
+        faulted q f =
             let y : (read_parts h s).ending ≡ fault q = ended_fault _ (result s h level plane) q (sym w.ends ∙ f) in
-            refusing q a out₁ out' (w.same ∙ lent) g (rw (read, sym asked ∙ legal_ask_lem, y))
+            refused_with q out₁ (w.same ∙ lent) (rw (read, sym asked ∙ legal_ask_lem, y))
 
-        pub roomless : (n t : ℕ) (a : Served) (out' : List ℕ) → e ≡ Whole n t → length out₁ < n → Refusing refusal.Room out₁ a out'
-            → Serving s level.0 plane.0 out a out'
+        pub roomless : (x : Extent) → e ≡ Ok x → length out₁ < x.length → Answered s level plane out (Err refusal.Room) out₁
         unfolding serving on_header unless on_ending portioned
-        roomless n t a out' f l g =
-            let y = ended_whole _ (result s h level plane) n t (sym w.ends ∙ f) in
+        roomless x f l =
+            let y = ended_whole _ (result s h level plane) x (sym w.ends ∙ f) in
             let m : length out < length (result s h level plane) = omega (arith, lent, w.same, y.1) in
-            refusing refusal.Room a out₁ out' (w.same ∙ lent) g
+            refused_with refusal.Room out₁ (w.same ∙ lent)
             (rw (read, sym asked ∙ legal_ask_lem, y.0, lt-leb (length (result s h level plane)) (length out) m))
 
-        pub served : (n t : ℕ) → e ≡ Whole n t → n ≤ length out₁
-            → Serving s level.0 plane.0 out (record { verdict = Accepted; length = n; tail = t }) out₁
-        unfolding serving on_header unless on_ending portioned serve_answer serve_out
-        served n t f l =
-            let y = ended_whole _ (result s h level plane) n t (sym w.ends ∙ f) in
+        pub served : (x : Extent) → e ≡ Ok x → x.length ≤ length out₁ → Answered s level plane out (Ok x) out₁
+        unfolding serving on_header unless on_ending portioned as_served serve_answer serve_out
+        served x f l =
+            let y = ended_whole _ (result s h level plane) x (sym w.ends ∙ f) in
             let m : length (result s h level plane) ≤ length out = omega (arith, lent, w.same, y.1) in
-            let v : serving s level.0 plane.0 (length out) ≡ accepted (record { bytes = result s h level plane; tail = t })
+            let v : serving s level.0 plane.0 (length out) ≡ accepted (record { bytes = result s h level plane; tail = x.tail })
             = rw (read, sym asked ∙ legal_ask_lem, y.0, le-leb (length (result s h level plane)) (length out) m) in
             record {
-              answers = ap (λ (k : ℕ). record { verdict = Accepted; length = k; tail = t }) y.1 ∙ ap serve_answer (sym v);
-              writes =
-                  w.holds t y.0 ∙ ap (λ (k : ℕ). clipped k (result s h level plane)) lent
-                  ∙ clipped_fits (length out) (result s h level plane) m ∙ ap (serve_out (length out)) (sym v);
+              same = w.same ∙ lent;
+              refuses = λ q g. absurd (let z : ◌≡◌ {A = ℕ} 0 1 = cc in omega arith);
+              serves = λ x' g.
+                  record {
+                    answers = ap (λ (k : ℕ). record { verdict = Accepted; length = k; tail = x.tail }) y.1 ∙ ap serve_answer (sym v);
+                    writes =
+                        w.holds x.tail y.0 ∙ ap (λ (k : ℕ). clipped k (result s h level plane)) lent
+                        ∙ clipped_fits (length out) (result s h level plane) m ∙ ap (serve_out (length out)) (sym v);
+                  };
             }

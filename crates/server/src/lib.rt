@@ -1,45 +1,21 @@
 // Serving: the header and the parts with a level and a plane of at least those asked for, copied without being decoded.
 #![tactic(auto)]
 
-ghost use Rattle.std.specs.Prelude.{◌≡◌, length};
-ghost use Rattle.rules.specs.declared.HeaderRead.TheVariants as header;
+ghost use Rattle.std.specs.Prelude.{◌≡◌};
 ghost use Rattle.rules.specs.Document.Numbers.{read_header};
 ghost use Rattle.rules.specs.Document.Calls.{Serving, legal_ask};
-ghost use Rattle.server.specs.Walk.{Refusing, Copies, Kept, Begun, Walked};
+ghost use Rattle.rules.specs.Document.Answers.{as_served};
+ghost use Rattle.server.specs.Walk.{Copies, Kept, Begun, Walked, Answered};
 
 use record::read;
 use record::walk::Cursor;
-use rules::{Header, HeaderRead, Level, Part, PartRead, Plane, Refusal, Served, Verdict};
+use rules::{Extent, Header, Level, Part, Piece, Plane, Refusal};
 
-// How the walk over the parts ended: with the length of the whole result and that of the tail, or at a part at fault.
-#[derive(Clone, Copy)]
-pub enum Ended {
-    Whole(usize, usize),
-    Fault(Refusal),
-}
-
-fn refused(refusal: Refusal, lent: &mut [u8]) -> Served
-    ensures { Refusing refusal lent.old result lent.new }
-{
-    memory::zero_u8(lent);
-    Served {
-        verdict: Verdict::Refused(refusal),
-        length: 0,
-        tail: 0,
-    }
-}
-
+#[tactic(auto, using(std::proofs::lemmas::Bool::Decides::nat_tests), unfolding(rules::specs::Document::Calls::legal_ask))]
 fn legal_ask(h: Header, level: Level, plane: Plane) -> bool
     ensures { result ≡ legal_ask h level.0 plane.0 }
 {
-    let size = h.size;
-    if level.0 < 1 {
-        return false;
-    }
-    if size.n < level.0 - 1 {
-        return false;
-    }
-    plane.0 <= h.planes
+    1 <= level.0 && level.0 - 1 <= h.size.n && plane.0 <= h.planes
 }
 
 // Copies a part that is asked for behind what was written, and answers the length with it.
@@ -54,74 +30,77 @@ fn keep(
     requires { Copies bytes.now part written }
     ensures { Kept bytes.now part level plane out.old written result out.new }
 {
-    let own_level = part.level;
-    let own_plane = part.plane;
-    if own_level.0 < level.0 {
+    if part.level.0 < level.0 || part.plane.0 < plane.0 {
         return written;
     }
-    if own_plane.0 < plane.0 {
-        return written;
-    }
-    let place = part.place;
-    let count = part.end - place;
-    memory::copy(bytes, place, count, out, written);
+    let count = part.end - part.place;
+    memory::copy(bytes, part.place, count, out, written);
     written + count
 }
 
 // Walks over the parts, keeping those asked for behind the header.
-fn walk(bytes: &[u8], h: Header, level: Level, plane: Plane, out: &mut [u8]) -> Ended
+fn walk(
+    bytes: &[u8],
+    h: Header,
+    level: Level,
+    plane: Plane,
+    out: &mut [u8],
+) -> Result<Extent, Refusal>
     requires { Begun bytes.now h out.old }
     ensures { Walked bytes.now h level plane out.old result out.new }
 {
     let mut cursor = Cursor::first(h);
-    let mut written = h.end;
-    loop {
-        match cursor.next(bytes, h) {
-            PartRead::Tail | PartRead::Cut(_) => {
-                return Ended::Whole(written, bytes.len() - cursor.place);
-            }
-            PartRead::Refused(r) => return Ended::Fault(r),
-            PartRead::Part(p) => {
-                written = keep(bytes, p, level, plane, out, written);
-                cursor = Cursor::past(p);
-            }
-        }
+    let mut length = h.end;
+    while let Piece::Part(p) = cursor.next(bytes, h)? {
+        length = keep(bytes, p, level, plane, out, length);
+        cursor = Cursor::past(p);
     }
+    let tail = bytes.len() - cursor.place;
+    Ok(Extent { length, tail })
 }
 
 // Serving a record whose header was read: the request, the parts, at the very end the room.
-fn serve_parts(bytes: &[u8], h: Header, level: Level, plane: Plane, out: &mut [u8]) -> Served
-    requires { read_header bytes.now ≡ header.Header h }
-    ensures { Serving bytes.now level.0 plane.0 out.old result out.new }
+fn serve_parts(
+    bytes: &[u8],
+    h: Header,
+    level: Level,
+    plane: Plane,
+    out: &mut [u8],
+) -> Result<Extent, Refusal>
+    requires { read_header bytes.now ≡ Ok h }
+    ensures { Answered bytes.now level plane out.old result out.new }
 {
     if !legal_ask(h, level, plane) {
-        return refused(Refusal::Ask, out);
+        return Err(Refusal::Ask);
     }
-    let end = h.end;
-    memory::zero_u8(out);
-    memory::copy(bytes, 0, end, out, 0);
-    let ended = walk(bytes, h, level, plane, out);
-    match ended {
-        Ended::Fault(r) => refused(r, out),
-        Ended::Whole(length, tail) => {
-            if out.len() < length {
-                refused(Refusal::Room, out)
-            } else {
-                Served {
-                    verdict: Verdict::Accepted,
-                    length,
-                    tail,
-                }
-            }
-        }
+    memory::zero(out);
+    memory::copy(bytes, 0, h.end, out, 0);
+    let served = walk(bytes, h, level, plane, out)?;
+    if out.len() < served.length {
+        return Err(Refusal::Room);
     }
+    Ok(served)
 }
 
-pub fn serve(bytes: &[u8], level: Level, plane: Plane, out: &mut [u8]) -> Served
-    ensures { Serving bytes.now level.0 plane.0 out.old result out.new }
+fn serve_or_refuse(
+    bytes: &[u8],
+    level: Level,
+    plane: Plane,
+    out: &mut [u8],
+) -> Result<Extent, Refusal>
+    ensures { Answered bytes.now level plane out.old result out.new }
 {
-    match read::header(bytes) {
-        HeaderRead::Header(h) => serve_parts(bytes, h, level, plane, out),
-        HeaderRead::Refused(r) => refused(r, out),
+    let h = read::header(bytes)?;
+    serve_parts(bytes, h, level, plane, out)
+}
+
+// A refusal leaves nothing of what was written before it.
+pub fn serve(bytes: &[u8], level: Level, plane: Plane, out: &mut [u8]) -> Result<Extent, Refusal>
+    ensures { Serving bytes.now level.0 plane.0 out.old (as_served result) out.new }
+{
+    let served = serve_or_refuse(bytes, level, plane, out);
+    if served.is_err() {
+        memory::zero(out);
     }
+    served
 }

@@ -1,10 +1,10 @@
 -- "It checks as serving with r = 1, p = 0 does": what serving a record whole answers, in any room, is told by its survey.
 use Rattle.std.specs.Prelude.{◌≡◌, List, ℕ, ◌-◌, length, take}
-use Rattle.rules.specs.declared.Verdict.{Verdict}
-use Rattle.rules.specs.declared.Verdict.TheVariants.{Accepted, Refused}
-use Rattle.rules.specs.declared.Served.{Served}
+use Rattle.rules.specs.Document.Numbers.{Verdict}
+use Rattle.rules.specs.Document.Numbers.{Accepted, Refused}
+use Rattle.rules.specs.Document.Calls.{Served}
 use Rattle.rules.specs.Document.Calls.{Result, refused, Portion, portioned}
-use Rattle.survey.specs.declared.Survey.{Survey}
+use Rattle.survey.specs.Surveyed.{Survey}
 
 -- What serving whole makes of a record with this verdict and tail: refused for the same cause, or all but the tail in the room that there is.
 unfoldable pub whole_by : List ℕ → ℕ → ℕ → Verdict → Result Portion

@@ -1,21 +1,28 @@
 -- What a survey says: the header, the number of whole parts and the tail of a record that serving accepts, or its refusal.
-use Rattle.std.specs.Prelude.{◌≡◌, List, [], ◌∷◌, cond, ℕ, leb, length}
+use Rattle.std.specs.Prelude.{◌≡◌, List, [], ◌∷◌, cond, ℕ, leb, length, Result, Ok, Err}
 use Rattle.rules.specs.declared.Refusal.{Refusal}
 use Rattle.rules.specs.declared.Refusal.TheVariants as refusal
-use Rattle.rules.specs.declared.Verdict.TheVariants.{Accepted, Refused}
 use Rattle.rules.specs.declared.Header.{Header}
-use Rattle.rules.specs.declared.HeaderRead.{HeaderRead}
-use Rattle.rules.specs.declared.HeaderRead.TheVariants as header
-use Rattle.rules.specs.declared.PartRead.{PartRead}
-use Rattle.rules.specs.declared.PartRead.TheVariants as part
+use Rattle.rules.specs.Document.Numbers.{Verdict, Accepted, Refused, HeaderRead, PartRead}
 use Rattle.rules.specs.Document.Numbers.{verdict_number, verdict_place, Ending, tail, fault, Reading, read_header, read_parts}
 use Rattle.rules.specs.Document.Calls.{returned, reported}
 use Rattle.record.specs.declared.walk.Cursor.{Cursor}
 use Rattle.record.specs.Walk.{next_of}
-use Rattle.survey.specs.declared.Survey.{Survey}
+use Rattle.survey.specs.declared.Contents.{Contents}
+
+pub record Survey : Type 0 where
+  pub verdict : Verdict
+  pub header : Header
+  pub parts : ℕ
+  pub tail : ℕ
 
 abbrev pub refused_with : Refusal → Survey
 refused_with r = record { verdict = Refused r; header = record { size = record { w = 0; h = 0; n = 0 }; planes = 0; end = 0 }; parts = 0; tail = 0 }
+
+-- What a routine hands back, as a survey.
+unfoldable pub as_survey : Result Contents Refusal → Survey
+as_survey (Ok x) = record { verdict = Accepted; header = x.header; parts = x.parts; tail = x.tail }
+as_survey (Err r) = refused_with r
 
 abbrev pub ended_with : Header → ℕ → Ending → Survey
 ended_with h n (tail t) = record { verdict = Accepted; header = h; parts = n; tail = t }
@@ -25,8 +32,8 @@ abbrev pub walked_with : Header → Reading → Survey
 walked_with h r = ended_with h (length r.parts) r.ending
 
 abbrev pub headed_with : List ℕ → HeaderRead → Survey
-headed_with s (header.Header h) = walked_with h (read_parts h s)
-headed_with s (header.Refused r) = refused_with r
+headed_with s (Ok h) = walked_with h (read_parts h s)
+headed_with s (Err r) = refused_with r
 
 unfoldable pub survey_of : List ℕ → Survey
 survey_of s = headed_with s (read_header s)
@@ -40,8 +47,8 @@ listed_of s = cond (leb (length s) longest) (survey_of s) (refused_with refusal.
 
 -- What stands at a cursor in a record; without a legal header its refusal.
 abbrev pub part_behind : List ℕ → Cursor → HeaderRead → PartRead
-part_behind s c (header.Header h) = next_of h s c
-part_behind s c (header.Refused r) = part.Refused r
+part_behind s c (Ok h) = next_of h s c
+part_behind s c (Err r) = Err r
 
 unfoldable pub part_at : List ℕ → Cursor → PartRead
 part_at s c = part_behind s c (read_header s)

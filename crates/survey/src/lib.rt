@@ -2,13 +2,12 @@
 #![tactic(auto)]
 
 ghost use Rattle.std.specs.Prelude.{◌≡◌};
-ghost use Rattle.rules.specs.declared.HeaderRead.TheVariants as header;
 ghost use Rattle.rules.specs.Document.Numbers.{read_header, read_parts};
-ghost use Rattle.survey.specs.Surveyed.{refused_with, walked_with, survey_of, listed_of, part_at};
+ghost use Rattle.survey.specs.Surveyed.{as_survey, walked_with, survey_of, listed_of, part_at};
 
 use record::read;
 use record::walk::Cursor;
-use rules::{Header, HeaderRead, PartRead, Refusal, Size, Verdict};
+use rules::{Header, Piece, Refusal};
 
 // The longest input that partlist takes.
 pub const LONGEST: usize = 16384;
@@ -16,79 +15,55 @@ pub const LONGEST: usize = 16384;
 // The length of what afs_survey answers.
 pub const SURVEY_PLACES: usize = 8;
 
+// Of a record in order: its header, how many whole parts it has, and the length of the tail.
 #[derive(Clone, Copy)]
-pub struct Survey {
-    pub verdict: Verdict,
+pub struct Contents {
     pub header: Header,
     pub parts: usize,
     pub tail: usize,
 }
 
-fn refused(refusal: Refusal) -> Survey
-    ensures { result ≡ refused_with refusal }
+fn walk(bytes: &[u8], header: Header) -> Result<Contents, Refusal>
+    requires { read_header bytes.now ≡ Ok header }
+    ensures { as_survey result ≡ walked_with header (read_parts header bytes.now) }
 {
-    Survey {
-        verdict: Verdict::Refused(refusal),
-        header: Header {
-            size: Size { w: 0, h: 0, n: 0 },
-            planes: 0,
-            end: 0,
-        },
-        parts: 0,
-        tail: 0,
-    }
-}
-
-fn walk(bytes: &[u8], h: Header) -> Survey
-    requires { read_header bytes.now ≡ header.Header h }
-    ensures { result ≡ walked_with h (read_parts h bytes.now) }
-{
-    let mut cursor = Cursor::first(h);
+    let mut cursor = Cursor::first(header);
     let mut parts = 0;
-    loop {
-        match cursor.next(bytes, h) {
-            PartRead::Tail | PartRead::Cut(_) => {
-                return Survey {
-                    verdict: Verdict::Accepted,
-                    header: h,
-                    parts,
-                    tail: bytes.len() - cursor.place,
-                };
-            }
-            PartRead::Refused(r) => return refused(r),
-            PartRead::Part(p) => {
-                cursor = Cursor::past(p);
-                parts += 1;
-            }
-        }
+    while let Piece::Part(p) = cursor.next(bytes, header)? {
+        cursor = Cursor::past(p);
+        parts += 1;
     }
+    let tail = bytes.len() - cursor.place;
+    Ok(Contents {
+        header,
+        parts,
+        tail,
+    })
 }
 
-pub fn survey_of(bytes: &[u8]) -> Survey
-    ensures { result ≡ survey_of bytes.now }
+#[tactic(auto, unfolding(crate::specs::Surveyed::survey_of, crate::specs::Surveyed::as_survey))]
+pub fn survey_of(bytes: &[u8]) -> Result<Contents, Refusal>
+    ensures { as_survey result ≡ survey_of bytes.now }
 {
-    match read::header(bytes) {
-        HeaderRead::Header(h) => walk(bytes, h),
-        HeaderRead::Refused(r) => refused(r),
-    }
+    walk(bytes, read::header(bytes)?)
 }
 
 // What partlist decides of its input.
-pub fn listed(bytes: &[u8]) -> Survey
-    ensures { result ≡ listed_of bytes.now }
+#[tactic(auto, using(std::proofs::lemmas::Bool::Decides::nat_tests), unfolding(crate::specs::Surveyed::listed_of, crate::specs::Surveyed::as_survey))]
+pub fn listed(bytes: &[u8]) -> Result<Contents, Refusal>
+    ensures { as_survey result ≡ listed_of bytes.now }
 {
     if LONGEST < bytes.len() {
-        return refused(Refusal::Room);
+        return Err(Refusal::Room);
     }
     survey_of(bytes)
 }
 
 // What stands at a cursor: what partlist prints one after the other.
-pub fn part_at(bytes: &[u8], cursor: Cursor) -> PartRead
+#[tactic(auto, using(record::specs::Walk::found_legal), unfolding(crate::specs::Surveyed::part_at))]
+pub fn part_at(bytes: &[u8], cursor: Cursor) -> Result<Piece, Refusal>
     ensures { result ≡ part_at bytes.now cursor }
 {
-    match read::header(bytes) {
-        HeaderRead::Header(h) => cursor.next(bytes, h),
-        HeaderRead::Refused(r) => PartRead::Refused(r),
-    }
+    let header = read::header(bytes)?;
+    cursor.next(bytes, header)
 }

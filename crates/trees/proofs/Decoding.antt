@@ -5,7 +5,7 @@
 --   onward_of F h s there p g         document 01's next part, and
 --   decode_parts_of F h s there ps g   its walk over the parts, over any family
 --   Same f a b                       the same progress: the lists renamed, the values laid; or the same misfit
-use Rattle.std.specs.Prelude.{◌≡◌, Bool, cond, ℕ, suc, ◌^◌, ◌≤◌, ◌<◌, leb, eqb, length, get_or, set, replicate, ℤ, pos}
+use Rattle.std.specs.Prelude.{◌≡◌, Bool, cond, ℕ, suc, ◌^◌, ◌≤◌, ◌<◌, leb, eqb, length, get_or, set, replicate, ℤ, pos, Ok, Err}
 use Rattle.std.proofs.Math.Path.{refl, ap, subst}
 use Rattle.std.proofs.Common.{sym, ◌∙◌, arith, length-set, get_or-set_same, get_or-set_other}
 use mathlib.Core.List.{List, [], ◌∷◌, ◌++◌}
@@ -17,8 +17,8 @@ use Rattle.std.proofs.Math.Seq.{set_out}
 use Rattle.rules.specs.declared.Size.{Size}
 use Rattle.rules.specs.declared.Header.{Header}
 use Rattle.rules.specs.declared.Part.{Part}
-use Rattle.rules.specs.declared.PartRead.{PartRead}
-use Rattle.rules.specs.declared.PartRead.TheVariants as part
+use Rattle.rules.specs.Document.Numbers.{PartRead}
+use Rattle.rules.specs.declared.Piece.TheVariants as part
 use Rattle.rules.specs.Document.Pyramid.{Family, family, area, levels}
 use Rattle.rules.specs.Document.Passes.{Event, to_lip, to_lsp, stays, moves, refined, Lists, pass, Side, Course}
 use Rattle.rules.specs.Document.Passes.{passed, State, after, start, PartName, Reader, signed, grown, written, decoder, decoded}
@@ -105,11 +105,11 @@ module _ (f : ℕ → ℕ) (one : (x y : ℕ) → f x ≡ f y → x ≡ y) where
 module _ (h : Header) (s : List ℕ) (there : List PartName) where
   pub tail_onward_of_lem : (x : PartRead) (g : Progress) → tail_onward h s there x g ≡ tail_onward_of (family h.size) h s there x g
   unfolding tail_onward tail_onward_of
-  tail_onward_of_lem (part.Cut p) (going st v) = refl
-  tail_onward_of_lem (part.Cut p) (unfit at) = refl
-  tail_onward_of_lem (part.Part p) g = refl
-  tail_onward_of_lem part.Tail g = refl
-  tail_onward_of_lem (part.Refused r) g = refl
+  tail_onward_of_lem (Ok (part.Cut p)) (going st v) = refl
+  tail_onward_of_lem (Ok (part.Cut p)) (unfit at) = refl
+  tail_onward_of_lem (Ok (part.Part p)) g = refl
+  tail_onward_of_lem (Ok part.Tail) g = refl
+  tail_onward_of_lem (Err r) g = refl
 
   onward_of_lem : (p : Part) (g : Progress) → onward h s there p g ≡ onward_of (family h.size) h s there p g
   unfolding onward onward_of
@@ -162,13 +162,13 @@ module _ (f : ℕ → ℕ) (one : (x y : ℕ) → f x ≡ f y → x ≡ y) (F G 
 
   pub tail_onward_same : (x : PartRead) (a b : Progress) → Same f a b → Same f (tail_onward_of F h s there x a) (tail_onward_of G h s there x b)
   unfolding tail_onward_of Same name_of
-  tail_onward_same (part.Part p) a b e = e
-  tail_onward_same part.Tail a b e = e
-  tail_onward_same (part.Refused r) a b e = e
-  tail_onward_same (part.Cut p) (unfit a) (unfit b) e = e
-  tail_onward_same (part.Cut p) (unfit a) (going su w) e = absurd e
-  tail_onward_same (part.Cut p) (going st v) (unfit b) e = absurd e
-  tail_onward_same (part.Cut p) (going st v) (going su w) e =
+  tail_onward_same (Ok (part.Part p)) a b e = e
+  tail_onward_same (Ok part.Tail) a b e = e
+  tail_onward_same (Err r) a b e = e
+  tail_onward_same (Ok (part.Cut p)) (unfit a) (unfit b) e = e
+  tail_onward_same (Ok (part.Cut p)) (unfit a) (going su w) e = absurd e
+  tail_onward_same (Ok (part.Cut p)) (going st v) (unfit b) e = absurd e
+  tail_onward_same (Ok (part.Cut p)) (going st v) (going su w) e =
       rw e.0 (go (usable (levels h.size) h.planes (there ++ (name_of p ∷ [])) (name_of p)))
     where
       go : (b : Bool)

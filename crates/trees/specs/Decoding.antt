@@ -5,12 +5,12 @@
 --   onward_of F h s there p g         document 01's next part, and
 --   decode_parts_of F h s there ps g   its walk over the parts, over any family
 --   Same f a b                       the same progress: the lists renamed, the values laid; or the same misfit
-use Rattle.std.specs.Prelude.{◌≡◌, cond, ℕ, ◌<◌, length, get_or, ℤ, pos}
+use Rattle.std.specs.Prelude.{◌≡◌, cond, ℕ, ◌<◌, length, get_or, ℤ, pos, Ok, Err}
 use mathlib.Core.List.{List, [], ◌∷◌, ◌++◌}
 use Rattle.rules.specs.declared.Header.{Header}
 use Rattle.rules.specs.declared.Part.{Part}
-use Rattle.rules.specs.declared.PartRead.{PartRead}
-use Rattle.rules.specs.declared.PartRead.TheVariants as part
+use Rattle.rules.specs.Document.Numbers.{PartRead}
+use Rattle.rules.specs.declared.Piece.TheVariants as part
 use Rattle.rules.specs.Document.Pyramid.{Family, levels}
 use Rattle.rules.specs.Document.Passes.{Course}
 use Rattle.rules.specs.Document.Passes.{State, after, PartName, Reader, decoded}
@@ -40,14 +40,14 @@ module _ (F : Family) (h : Header) (s : List ℕ) (there : List PartName) where
   decode_parts_of (p ∷ ps) g = decode_parts_of ps (onward_of p g)
 
   unfoldable pub tail_onward_of : PartRead → Progress → Progress
-  tail_onward_of (part.Cut p) (going st v) =
+  tail_onward_of (Ok (part.Cut p)) (going st v) =
       cond (usable (levels h.size) h.planes (there ++ (name_of p ∷ [])) (name_of p))
       (used_cut h s there p st (decoded F (name_of p) (bit_at (body_of s p)) (bits_there s p) st v))
       (going st v)
-  tail_onward_of (part.Cut p) (unfit at) = unfit at
-  tail_onward_of (part.Part p) g = g
-  tail_onward_of part.Tail g = g
-  tail_onward_of (part.Refused r) g = g
+  tail_onward_of (Ok (part.Cut p)) (unfit at) = unfit at
+  tail_onward_of (Ok (part.Part p)) g = g
+  tail_onward_of (Ok part.Tail) g = g
+  tail_onward_of (Err r) g = g
 
 unfoldable pub Same : (ℕ → ℕ) → Progress → Progress → Type 0
 Same f (going st v) (going su w) = (st ≡ name_state f su) × Laid f v w

@@ -2,10 +2,7 @@ use Rattle.coder.specs.Writing.{stage_of}
 use Rattle.coder.proofs.Turns.{LevelsLeft}
 use Rattle.coder.proofs.write_plane.Given as goal
 
-abbrev pub invariant-loop-left : goal.invariant-loop-left
-invariant-loop-left l =
-    LevelsLeft l.z l.plane l.initial.work (stage_of l.z l.initial.work l.initial.reached l.initial.out) l.left l.work l.reached.counts
+abbrev pub invariant-loop-level : goal.invariant-loop-level
+invariant-loop-level l =
+    LevelsLeft l.z l.plane l.initial.work (stage_of l.z l.initial.work l.initial.reached l.initial.out) l.level l.work l.reached.counts
     (stage_of l.z l.work l.reached l.out)
-
-abbrev pub decreases-loop-left : goal.decreases-loop-left
-decreases-loop-left l = l.left

@@ -1,6 +1,5 @@
 -- `coder::write_record`: header, then all parts.
 use borrow.Author.Rules.{rules}
-use Rattle.coder.proofs.Outcomes.{stored_room}
 use Rattle.coder.proofs.Records.{planes_few, header_clear, header_short, record_stored}
 use Rattle.coder.proofs.write_record.Goals as goal
 
@@ -12,6 +11,3 @@ write_parts-requires c = (search rules, search (rules, planes_few), search (rule
 
 pub returns : goal.returns
 returns c = search (rules, record_stored)
-
-pub shape_of-out : goal.shape_of-out
-shape_of-out c = search (rules, stored_room)

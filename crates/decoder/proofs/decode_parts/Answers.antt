@@ -1,5 +1,5 @@
--- `decoder::decode_parts`: the walk begins, and goes on to its end.
-use Rattle.decoder.proofs.LawsWalk.{lent_roomy, walking_first, begun_answered}
+-- `decoder::decode_parts`: the walk begins, and goes on to its end, where the pyramid is laid out.
+use Rattle.decoder.proofs.LawsWalk.{lent_roomy, walking_first}
 use borrow.Author.Rules.{rules}
 use Rattle.decoder.proofs.decode_parts.Goals as goal
 
@@ -12,5 +12,5 @@ first_walk-first-requires c = search (rules, lent_roomy)
 pub walk_all-requires : goal.walk_all-requires
 walk_all-requires c = search (rules, walking_first)
 
-pub returns : goal.returns
-returns c = search (rules, begun_answered)
+pub lay_out-requires : goal.lay_out-requires
+lay_out-requires c = search (rules, lent_roomy)

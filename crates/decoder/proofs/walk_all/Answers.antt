@@ -1,34 +1,22 @@
--- `decoder::walk_all`: turn by turn; the lengths of what was lent stay.
-use Rattle.decoder.proofs.LawsWalk.{walking_roomy, walking_standing, turn_on, turn_falls, turn_within, turn_accepts, turn_refuses, cleared}
+-- `decoder::walk_all`: turn by turn, to the end or the first fault.
+use Rattle.std.proofs.lemmas.Result.{err_from_is_err_and}
+use Rattle.decoder.proofs.LawsWalk.{walking_standing, turn_on, turn_falls, turn_ends, turn_refused}
 use borrow.Author.Rules.{rules}
 use Rattle.decoder.proofs.walk_all.Goals as goal
 
-pub walk_on-turn-requires : goal.walk_on-turn-requires
-walk_on-turn-requires c = search (rules, walking_standing)
+pub walk_on-requires : goal.walk_on-requires
+walk_on-requires c = search (rules, walking_standing)
 
-pub loop-tail-smaller : goal.loop-tail-smaller
-loop-tail-smaller c = search (rules, turn_falls)
+pub returns-in_err-next : goal.returns-in_err-next
+returns-in_err-next c =
+    let p = err_from_is_err_and c.from_residual.result c.from_residual.ensures.1 in
+    rw (p.1, p.2) (turn_refused _ _ _ _ c.loop-next.invariant c.in_err-next.ensures)
 
-pub loop-tail-preserved : goal.loop-tail-preserved
-loop-tail-preserved c = search (rules, turn_on)
+pub loop-next-smaller : goal.loop-next-smaller
+loop-next-smaller c = search (rules, turn_falls)
 
-pub overflow_sub-tail : goal.overflow_sub-tail
-overflow_sub-tail c = search (rules, turn_within)
+pub loop-next-preserved : goal.loop-next-preserved
+loop-next-preserved c = search (rules, turn_on)
 
-pub lay_out-requires : goal.lay_out-requires
-lay_out-requires c = search (rules, walking_roomy)
-
-pub shape_of-work-in-Tail : goal.shape_of-work-in-Tail
-shape_of-work-in-Tail c = search (rules, cleared)
-
-pub returns-in-Tail : goal.returns-in-Tail
-returns-in-Tail c = search (rules, turn_accepts)
-
-pub shape_of-out-in-Refused : goal.shape_of-out-in-Refused
-shape_of-out-in-Refused c = search (rules, cleared)
-
-pub shape_of-work-in-Refused : goal.shape_of-work-in-Refused
-shape_of-work-in-Refused c = search (rules, cleared)
-
-pub returns-in-Refused : goal.returns-in-Refused
-returns-in-Refused c = search (rules, turn_refuses)
+pub returns : goal.returns
+returns c = search (rules, turn_ends)

@@ -1,16 +1,11 @@
 use mathlib.Core.Path.{◌≡◌}
-use mathlib.Core.List.{map}
-use Prim.Native.Nat.{◌-◌, ◌≤◌}
-use lib.ListN.{length}
-use lib.Seq.{sets}
+use Prim.Native.Nat.{ℕ, ◌<◌}
+use lib.ListN.{get_or}
 use Rattle.pictures.specs.Document.Calls.{clip, clipped_in}
-use Rattle.grey.specs.Pixels.{numbers_in}
+use Rattle.pictures.specs.Laws.Tones.{toned}
+use Rattle.grey.proofs.Laws.{numbers_in}
 use Rattle.grey.proofs.store_pixels.Given as goal
 
 abbrev pub invariant-loop-q : goal.invariant-loop-q
 invariant-loop-q l =
-    (l.q ≤ l.count) × (length l.out ≡ length l.initial.out) × (l.out ≡ sets l.initial.out l.at (map clip (numbers_in l.q l.work)))
-    × (l.clipped ≡ clipped_in (numbers_in l.q l.work))
-
-abbrev pub decreases-loop-q : goal.decreases-loop-q
-decreases-loop-q l = l.count - l.q
+    ((k : ℕ) → k < l.q → get_or l.pixels k 0 ≡ clip (toned (get_or l.tones k 0))) × (l.clipped ≡ clipped_in (numbers_in l.q l.tones))

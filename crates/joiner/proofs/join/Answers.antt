@@ -1,12 +1,7 @@
-use borrow.Author.Rules.{rules}
-use Rattle.joiner.proofs.Laws.{first_refused, second_refused, both_read}
+use Rattle.std.proofs.Common.{sym, ◌∙◌}
+use Rattle.joiner.proofs.Laws.{cleared}
 use Rattle.joiner.proofs.join.Goals as goal
 
-pub join_read-requires : goal.join_read-requires
-join_read-requires c = search (rules, both_read)
-
-pub returns-in-Refused : goal.returns-in-Refused
-returns-in-Refused c = search (rules, first_refused)
-
-pub returns-in-Refused-other : goal.returns-in-Refused-other
-returns-in-Refused-other c = search (rules, second_refused)
+pub returns-then-is_err : goal.returns-then-is_err
+returns-then-is_err c =
+    cleared _ _ _ _ _ c.join_or_refuse-joined.ensures (sym c.is_err.ensures.value ∙ c.if-is_err.true) _ c.zero.ensures

@@ -1,10 +1,9 @@
 -- "Where no call refuses, joining in the other order gives the same bytes, three may be joined in either grouping, and a record without a tail joined
 -- with itself is itself." Under each name it is one equation of "this, else that".
-use Rattle.std.specs.Prelude.{◌≡◌, refl, List, [], ◌∷◌, ◌++◌, ℕ, ◌-◌, ◌≤◌, length, take}
+use Rattle.std.specs.Prelude.{◌≡◌, refl, List, [], ◌∷◌, ◌++◌, ℕ, ◌-◌, ◌≤◌, length, take, Ok}
 use Rattle.std.proofs.Common.{ap, ap₂, sym, ◌∙◌, subst, arith, take_all, le-leb}
 use Rattle.std.proofs.Math.Path.{fun_ext}
 use Rattle.rules.specs.declared.Header.{Header}
-use Rattle.rules.specs.declared.HeaderRead.TheVariants as header
 use Rattle.rules.specs.Document.Notation.{flat}
 use Rattle.rules.specs.Document.Passes.{PartName}
 use Rattle.rules.specs.Document.Numbers.{tail, read_header, read_parts}
@@ -67,7 +66,7 @@ unfolding or_else
 or_itself [] = refl
 or_itself (x ∷ u) = refl
 
-pub join_itself : (s : List ℕ) (h : Header) (t : ℕ) → read_header s ≡ header.Header h → (read_parts h s).ending ≡ tail t → (room : ℕ)
+pub join_itself : (s : List ℕ) (h : Header) (t : ℕ) → read_header s ≡ Ok h → (read_parts h s).ending ≡ tail t → (room : ℕ)
     → joining s s room ≡ fitted (take (length s - t) s) room
 unfolding joined_bytes joined_part
 join_itself s h t r e room =
@@ -79,7 +78,7 @@ join_itself s h t r e room =
     ∙ record_whole s h t (header_within (read_header_stands s h r)) e)
 
 -- Without a tail it is itself.
-pub join_itself_whole : (s : List ℕ) (h : Header) → read_header s ≡ header.Header h → (read_parts h s).ending ≡ tail 0 → (room : ℕ) → length s ≤ room
+pub join_itself_whole : (s : List ℕ) (h : Header) → read_header s ≡ Ok h → (read_parts h s).ending ≡ tail 0 → (room : ℕ) → length s ≤ room
     → joining s s room ≡ accepted s
 unfolding fitted unless
 join_itself_whole s h r e room l =

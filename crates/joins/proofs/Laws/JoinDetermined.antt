@@ -2,7 +2,7 @@
 -- whatever they held before; so nothing of that remains.
 use Rattle.std.specs.Prelude.{◌≡◌, refl, List, ℕ, length}
 use Rattle.std.proofs.Common.{sym, ◌∙◌}
-use Rattle.rules.specs.declared.Coded.{Coded}
+use Rattle.rules.specs.Document.Calls.{Coded}
 use Rattle.rules.specs.Document.Calls.{returned, reported, lent_out}
 use Rattle.joins.specs.Document.Joining.{Joining, AfsJoin}
 

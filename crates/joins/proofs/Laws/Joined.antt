@@ -1,14 +1,13 @@
 -- What is joined: two records with one header that agree on the parts they share; and it is a record again, without a tail, that has under each name
 -- the part of the first, else that of the second.
-use Rattle.std.specs.Prelude.{◌≡◌, Bool, ◌&&◌, ◌||◌, ◌⊎◌, ℕ, ◌≤◌, leb, eqb, length, take, drop}
+use Rattle.std.specs.Prelude.{◌≡◌, Bool, ◌&&◌, ◌||◌, ◌⊎◌, ℕ, ◌≤◌, leb, eqb, length, take, drop, Ok}
 use Rattle.std.proofs.Math.Path.{refl, ap, ap₂, sym}
 use Rattle.std.proofs.Common.{◌∙◌, subst, subst₂, true≢false, inl, inr, arith, take-append-drop, length-take-le, take_at, eqb-true, eq-eqb}
 use mathlib.Core.List.{List, [], ◌∷◌, ◌++◌, map}
 use Rattle.std.proofs.Math.Bool.{true, false, cond, not}
 use Rattle.rules.specs.declared.Refusal.TheVariants as refusal
 use Rattle.rules.specs.declared.Header.{Header}
-use Rattle.rules.specs.declared.HeaderRead.{HeaderRead}
-use Rattle.rules.specs.declared.HeaderRead.TheVariants as header
+use Rattle.rules.specs.Document.Numbers.{HeaderRead}
 use Rattle.rules.specs.declared.Part.{Part}
 use Rattle.rules.specs.Document.Notation.{any, flat}
 use Rattle.rules.specs.Document.Passes.{PartName}
@@ -191,7 +190,7 @@ module _ (a b : List ℕ) where
       own
 
 -- Bytes have one header, and records with the same bytes for a header have one.
-pub one_header : {x : HeaderRead} {h g : Header} → x ≡ header.Header h → x ≡ header.Header g → h ≡ g
+pub one_header : {x : HeaderRead} {h g : Header} → x ≡ Ok h → x ≡ Ok g → h ≡ g
 one_header a b = cc
 
 pub same_header : {a b : List ℕ} {h g : Header} → Readable a h → Readable b g → take h.end a ≡ take g.end b → h ≡ g
@@ -200,7 +199,7 @@ same_header {a} {b} {h} {g} r q e = one_header there q.read
     bytes : take h.end a ++ drop g.end b ≡ b
     bytes = ap (λ l. l ++ drop g.end b) e ∙ take-append-drop g.end b
 
-    there : read_header b ≡ header.Header h
+    there : read_header b ≡ Ok h
     there =
         read_header_local a h r.read b
         (subst (λ l. Same a 0 l 0 h.end) bytes (same_taken a h.end (drop g.end b) (readable_within r)))
@@ -268,7 +267,7 @@ module _ (h : Header) (a b : List ℕ) (r : Readable a h) where
   unfolding joined_bytes
   join_bytes = ap (λ l. head ++ l) together.bytes
 
-  join_header : read_header (join_of h a b) ≡ header.Header h
+  join_header : read_header (join_of h a b) ≡ Ok h
   join_header =
       read_header_local a h r.read (join_of h a b)
       (subst (λ l. Same a 0 l 0 h.end) join_bytes (same_taken a h.end (flat piece_bytes together.pieces) (readable_within r)))

@@ -1,10 +1,9 @@
 -- W6's order of refusals as statements: which outcome joining has in which case. A case is named as its number. What it asks for is the cause, and that no
 -- cause before it in the order holds; `HeaderCase` and `Parts` are those of rules' Causes.
-use Rattle.std.specs.Prelude.{◌≡◌, List, ◌∷◌, ◌++◌, ◌≢◌, ℕ, ◌≤◌, ◌<◌, length, take}
+use Rattle.std.specs.Prelude.{◌≡◌, List, ◌∷◌, ◌++◌, ◌≢◌, ℕ, ◌≤◌, ◌<◌, length, take, Ok, Err}
 use Rattle.rules.specs.declared.Refusal.{Refusal}
 use Rattle.rules.specs.declared.Refusal.TheVariants as refusal
 use Rattle.rules.specs.declared.Header.{Header}
-use Rattle.rules.specs.declared.HeaderRead.TheVariants as header
 use Rattle.rules.specs.declared.Part.{Part}
 use Rattle.rules.specs.Document.Numbers.{tail, fault}
 use Rattle.rules.specs.Document.Calls.{Result, refused, accepted}
@@ -15,12 +14,12 @@ use Rattle.joins.specs.Laws.Joined.{Agrees}
 
 -- "All reading refusals": 6, 12, 7 or 1 of the header, then 8, 12 or 9 of the first part at fault.
 pub data ReadingCase (s : List ℕ) : Refusal → Type 0 where
-  HEADER : {why : Refusal} → HeaderCase s (header.Refused why) → ReadingCase s why
-  PARTS : {h : Header} {ps : List Part} {why : Refusal} → HeaderCase s (header.Header h) → Parts h s ps (fault why) → ReadingCase s why
+  HEADER : {why : Refusal} → HeaderCase s (Err why) → ReadingCase s why
+  PARTS : {h : Header} {ps : List Part} {why : Refusal} → HeaderCase s (Ok h) → Parts h s ps (fault why) → ReadingCase s why
 
 -- A record that reading accepts, with these parts; its tail, if it has one, isn't looked at.
 pub record Reads (s : List ℕ) (h : Header) (ps : List Part) : Type 0 where
-  pub headed : HeaderCase s (header.Header h)
+  pub headed : HeaderCase s (Ok h)
   pub cut : ℕ
   pub walked : Parts h s ps (tail cut)
 

@@ -1,10 +1,9 @@
 -- What is joined: two records with one header that agree on the parts they share; and it is a record again, without a tail, that has under each name
 -- the part of the first, else that of the second.
-use Rattle.std.specs.Prelude.{◌≡◌, ℕ, ◌≤◌, length, take}
+use Rattle.std.specs.Prelude.{◌≡◌, ℕ, ◌≤◌, length, take, Ok}
 use mathlib.Core.List.{List}
 use Rattle.std.proofs.Math.Bool.{true}
 use Rattle.rules.specs.declared.Header.{Header}
-use Rattle.rules.specs.declared.HeaderRead.TheVariants as header
 use Rattle.rules.specs.declared.Part.{Part}
 use Rattle.rules.specs.Document.Passes.{PartName}
 use Rattle.rules.specs.Document.Layout.{whole_of, name_of, same_name}
@@ -25,7 +24,7 @@ join_of h a b = joined_bytes h a (read_parts h a).parts b (read_parts h b).parts
 
 -- A record that reading accepts: its header, and how long its tail is.
 pub record Readable (s : List ℕ) (h : Header) : Type 0 where
-  pub read : read_header s ≡ header.Header h
+  pub read : read_header s ≡ Ok h
   pub cut : ℕ
   pub ending : (read_parts h s).ending ≡ tail cut
 
@@ -44,7 +43,7 @@ pub record IsJoined (a b j : List ℕ) : Type 0 where
 
 -- And what is known of it: it is a record with that header, without a tail; its parts; serving it whole gives it back.
 pub record JoinedRecord (a b : List ℕ) (h : Header) (j : List ℕ) : Type 0 where
-  pub read : read_header j ≡ header.Header h
+  pub read : read_header j ≡ Ok h
   pub ending : (read_parts h j).ending ≡ tail 0
   pub front : take h.end j ≡ take h.end a
   pub part : (x : PartName) → part_of h j x ≡ either_of h a b x

@@ -1,10 +1,11 @@
--- `netpbm::write_decimal`, which calls itself: the number falls.
 use native.Mathlib.Omega.{arith}
 use Rattle.netpbm.proofs.Written.{wrote_last, wrote_next}
+use Rattle.netpbm.proofs.+write_decimal.Goals.{then-value-lt10, else-value-lt10}
 use Rattle.netpbm.proofs.+write_decimal.Goals as goal
 
-pub returns-then-value-lt10 : goal.returns-then-value-lt10
-returns-then-value-lt10 t c = wrote_last (omega arith) c.store.ensures
-
 pub returns : goal.returns
-returns t c = wrote_next (omega arith) (omega arith) c.write_decimal-place.ensures c.store-2.ensures
+returns t c =
+    elim c.if-value-lt10.branch [
+      | then-value-lt10 w ↦ rw w.place-is (wrote_last (omega arith) (cc))
+      | else-value-lt10 w ↦ rw w.place-is (wrote_next (omega arith) (omega arith) w.write_decimal-place.ensures (cc))
+    ]

@@ -1,11 +1,6 @@
 use Rattle.netpbm.proofs.Laws.{Still}
-use Prim.Native.Nat.{◌-◌}
-use lib.ListN.{length}
 use Rattle.pictures.specs.Document.Netpbm.{after_comment}
 use Rattle.netpbm.proofs.past_comment.Given as goal
 
 abbrev pub invariant-loop-i : goal.invariant-loop-i
 invariant-loop-i l = Still after_comment l.file l.at l.i
-
-abbrev pub decreases-loop-i : goal.decreases-loop-i
-decreases-loop-i l = length l.file - l.i

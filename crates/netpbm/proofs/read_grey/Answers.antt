@@ -8,23 +8,16 @@ returns-then-not-is_p5 c = search (rules, not_p5)
 pub read_field-requires : goal.read_field-requires
 read_field-requires c = search (rules, p5_within)
 
-pub returns-in_default : goal.returns-in_default
-returns-in_default c = search (rules, no_width)
+pub returns-in_err-width : goal.returns-in_err-width
+returns-in_err-width c = rw c.from_residual.ensures (no_width _ c.is_p5.ensures c.if-not-is_p5.false c.in_err-width.ensures)
 
-pub read_field-requires-2 : goal.read_field-requires-2
-read_field-requires-2 c = (field_there _ _ c.read_field.ensures c.in-Number.is).within
-
-pub returns-in_default-read_field : goal.returns-in_default-read_field
-returns-in_default-read_field c =
-    let W = field_there _ _ c.read_field.ensures c.in-Number.is in
-    search (rules, no_height)
-
-pub read_greatest-requires : goal.read_greatest-requires
-read_greatest-requires c = (field_there _ _ c.read_field-2.ensures c.in-Number-read_field.is).within
+pub returns-in_err-height : goal.returns-in_err-height
+returns-in_err-height c =
+    let W = field_there c.in_ok-width.ensures in
+    rw c.from_residual-in_err-height.ensures (no_height _ c.is_p5.ensures c.if-not-is_p5.false W c.in_err-height.ensures)
 
 pub returns : goal.returns
 returns c =
-    let told = c.read_field.ensures in
-    let W = field_there _ _ told c.in-Number.is in
-    let H = field_there _ _ c.read_field-2.ensures c.in-Number-read_field.is in
-    search (rules, sides_read)
+    let W = field_there c.in_ok-width.ensures in
+    let H = field_there c.in_ok-height.ensures in
+    sides_read _ c.is_p5.ensures c.if-not-is_p5.false W H c.read_greatest.ensures

@@ -1,38 +1,29 @@
-use mathlib.Core.Path.{◌∙◌}
 use native.Mathlib.Omega.{arith}
+use borrow.Author.Rules.{rules}
 use Rattle.numbers.proofs.Laws.{reading_begins, reading_cut, reading_worth, reading_last, reading_next, reading_none}
 use Rattle.numbers.proofs.read_number.Goals as goal
 
-pub loop-bytes_left-init : goal.loop-bytes_left-init
-loop-bytes_left-init c = reading_begins
+pub loop-init : goal.loop-init
+loop-init c = reading_begins
 
-pub returns-then-bytes-place : goal.returns-then-bytes-place
-returns-then-bytes-place c = reading_cut c.loop-bytes_left.invariant (omega arith) (omega arith)
+pub returns-in_default : goal.returns-in_default
+returns-in_default c = search (rules, reading_cut)
 
 pub last_byte-requires : goal.last_byte-requires
-last_byte-requires c = (omega arith, reading_worth c.loop-bytes_left.invariant (omega arith), omega arith)
+last_byte-requires c = search (rules, reading_worth)
 
 pub returns-then-byte-lt128 : goal.returns-then-byte-lt128
-returns-then-byte-lt128 c =
-    let r = c.loop-bytes_left.invariant in
-    c.last_byte.ensures ∙ reading_last r (omega arith) (omega arith) c.byte_at-byte.ensures.0 (omega arith)
+returns-then-byte-lt128 c = search (rules, reading_last)
 
 pub with_group-value-requires : goal.with_group-value-requires
-with_group-value-requires c = (omega arith, reading_worth c.loop-bytes_left.invariant (omega arith), omega arith)
+with_group-value-requires c = search (rules, reading_worth)
 
 pub overflow_mul-worth : goal.overflow_mul-worth
-overflow_mul-worth c = omega (arith, reading_worth c.loop-bytes_left.invariant (omega arith))
+overflow_mul-worth c = omega (arith, reading_worth c.loop.invariant (omega arith))
 
-pub overflow_sub-bytes_left : goal.overflow_sub-bytes_left
-overflow_sub-bytes_left c = omega arith
-
-pub loop-bytes_left-smaller : goal.loop-bytes_left-smaller
-loop-bytes_left-smaller c = omega arith
-
-pub loop-bytes_left-preserved : goal.loop-bytes_left-preserved
-loop-bytes_left-preserved c =
-    let r = c.loop-bytes_left.invariant in
-    reading_next r (omega arith) (omega arith) c.byte_at-byte.ensures.0 (omega arith) c.with_group-value.ensures
+pub loop-preserved : goal.loop-preserved
+loop-preserved c =
+    reading_next c.loop.invariant (omega arith) (search rules) (search rules) (omega arith) c.with_group-value.ensures
 
 pub returns : goal.returns
-returns c = reading_none c.loop-bytes_left.invariant (omega arith)
+returns c = search (rules, reading_none)

@@ -4,8 +4,8 @@ use Rattle.std.specs.Prelude.{◌≡◌, refl, List, ℕ, length, ℤ}
 use Rattle.std.proofs.Common.{sym, ◌∙◌}
 use Rattle.rules.specs.declared.Size.{Size}
 use Rattle.rules.specs.Document.Calls.{returned, reported, lent_out}
-use Rattle.pictures.specs.declared.GreyRead.{GreyRead}
-use Rattle.pictures.specs.declared.GreyWritten.{GreyWritten}
+use Rattle.pictures.specs.Document.Calls.{GreyRead}
+use Rattle.pictures.specs.Document.Calls.{GreyWritten}
 use Rattle.pictures.specs.Document.Calls.{GreyIn, GreyOut, GreySize, AfsGreyIn, AfsGreyOut, AfsGreySize}
 
 -- Isolation of the routines. A file's size is one equation of the file alone.

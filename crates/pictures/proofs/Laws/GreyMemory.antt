@@ -6,7 +6,7 @@ use Rattle.std.proofs.Common.{sym, ◌∙◌, arith}
 use Rattle.std.proofs.Math.Decide.{dec_le}
 use Rattle.std.proofs.Math.ListN.{get_or}
 use Rattle.rules.specs.declared.Size.{Size}
-use Rattle.rules.specs.declared.Verdict.TheVariants.{Accepted}
+use Rattle.rules.specs.Document.Numbers.{Accepted}
 use Rattle.rules.specs.Document.Numbers.{verdict_number}
 use Rattle.rules.specs.Document.Calls.{Result, refused, accepted, work_for, filled, code_places, AfsCode}
 use Rattle.rules.proofs.Laws.Calls.Results.{number_accepts}
@@ -14,7 +14,7 @@ use Rattle.rules.specs.Promises.Vocabulary.{Codable, enough_room}
 use Rattle.rules.proofs.Laws.Calls.Exports.{afs_code_codes}
 use Rattle.rules.proofs.Laws.Bytes.Room.{coding_accepts}
 use Rattle.rules.proofs.Promises.Memory.{from_memory_to_memory}
-use Rattle.pictures.specs.declared.GreyRead.{GreyRead}
+use Rattle.pictures.specs.Document.Calls.{GreyRead}
 use Rattle.pictures.specs.Document.Lifting.{pyramid_of}
 use Rattle.pictures.specs.Document.Netpbm.{grey_file}
 use Rattle.pictures.specs.Document.Calls.{GreyPyramid, grey_in, grey_out, grey_in_answer, grey_in_out, grey_out_answer, grey_out_out}

@@ -10,7 +10,7 @@ use Rattle.std.proofs.Math.ListN.{length}
 use borrow.Author.Tests.{leb-true, leb-false, le-leb, lt-leb, eqb-true, eqb-false, eq-eqb, ne_eqb}
 use Rattle.rules.specs.declared.Size.{Size}
 use Rattle.rules.specs.declared.Refusal.TheVariants as refusal
-use Rattle.rules.specs.declared.Verdict.TheVariants.{Accepted}
+use Rattle.rules.specs.Document.Numbers.{Accepted}
 use Rattle.rules.specs.Document.Notation.{any, zeros}
 use Rattle.rules.specs.Document.Pyramid.{legal_size, area}
 use Rattle.rules.specs.Document.Numbers.{verdict_number}
@@ -24,8 +24,8 @@ use Rattle.rules.proofs.Laws.Reading.PartCases.{failed}
 use Rattle.rules.specs.Promises.Refusals.{InRange}
 use Rattle.rules.specs.Laws.Calls.Refused.{verdict_of}
 use Rattle.rules.proofs.Laws.Calls.Refused.{exactly}
-use Rattle.pictures.specs.declared.GreyRead.{GreyRead}
-use Rattle.pictures.specs.declared.GreyWritten.{GreyWritten}
+use Rattle.pictures.specs.Document.Calls.{GreyRead}
+use Rattle.pictures.specs.Document.Calls.{GreyWritten}
 use Rattle.pictures.specs.Document.Lifting.{picture_of}
 use Rattle.pictures.specs.Document.Netpbm.{GreyFile, not_grey, picture, read_file, told}
 use Rattle.pictures.specs.Document.Calls.{GreyPyramid, on_picture, lifted, grey_in, most_decoded, GreyPrint, print_of, printed, grey_out}

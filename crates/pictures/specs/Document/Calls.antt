@@ -3,13 +3,10 @@
 use Rattle.std.specs.Prelude.{◌≡◌, List, [], ◌∷◌, map, Bool, true, cond, ℕ, suc, min, leb, ltb, eqb, length, replicate, ℤ, pos, negsuc}
 use Rattle.rules.specs.declared.Size.{Size}
 use Rattle.rules.specs.declared.Refusal.TheVariants as refusal
-use Rattle.rules.specs.declared.Verdict.TheVariants.{Accepted, Refused}
 use Rattle.rules.specs.Document.Notation.{zeros}
 use Rattle.rules.specs.Document.Pyramid.{legal_size, area}
-use Rattle.rules.specs.Document.Numbers.{verdict_number, verdict_place}
+use Rattle.rules.specs.Document.Numbers.{Verdict, Accepted, Refused, verdict_number, verdict_place}
 use Rattle.rules.specs.Document.Calls.{Result, refused, accepted, unless, work_for, first_over, filled, returned, reported, lent_out}
-use Rattle.pictures.specs.declared.GreyRead.{GreyRead}
-use Rattle.pictures.specs.declared.GreyWritten.{GreyWritten}
 use Rattle.pictures.specs.Document.Lifting.{pyramid_of, picture_of}
 use Rattle.pictures.specs.Document.Netpbm.{greatest_pixel, GreyFile, not_grey, picture, read_file, told, grey_file}
 
@@ -72,6 +69,16 @@ grey_out pyramid z room work =
 -- "The way in answers number, place, W, H." Coding's answer is number, place, length; the way back's gains the number of pixels that were set
 -- to the nearer end. As document 01 says: "Refused: output slice all 0." "For bytes, all after the result 0." "A refusal has 0 in all but
 -- number and place."
+pub record GreyRead : Type 0 where
+  pub verdict : Verdict
+  pub w : ℕ
+  pub h : ℕ
+
+pub record GreyWritten : Type 0 where
+  pub verdict : Verdict
+  pub length : ℕ
+  pub clipped : ℕ
+
 unfoldable pub grey_in_out : ℕ → Result GreyPyramid → List ℤ
 grey_in_out room (refused r) = replicate room (pos 0)
 grey_in_out room (accepted x) = x.pyramid

@@ -1,17 +1,17 @@
-use mathlib.Core.Path.{refl}
+-- `reached::none_reached`: the levels are at most six, and what they are filled with.
+use mathlib.Core.Path.{sym}
 use native.Mathlib.Omega.{arith}
-use Rattle.reached.specs.Planes.{size_levels, begun_none, begun_more, begun_all}
-use borrow.Author.Rules.{rules}
+use Rattle.reached.specs.Planes.{size_levels, levels_within, filled_all}
 use Rattle.reached.proofs.none_reached.Goals as goal
 
-pub overflow_add-levels : goal.overflow_add-levels
-overflow_add-levels c = record { fits = omega (arith, size_levels _ c.requires) }
+pub overflow_add-reached : goal.overflow_add-reached
+overflow_add-reached c = record { fits = omega (arith, size_levels _ c.requires) }
 
-pub loop-done-init : goal.loop-done-init
-loop-done-init c = begun_none _ c.requires refl
+pub slice_bounds-reached-end : goal.slice_bounds-reached-end
+slice_bounds-reached-end c = omega (arith, size_levels _ c.requires)
 
-pub loop-done-preserved : goal.loop-done-preserved
-loop-done-preserved c = search (rules, begun_more)
+pub slice_bounds-fill-end : goal.slice_bounds-fill-end
+slice_bounds-fill-end c = sym (levels_within _ c.requires)
 
 pub returns : goal.returns
-returns c = search (rules, begun_all)
+returns c = filled_all _ c.requires _ (c.fill.ensures.after (λ y e. e))

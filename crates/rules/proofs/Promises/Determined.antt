@@ -3,10 +3,7 @@
 use Rattle.std.specs.Prelude.{◌≡◌, refl, List, ℕ, length, ℤ}
 use Rattle.std.proofs.Common.{sym, ◌∙◌}
 use Rattle.rules.specs.declared.Size.{Size}
-use Rattle.rules.specs.declared.Coded.{Coded}
-use Rattle.rules.specs.declared.Served.{Served}
-use Rattle.rules.specs.declared.Decoded.{Decoded}
-use Rattle.rules.specs.Document.Calls.{Coding, Serving, Decoding, AfsCode, AfsServe, AfsDecode, returned, reported, lent_out}
+use Rattle.rules.specs.Document.Calls.{Coding, Serving, Decoding, AfsCode, AfsServe, AfsDecode, returned, reported, lent_out, Decoded, Served, Coded}
 
 -- Isolation of the routines.
 pub coding_isolated : {pyramid : List ℤ} {z : Size} {out₁ out₂ work₁ work₂ : List ℕ} {a₁ a₂ : Coded} {out₁' out₂' work₁' work₂' : List ℕ}

@@ -2,15 +2,11 @@
 -- document 01's table), with 0 exactly where it is accepted; and what it leaves in the memory lent to it is what document 01 says.
 use Rattle.std.specs.Prelude.{◌≡◌, List, ◌++◌, ◌≢◌, ℕ, ◌-◌, ◌<◌, ◌≤◌, length, replicate, ℤ, pos}
 use Rattle.rules.specs.declared.Size.{Size}
-use Rattle.rules.specs.declared.Verdict.TheVariants.{Accepted}
-use Rattle.rules.specs.declared.Coded.{Coded}
-use Rattle.rules.specs.declared.Served.{Served}
-use Rattle.rules.specs.declared.Decoded.{Decoded}
 use Rattle.rules.specs.Document.Notation.{zeros}
 use Rattle.rules.specs.Document.Layout.{record_of}
-use Rattle.rules.specs.Document.Numbers.{verdict_number}
+use Rattle.rules.specs.Document.Numbers.{verdict_number, Accepted}
 use Rattle.rules.specs.Document.Calls.{Coding, Serving, Decoding, level_places, AfsCode, code_places, code_numbers, AfsServe, serve_places, serve_numbers}
-use Rattle.rules.specs.Document.Calls.{AfsDecode, decode_places, decode_numbers, work_for}
+use Rattle.rules.specs.Document.Calls.{AfsDecode, decode_places, decode_numbers, work_for, Decoded, Served, Coded}
 use Rattle.rules.specs.Promises.Vocabulary.{Exactly, coding_numbers, serving_numbers, decoding_numbers, Codable, enough_room}
 use Rattle.rules.specs.Promises.Refusals.{CodingCase, ServingCase, DecodingCase}
 use Rattle.rules.proofs.Laws.Calls.Refused as laws

@@ -3,18 +3,15 @@
 -- that gives zero; m is the plane that its level reached, or the one below where that is the plane of the part that was cut. The reached planes are
 -- reported for each level, 0 beyond level N + 1, and how many of the level's parts are there and not usable. `Rounded`, in Vocabulary, says this
 -- field by field. With more bytes of the record what is printed is no worse: `more_bytes`.
-use Rattle.std.specs.Prelude.{◌≡◌, List, [], map, Bool, false, ℕ, ◌<◌, ◌+◌, ◌-◌, suc, ◌≤◌, ◌^◌, leb, eqb, get_or, ℤ, pos}
+use Rattle.std.specs.Prelude.{◌≡◌, List, [], map, Bool, false, ℕ, ◌<◌, ◌+◌, ◌-◌, suc, ◌≤◌, ◌^◌, leb, eqb, get_or, ℤ, pos, Ok}
 use Rattle.rules.specs.declared.Size.{Size}
-use Rattle.rules.specs.declared.Decoded.{Decoded}
 use Rattle.rules.specs.declared.Header.{Header}
-use Rattle.rules.specs.declared.HeaderRead.TheVariants as header
 use Rattle.rules.specs.Document.Notation.{count}
 use Rattle.rules.specs.Document.Pyramid.{area, level_of, magnitude}
 use Rattle.rules.specs.Document.Passes.{PartName}
 use Rattle.rules.specs.Document.Layout.{record_of, planes_in, earlier_planes_in, parts_with, parts_of, name_of, usable, reached}
 use Rattle.rules.specs.Document.Numbers.{read_header, read_parts, top_level}
-use Rattle.rules.specs.Document.Calls.{coding, accepted, decoding, Portion, serving, Result, Picture, plane_in, Decoding, AfsDecode}
-use Rattle.rules.specs.Document.Calls.{skipped_parts}
+use Rattle.rules.specs.Document.Calls.{coding, accepted, decoding, Portion, serving, Result, Picture, plane_in, Decoding, AfsDecode, Decoded, skipped_parts}
 use Rattle.rules.specs.Promises.Vocabulary.{Codable, PlaneCount, Stated, Rounded, names, whole_in, kept, tail_in, cut_in, arrived, record_bytes, asked}
 use Rattle.rules.specs.Promises.Vocabulary.{Near, NoWorse, at, Named, present, most_decoded}
 use Rattle.rules.proofs.Laws.Calls.Arrived as laws
@@ -100,7 +97,7 @@ used_and_skipped = skips.used_and_skipped
 -- Whatever bytes decoding accepts, every magnitude is below 2^planes, planes being what the header says, and no more than 131,071; so whatever is
 -- given and whatever is answered, no greater one is left in the output.
 module _ (s : List ℕ) (room work : ℕ) (x : Picture) (e : decoding s room work ≡ accepted x) where
-  pub decoded_under : (h : Header) → read_header s ≡ header.Header h → (q : ℕ) → magnitude x.pyramid q < 2 ^ h.planes
+  pub decoded_under : (h : Header) → read_header s ≡ Ok h → (q : ℕ) → magnitude x.pyramid q < 2 ^ h.planes
   decoded_under = magnitudes.decoded_under s room work x e
 
   pub decoded_most : (q : ℕ) → magnitude x.pyramid q ≤ most_decoded

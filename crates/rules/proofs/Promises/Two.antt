@@ -1,18 +1,15 @@
 -- Demand 2. The coder's record has every part, those of 0 bits too; serving writes the header and exactly the parts with level ≥ r and plane
 -- ≥ p, unaltered; a whole record decodes to the pyramid.
-use Rattle.std.specs.Prelude.{◌≡◌, List, true, Bool, ℕ, ◌-◌, ◌≤◌, replicate, length, take, ℤ}
+use Rattle.std.specs.Prelude.{◌≡◌, List, true, Bool, ℕ, ◌-◌, ◌≤◌, replicate, length, take, ℤ, Ok}
 use Rattle.rules.specs.declared.Size.{Size}
 use Rattle.rules.specs.declared.Refusal.TheVariants as refusal
-use Rattle.rules.specs.declared.Verdict.TheVariants.{Accepted}
-use Rattle.rules.specs.declared.Served.{Served}
 use Rattle.rules.specs.declared.Header.{Header}
-use Rattle.rules.specs.declared.HeaderRead.TheVariants as header
 use Rattle.rules.specs.Document.Notation.{zeros}
 use Rattle.rules.specs.Document.Pyramid.{levels}
 use Rattle.rules.specs.Document.Passes.{part_names, PartName}
 use Rattle.rules.specs.Document.Layout.{parts_with, record_with, earlier_planes_in, record_of}
-use Rattle.rules.specs.Document.Numbers.{tail, read_header, read_parts}
-use Rattle.rules.specs.Document.Calls.{serving, unless, legal_ask, portioned, decoding, accepted, level_places, Portion, Serving, AfsServe}
+use Rattle.rules.specs.Document.Numbers.{tail, read_header, read_parts, Accepted}
+use Rattle.rules.specs.Document.Calls.{serving, unless, legal_ask, portioned, decoding, accepted, level_places, Portion, Serving, AfsServe, Served}
 use Rattle.rules.specs.Promises.Vocabulary.{names, Named, present, Codable, PlaneCount, ReadsAs, header_of, record_bytes, kept, asked, arrived, whole_in}
 use Rattle.rules.specs.Promises.Vocabulary.{tail_in, Stated, IsServed, placed_from, selection, wanted, Again, AgainLent, AgainTold}
 use Rattle.rules.proofs.Laws.Calls.Whole as laws
@@ -67,7 +64,7 @@ pub serving_served : (s : List ℕ) (r p room : ℕ) (x : Portion) → serving s
 serving_served = served.serving_served
 
 module _ (s : List ℕ) (r p : ℕ) (x : Portion) (v : IsServed s r p x) where
-  pub served_header : read_header x.bytes ≡ header.Header v.head
+  pub served_header : read_header x.bytes ≡ Ok v.head
   served_header = served.served_header s r p x v
 
   pub served_parts : read_parts v.head x.bytes
@@ -79,11 +76,11 @@ pub served_is_record : (s : List ℕ) (r p room : ℕ) (x : Portion) → serving
     → serving x.bytes 1 0 (length x.bytes) ≡ accepted (record { bytes = x.bytes; tail = 0 })
 served_is_record = served.served_is_record
 
-pub serving_all : (s : List ℕ) (h : Header) (k room : ℕ) → read_header s ≡ header.Header h → (read_parts h s).ending ≡ tail k
+pub serving_all : (s : List ℕ) (h : Header) (k room : ℕ) → read_header s ≡ Ok h → (read_parts h s).ending ≡ tail k
     → serving s 1 0 room ≡ portioned (take (length s - k) s) k room
 serving_all = served.serving_all
 
-pub served_whole : (s : List ℕ) (h : Header) (room : ℕ) → read_header s ≡ header.Header h → (read_parts h s).ending ≡ tail 0 → length s ≤ room
+pub served_whole : (s : List ℕ) (h : Header) (room : ℕ) → read_header s ≡ Ok h → (read_parts h s).ending ≡ tail 0 → length s ≤ room
     → serving s 1 0 room ≡ accepted (record { bytes = s; tail = 0 })
 served_whole = served.served_whole
 
@@ -93,11 +90,11 @@ pub served_again : (s : List ℕ) (r1 p1 room1 : ℕ) (x : Portion) → serving 
 served_again = again.served_again
 
 pub serving_again_lent : {s : List ℕ} {h : Header} {r1 p1 r2 p2 : ℕ} {out : List ℕ} {answer : Served} {out' : List ℕ}
-    → Serving s r1 p1 out answer out' → answer.verdict ≡ Accepted → read_header s ≡ header.Header h → legal_ask h r2 p2 ≡ true
+    → Serving s r1 p1 out answer out' → answer.verdict ≡ Accepted → read_header s ≡ Ok h → legal_ask h r2 p2 ≡ true
     → AgainLent s r1 p1 answer out' r2 p2
 serving_again_lent = again.serving_again_lent
 
 pub serving_again_told : {s : List ℕ} {h : Header} {r1 p1 r2 p2 : ℕ} {out answer out' answer' : List ℕ}
-    → AfsServe s r1 p1 out answer 0 out' answer' → read_header s ≡ header.Header h → legal_ask h r2 p2 ≡ true
+    → AfsServe s r1 p1 out answer 0 out' answer' → read_header s ≡ Ok h → legal_ask h r2 p2 ≡ true
     → AgainTold s r1 p1 out' answer' r2 p2
 serving_again_told = again.serving_again_told

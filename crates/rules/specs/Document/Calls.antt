@@ -1,26 +1,19 @@
 -- What each call answers and what it leaves in the memory lent to it, for every input: document 01's "Order", "Refused" and "Accepted".
 use Rattle.std.specs.Prelude.{◌≡◌, List, [], ◌∷◌, ◌++◌, map, Bool, true, false, cond, not, ◌&&◌, ℕ, ◌+◌, ◌-◌, ◌*◌, leb, ltb, eqb, length, get_or}
-use Rattle.std.specs.Prelude.{take, replicate, ℤ, pos}
+use Rattle.std.specs.Prelude.{take, replicate, ℤ, pos, Ok, Err}
 use Rattle.rules.specs.declared.Size.{Size}
 use Rattle.rules.specs.declared.Plane.{Plane}
 use Rattle.rules.specs.declared.Refusal.{Refusal}
 use Rattle.rules.specs.declared.Refusal.TheVariants as refusal
-use Rattle.rules.specs.declared.Verdict.TheVariants.{Accepted, Refused}
-use Rattle.rules.specs.declared.Coded.{Coded}
-use Rattle.rules.specs.declared.Served.{Served}
-use Rattle.rules.specs.declared.Decoded.{Decoded}
 use Rattle.rules.specs.declared.Header.{Header}
-use Rattle.rules.specs.declared.HeaderRead.{HeaderRead}
-use Rattle.rules.specs.declared.HeaderRead.TheVariants as header
 use Rattle.rules.specs.declared.Part.{Part}
-use Rattle.rules.specs.declared.PartRead.{PartRead}
-use Rattle.rules.specs.declared.PartRead.TheVariants as part
+use Rattle.rules.specs.declared.Piece.TheVariants as part
 use Rattle.rules.specs.Document.Notation.{count, flat, lowest, zeros}
 use Rattle.rules.specs.Document.Pyramid.{legal_size, area, family, most_magnitude, magnitude}
 use Rattle.rules.specs.Document.Passes.{Course, Reader, State, PartName, start, after, from, decoded}
 use Rattle.rules.specs.Document.Layout.{record_of, bit_at, body_of, whole_of, bits_there, name_of, usable, reached}
 use Rattle.rules.specs.Document.Numbers.{refusal_number, verdict_number, verdict_place, read_header, Ending, tail, fault, Reading, read_parts}
-use Rattle.rules.specs.Document.Numbers.{behind, top_level}
+use Rattle.rules.specs.Document.Numbers.{behind, top_level, Verdict, Accepted, Refused, HeaderRead, PartRead}
 
 -- A call is refused, or accepted with its result. `unless test r x` is x where the test holds, and refused with r where it does not.
 pub data Result (X : Type 0) : Type 0 where
@@ -53,8 +46,8 @@ coding pyramid z room work =
 
 -- Reading begins with the header.
 unfoldable pub on_header : {X : Type 0} → HeaderRead → (Header → Result X) → Result X
-on_header (header.Header h) go = go h
-on_header (header.Refused r) go = refused r
+on_header (Ok h) go = go h
+on_header (Err r) go = refused r
 
 unfoldable pub on_ending : {X : Type 0} → Ending → (ℕ → Result X) → Result X
 on_ending (tail t) go = go t
@@ -111,14 +104,14 @@ module _ (h : Header) (s : List ℕ) (there : List PartName) where
   used_cut p st c = cond (leb (bits_there s p) c.side.taken) (going (after p.level.0 c st) c.side.pyramid) (unfit p.place)
 
   unfoldable pub tail_onward : PartRead → Progress → Progress
-  tail_onward (part.Cut p) (going st v) =
+  tail_onward (Ok (part.Cut p)) (going st v) =
       cond (usable (top_level h) h.planes (there ++ (name_of p ∷ [])) (name_of p))
       (used_cut p st (decoded (family h.size) (name_of p) (bit_at (body_of s p)) (bits_there s p) st v))
       (going st v)
-  tail_onward (part.Cut p) (unfit at) = unfit at
-  tail_onward (part.Part p) g = g
-  tail_onward part.Tail g = g
-  tail_onward (part.Refused r) g = g
+  tail_onward (Ok (part.Cut p)) (unfit at) = unfit at
+  tail_onward (Ok (part.Part p)) g = g
+  tail_onward (Ok part.Tail) g = g
+  tail_onward (Err r) g = g
 
 -- "Then decoding: 2, 3 and the parts." "Decoding: number, place, tail length and six reached planes, level 1 first, 0 beyond level N+1."
 pub record Picture : Type 0 where
@@ -160,6 +153,22 @@ decoding s room work =
     unless (eqb room (area h.size)) refusal.Length
     (unless (leb (work_for h.size) work) refusal.Work
     (decoded_parts h s (read_parts h s))))
+
+-- The answers of coding, serving and decoding.
+pub record Coded : Type 0 where
+  pub verdict : Verdict
+  pub length : ℕ
+
+pub record Served : Type 0 where
+  pub verdict : Verdict
+  pub length : ℕ
+  pub tail : ℕ
+
+pub record Decoded : Type 0 where
+  pub verdict : Verdict
+  pub tail : ℕ
+  pub reached : List Plane
+  pub skipped : List ℕ
 
 -- "Refused: output slice all 0." "For bytes, all after the result 0." "A refusal has 0 in all but number and place."
 unfoldable pub filled : ℕ → List ℕ → List ℕ

@@ -1,9 +1,9 @@
 -- Document 01, "Record layout": bytes of numbers, parts and records, and which parts of a record are usable.
 use Rattle.std.specs.Prelude.{List, [], ◌∷◌, ◌++◌, Bool, true, false, cond, not, ◌&&◌, ◌||◌, ℕ, zero, suc, ◌+◌, ◌-◌, ◌*◌, ◌/◌, ◌%◌, ◌^◌, min, leb}
-use Rattle.std.specs.Prelude.{ltb, eqb, length, get_or, take, drop, ℤ, nat_abs}
+use Rattle.std.specs.Prelude.{ltb, eqb, length, get_or, take, drop, ℤ, nat_abs, Result, Ok, Err}
 use Rattle.rules.specs.declared.Size.{Size}
-use Rattle.rules.specs.declared.Number.{Number}
-use Rattle.rules.specs.declared.Number.TheVariants.{Value, TooManyBytes, LongForm, CutOff}
+use Rattle.rules.specs.declared.NoNumber.{NoNumber}
+use Rattle.rules.specs.declared.NoNumber.TheVariants.{TooManyBytes, LongForm, CutOff}
 use Rattle.rules.specs.declared.Part.{Part}
 use Rattle.rules.specs.Document.Notation.{any, every, flat, greatest, lowest}
 use Rattle.rules.specs.Document.Pyramid.{Family, family, levels, magnitude, negative, earlier_planes_of, planes_of}
@@ -18,15 +18,19 @@ groups (suc more) v = cond (ltb v 128) (v ∷ []) ((v % 128 + 128) ∷ groups mo
 unfoldable pub number_bytes : ℕ → List ℕ
 number_bytes v = groups 3 v
 
+-- A number read: its value and the place after it, or why there is none.
+abbrev pub Number : Type 0
+Number = Result (ℕ × ℕ) NoNumber
+
 -- "A number is malformed if its fourth byte has the top bit set, or if it has several bytes and the last is 0." Of a number that begins
 -- further back: how many bytes it may still have, where the next one stands and what it is worth, and the value so far.
 unfoldable pub number_from : ℕ → List ℕ → ℕ → ℕ → ℕ → Number
-number_from zero s at worth v = TooManyBytes
+number_from zero s at worth v = Err TooManyBytes
 number_from (suc more) s at worth v =
-    cond (leb (length s) at) CutOff
+    cond (leb (length s) at) (Err CutOff)
     (cond (leb 128 (get_or s at 0)) (number_from more s (at + 1) (worth * 128) (v + (get_or s at 0 - 128) * worth))
-    (cond (ltb 1 worth && eqb (get_or s at 0) 0) LongForm
-    (Value (v + get_or s at 0 * worth) (at + 1))))
+    (cond (ltb 1 worth && eqb (get_or s at 0) 0) (Err LongForm)
+    (Ok (v + get_or s at 0 * worth, at + 1))))
 
 unfoldable pub read_number : List ℕ → ℕ → Number
 read_number s at = number_from 4 s at 1 0

@@ -1,21 +1,16 @@
 -- Document 01, "Numbers that a call may come back with": the table, and reading a record in its order of refusals.
-use Rattle.std.specs.Prelude.{List, [], ◌∷◌, Bool, cond, ◌&&◌, ◌||◌, ℕ, zero, suc, ◌+◌, ◌-◌, ◌*◌, leb, ltb, eqb, length}
+use Rattle.std.specs.Prelude.{List, [], ◌∷◌, Bool, cond, ◌&&◌, ◌||◌, ℕ, zero, suc, ◌+◌, ◌-◌, ◌*◌, leb, ltb, eqb, length, Result, Ok, Err}
 use Rattle.rules.specs.declared.Size.{Size}
 use Rattle.rules.specs.declared.Refusal.{Refusal}
 use Rattle.rules.specs.declared.Refusal.TheVariants as refusal
-use Rattle.rules.specs.declared.Verdict.{Verdict}
-use Rattle.rules.specs.declared.Verdict.TheVariants.{Accepted, Refused}
-use Rattle.rules.specs.declared.Number.{Number}
-use Rattle.rules.specs.declared.Number.TheVariants.{Value, TooManyBytes, LongForm, CutOff}
+use Rattle.rules.specs.declared.NoNumber.TheVariants.{TooManyBytes, LongForm, CutOff}
 use Rattle.rules.specs.declared.Header.{Header}
-use Rattle.rules.specs.declared.HeaderRead.{HeaderRead}
-use Rattle.rules.specs.declared.HeaderRead.TheVariants as header
 use Rattle.rules.specs.declared.Part.{Part}
-use Rattle.rules.specs.declared.PartRead.{PartRead}
-use Rattle.rules.specs.declared.PartRead.TheVariants as part
+use Rattle.rules.specs.declared.Piece.{Piece}
+use Rattle.rules.specs.declared.Piece.TheVariants as part
 use Rattle.rules.specs.Document.Pyramid.{most_area, legal_size, area, levels, most_planes}
 use Rattle.rules.specs.Document.Passes.{PartName}
-use Rattle.rules.specs.Document.Layout.{read_number, version, bytes_for, pad_clear, body_of, name_of}
+use Rattle.rules.specs.Document.Layout.{Number, read_number, version, bytes_for, pad_clear, body_of, name_of}
 
 -- The table's first and last columns.
 abbrev pub refusal_number : Refusal → ℕ
@@ -52,6 +47,11 @@ refusal_place refusal.Grey = 0
 refusal_place refusal.Mixed = 0
 refusal_place (refusal.Clash i) = i
 
+-- What a call comes back with.
+pub data Verdict : Type 0 where
+  Accepted : Verdict
+  Refused : Refusal → Verdict
+
 abbrev pub verdict_number : Verdict → ℕ
 verdict_number Accepted = 0
 verdict_number (Refused r) = refusal_number r
@@ -60,20 +60,27 @@ abbrev pub verdict_place : Verdict → ℕ
 verdict_place Accepted = 0
 verdict_place (Refused r) = refusal_place r
 
+-- A header read, or what is refused; and what stands at a place of a record, or what is refused there.
+abbrev pub HeaderRead : Type 0
+HeaderRead = Result Header Refusal
+
+abbrev pub PartRead : Type 0
+PartRead = Result Piece Refusal
+
 -- "Any reading: version number (6, then 7), the four others (6), then 1." 6 HEAD is given where the header ends early or a number in it is
 -- malformed, with the offset of that number. W2: "12 LONGFORM (several bytes, the last 0), in the places of 6 or 8 wherever that was the cause,
 -- same reported place; 6 and 8 keep the rest."
 unfoldable pub head_number : ℕ → Number → (ℕ → ℕ → HeaderRead) → HeaderRead
-head_number at (Value v end) go = go v end
-head_number at TooManyBytes go = header.Refused (refusal.Head at)
-head_number at LongForm go = header.Refused (refusal.LongForm at)
-head_number at CutOff go = header.Refused (refusal.Head at)
+head_number at (Ok (v, end)) go = go v end
+head_number at (Err TooManyBytes) go = Err (refusal.Head at)
+head_number at (Err LongForm) go = Err (refusal.LongForm at)
+head_number at (Err CutOff) go = Err (refusal.Head at)
 
 unfoldable pub judged_header : Size → ℕ → ℕ → HeaderRead
 judged_header z planes end =
     cond (legal_size z && leb planes most_planes)
-    (header.Header (record { size = z; planes = planes; end = end }))
-    (header.Refused refusal.Size)
+    (Ok (record { size = z; planes = planes; end = end }))
+    (Err refusal.Size)
 
 unfoldable pub read_sizes : List ℕ → ℕ → HeaderRead
 read_sizes s a =
@@ -84,7 +91,7 @@ read_sizes s a =
     judged_header (record { w = w; h = h; n = n }) planes end))))
 
 unfoldable pub read_header : List ℕ → HeaderRead
-read_header s = head_number 0 (read_number s 0) (λ v a. cond (eqb v version) (read_sizes s a) (header.Refused refusal.Version))
+read_header s = head_number 0 (read_number s 0) (λ v a. cond (eqb v version) (read_sizes s a) (Err refusal.Version))
 
 -- the greatest level that a part of this header may have
 abbrev pub top_level : Header → ℕ
@@ -100,10 +107,10 @@ part_most = 4 * most_area
 -- "Within a part: its three numbers in turn, each being a value, malformed (8) or cut off (tail), the first that isn't a value deciding";
 -- 12, as W2 says, where its last byte is 0
 unfoldable pub part_number : ℕ → Number → (ℕ → ℕ → PartRead) → PartRead
-part_number place (Value v end) go = go v end
-part_number place TooManyBytes go = part.Refused (refusal.Part place)
-part_number place LongForm go = part.Refused (refusal.LongForm place)
-part_number place CutOff go = part.Tail
+part_number place (Ok (v, end)) go = go v end
+part_number place (Err TooManyBytes) go = Err (refusal.Part place)
+part_number place (Err LongForm) go = Err (refusal.LongForm place)
+part_number place (Err CutOff) go = Ok part.Tail
 
 -- "the other causes of 8": "plane not under planes; level not 1 to N+1; not after the part before it in the order; bit count over
 -- 4 x W x H"
@@ -119,9 +126,9 @@ unfoldable pub judged_part : Header → List ℕ → PartName → Part → PartR
 judged_part h s before p =
     cond (legal_head h before (name_of p) p.bits)
     (cond (leb p.end (length s))
-    (cond (pad_clear (body_of s p) p.bits) (part.Part p) (part.Refused (refusal.Pad p.place)))
-    (part.Cut p))
-    (part.Refused (refusal.Part p.place))
+    (cond (pad_clear (body_of s p) p.bits) (Ok (part.Part p)) (Err (refusal.Pad p.place)))
+    (Ok (part.Cut p)))
+    (Err (refusal.Part p.place))
 
 unfoldable pub headed : ℕ → ℕ → ℕ → ℕ → ℕ → Part
 headed place n k bits body =
@@ -145,10 +152,10 @@ pub record Reading : Type 0 where
   pub ending : Ending
 
 unfoldable pub go_on : List ℕ → ℕ → PartRead → (Part → Reading) → Reading
-go_on s place (part.Part p) next = record { parts = p ∷ (next p).parts; ending = (next p).ending }
-go_on s place (part.Cut p) next = record { parts = []; ending = tail (length s - place) }
-go_on s place part.Tail next = record { parts = []; ending = tail (length s - place) }
-go_on s place (part.Refused r) next = record { parts = []; ending = fault r }
+go_on s place (Ok (part.Part p)) next = record { parts = p ∷ (next p).parts; ending = (next p).ending }
+go_on s place (Ok (part.Cut p)) next = record { parts = []; ending = tail (length s - place) }
+go_on s place (Ok part.Tail) next = record { parts = []; ending = tail (length s - place) }
+go_on s place (Err r) next = record { parts = []; ending = fault r }
 
 -- The first number bounds the parts; the record's length is enough.
 unfoldable pub read_from : ℕ → Header → List ℕ → PartName → ℕ → Reading

@@ -1,25 +1,23 @@
 -- The cases that document 01 names, P1 to P12, and its record in full, with some more that only one reading of it gives, and bytes of which W2 says
 -- why they are refused: one table, and one claim about all its rows, by computation. What is stated is numbers and bytes; of a call the answer that its
 -- export writes and the output it leaves.
-use Rattle.std.specs.Prelude.{List, [], ◌∷◌, ◌++◌, map, ℕ, ◌+◌, ◌*◌, length, take, replicate, ℤ, pos, negsuc}
+use Rattle.std.specs.Prelude.{List, [], ◌∷◌, ◌++◌, map, ℕ, ◌+◌, ◌*◌, length, take, replicate, ℤ, pos, negsuc, Ok, Err}
 use Rattle.rules.specs.declared.Size.{Size}
-use Rattle.rules.specs.declared.Number.{Number}
-use Rattle.rules.specs.declared.Number.TheVariants.{Value, TooManyBytes, LongForm}
+use Rattle.rules.specs.declared.NoNumber.TheVariants.{TooManyBytes, LongForm}
 use Rattle.rules.specs.Document.Notation.{any, every, count, flat, greatest, lowest, if_any, zeros}
 use Rattle.rules.specs.Document.Pyramid.{legal_side, legal_size, magnitude, negative, within, level_up_to, level_of, block, offspring_ll, offspring_at}
 use Rattle.rules.specs.Document.Pyramid.{offspring_of, generations, descendants_of, log2_up, earlier_planes_of, log2_down, planes_of}
 use Rattle.rules.specs.Document.Passes.{members, in_level, tested, tests, opened, added, weighed, visited, visits, turns, sets, refines, pass}
 use Rattle.rules.specs.Document.Passes.{walk, listed, passed, after, from, rows, band_ll, root_of, start, parts_of_plane, part_names, truth, coded}
 use Rattle.rules.specs.Document.Passes.{signed, grown, written, decoded}
-use Rattle.rules.specs.Document.Layout.{groups, number_bytes, number_from, read_number, eight_bits, pack_from, packed, bit_at, clear_from, pad_clear}
+use Rattle.rules.specs.Document.Layout.{groups, number_bytes, number_from, read_number, eight_bits, pack_from, packed, bit_at, clear_from, pad_clear, Number}
 use Rattle.rules.specs.Document.Layout.{header_bytes, part_bytes, coded_parts, record_with, planes_in, earlier_planes_in, parts_of, record_of, whole_of}
 use Rattle.rules.specs.Document.Layout.{body_of, bits_there, name_of, same_name, needs, usable, reached}
 use Rattle.rules.specs.Document.Numbers.{head_number, judged_header, read_sizes, read_header, part_number, follows, legal_head, judged_part, headed}
 use Rattle.rules.specs.Document.Numbers.{read_part, go_on, read_from, read_parts, behind_from}
 use Rattle.rules.specs.Document.Calls.{Result, unless, work_for, first_over, fitted, coding, on_header, on_ending, legal_ask, kept_of, served_bytes}
-use Rattle.rules.specs.Document.Calls.{Portion, portioned, serving}
 use Rattle.rules.specs.Document.Calls.{used, onward, decode_parts, Picture, reached_plane, reached_planes, skipped_parts, skipped_counts, pictured}
-use Rattle.rules.specs.Document.Calls.{used_cut, tail_onward, decoded_parts, decoding}
+use Rattle.rules.specs.Document.Calls.{used_cut, tail_onward, decoded_parts, decoding, Portion, portioned, serving}
 use Rattle.rules.specs.Document.Calls.{filled, code_out, code_answer, serve_out, serve_answer, decode_out, decode_answer, code_numbers, serve_numbers}
 use Rattle.rules.specs.Document.Calls.{plane_in, count_in, decode_numbers, code_places, serve_places, decode_places, reported}
 
@@ -335,9 +333,9 @@ table =
     (numbers (number_bytes 127) is numbers (0x7F ∷ []))
     ∷ (numbers (number_bytes 128) is numbers (0x80 ∷ 0x01 ∷ []))
     ∷ (numbers (number_bytes 512) is numbers (0x80 ∷ 0x04 ∷ []))
-    ∷ (read (read_number (0x80 ∷ 0x04 ∷ []) 0) is read (Value 512 2))
-    ∷ (read (read_number (0x80 ∷ 0x00 ∷ []) 0) is read LongForm)
-    ∷ (read (read_number (0x80 ∷ 0x80 ∷ 0x80 ∷ 0x80 ∷ []) 0) is read TooManyBytes)
+    ∷ (read (read_number (0x80 ∷ 0x04 ∷ []) 0) is read (Ok (512, 2)))
+    ∷ (read (read_number (0x80 ∷ 0x00 ∷ []) 0) is read (Err LongForm))
+    ∷ (read (read_number (0x80 ∷ 0x80 ∷ 0x80 ∷ 0x80 ∷ []) 0) is read (Err TooManyBytes))
     -- P6 the record above, there and back; served whole. P7 all zero 4 x 4, N = 1: 01 04 04 01 00; all zero 8 x 4.
     ∷ (codes example four 30 is bytes (0 ∷ 0 ∷ 30 ∷ []) thirty)
     ∷ (decodes thirty is prints 0 (0, 0) (0, 0) example)

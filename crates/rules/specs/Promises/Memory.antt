@@ -3,14 +3,11 @@
 -- answer and the workspace that decoding leaves. Vocabulary has the words: Selected, Recorded, Serves, Decodes.
 use Rattle.std.specs.Prelude.{◌≡◌, List, ℕ, ◌≤◌, take, get_or, length, ℤ}
 use Rattle.rules.specs.declared.Size.{Size}
-use Rattle.rules.specs.declared.Verdict.TheVariants.{Accepted}
-use Rattle.rules.specs.declared.Coded.{Coded}
-use Rattle.rules.specs.declared.Served.{Served}
-use Rattle.rules.specs.declared.Decoded.{Decoded}
+use Rattle.rules.specs.Document.Calls.{Decoded, Served, Coded}
 use Rattle.rules.specs.Document.Notation.{zeros}
 use Rattle.rules.specs.Document.Pyramid.{levels}
 use Rattle.rules.specs.Document.Layout.{planes_in, earlier_planes_in, record_with}
-use Rattle.rules.specs.Document.Numbers.{verdict_number, verdict_place}
+use Rattle.rules.specs.Document.Numbers.{verdict_number, verdict_place, Accepted}
 use Rattle.rules.specs.Document.Calls.{AfsCode, work_for, code_places, AfsDecode, decode_places, AfsServe, serve_places, Coding, Decoding, Serving}
 use Rattle.rules.specs.Promises.Vocabulary.{Recorded, Codable, enough_room, Selected, Stated, Decodes, names, whole_parts, cut_bytes, planes_told}
 use Rattle.rules.specs.Promises.Vocabulary.{Serves, cut_parts, planes_answered, counts_told, counts_answered}

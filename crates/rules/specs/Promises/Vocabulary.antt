@@ -40,17 +40,13 @@
 --   Selected s t                t is a selection of the parts of the record in the bytes s, cut somewhere
 --   whole_parts x, cut_bytes x    what arrived of it whole, and the bytes of a part that was cut; cut_parts x: that part
 --   Recorded, Serves, Decodes   what is promised of coding, of serving and of decoding, of lent memory
-use Rattle.std.specs.Prelude.{◌≡◌, List, [], ◌∷◌, map, ◌++◌, Bool, true, cond, ◌&&◌, false, ◌⊎◌, ◌↔◌, ℕ, ◌≤◌, ◌%◌, ◌^◌, ◌+◌, ◌/◌, ◌*◌, suc, ◌<◌, ◌-◌}
+use Rattle.std.specs.Prelude.{◌≡◌, List, [], ◌∷◌, map, ◌++◌, Bool, true, cond, ◌&&◌, false, ◌⊎◌, ◌↔◌, ℕ, ◌≤◌, ◌%◌, ◌^◌, ◌+◌, ◌/◌, ◌*◌, suc, ◌<◌, ◌-◌, Ok}
 use Rattle.std.specs.Prelude.{max, zero, leb, eqb, length, take, drop, get_or, ℤ, nat_abs, ◌-ℤ◌, pos}
 use Rattle.rules.specs.declared.Size.{Size}
 use Rattle.rules.specs.declared.Refusal.{Refusal}
 use Rattle.rules.specs.declared.Refusal.TheVariants as refusal
-use Rattle.rules.specs.declared.Verdict.{Verdict}
-use Rattle.rules.specs.declared.Verdict.TheVariants.{Accepted, Refused}
-use Rattle.rules.specs.declared.Served.{Served}
-use Rattle.rules.specs.declared.Decoded.{Decoded}
+use Rattle.rules.specs.Document.Numbers.{Accepted, Refused, Verdict, read_header}
 use Rattle.rules.specs.declared.Header.{Header}
-use Rattle.rules.specs.declared.HeaderRead.TheVariants as header
 use Rattle.rules.specs.declared.Part.{Part}
 use Rattle.rules.specs.Document.Notation.{any, count, flat, zeros}
 use Rattle.rules.specs.Document.Pyramid.{least_side, greatest_side, most_decompositions, legal_size, area, most_magnitude, magnitude, most_planes, below0}
@@ -59,9 +55,8 @@ use Rattle.rules.specs.Document.Passes.{PartName, signed, part_names}
 use Rattle.rules.specs.Document.Layout.{same_name, CodedPart, header_bytes, part_bytes, number_bytes, reached, whole_of, bit_at, name_of, body_of, record_with}
 use Rattle.rules.specs.Document.Layout.{parts_with}
 use Rattle.rules.specs.Document.Numbers.{top_level, follows, most_bits, headed, read_parts, tail, verdict_number, refusal_number, verdict_place, refusal_place}
-use Rattle.rules.specs.Document.Numbers.{read_header}
 use Rattle.rules.specs.Document.Calls.{first_over, work_for, Result, Picture, accepted, level_places, plane_in, refused, Portion, legal_ask, serving}
-use Rattle.rules.specs.Document.Calls.{portioned, Serving, serve_places, AfsServe, skipped_parts, count_in}
+use Rattle.rules.specs.Document.Calls.{portioned, Serving, serve_places, AfsServe, skipped_parts, count_in, Decoded, Served}
 
 -- SIZES AND PARTS
 
@@ -297,7 +292,7 @@ placed_from b (p ∷ ps) = moved_to b p ∷ placed_from (b + (p.end - p.place)) 
 -- What was served, and of what.
 pub record IsServed (s : List ℕ) (r p : ℕ) (x : Portion) : Type 0 where
   pub head : Header
-  pub read : read_header s ≡ header.Header head
+  pub read : read_header s ≡ Ok head
   pub asked : legal_ask head r p ≡ true
   pub ending : (read_parts head s).ending ≡ tail x.tail
   pub bytes : x.bytes ≡ take head.end s ++ flat (whole_of s) (selection (wanted r p) (read_parts head s).parts)
@@ -306,8 +301,8 @@ pub record IsServed (s : List ℕ) (r p : ℕ) (x : Portion) : Type 0 where
 pub record Again (s : List ℕ) (r1 p1 : ℕ) (x : Portion) (r2 p2 : ℕ) : Type 0 where
   -- What was served has the header of the record: a request is legal for both or for neither, and if not, the second serving is refused with 11.
   pub head : Header
-  pub of_record : read_header s ≡ header.Header head
-  pub of_served : read_header x.bytes ≡ header.Header head
+  pub of_record : read_header s ≡ Ok head
+  pub of_served : read_header x.bytes ≡ Ok head
   pub unasked : legal_ask head r2 p2 ≡ false → (room : ℕ) → serving x.bytes r2 p2 room ≡ refused refusal.Ask
   -- Where it is, both ways come to the same bytes, and to 5 where there is no room for these. The second serving tells no tail, serving once that
   -- of the record.
@@ -364,7 +359,7 @@ kept_in keep bytes p = cond (keep (name_of p)) (whole_of bytes p) []
 -- parts that some test keeps; of all this the header and some number of bytes more.
 pub record Selected (bytes s : List ℕ) : Type 0 where
   pub head : Header
-  pub read : read_header bytes ≡ header.Header head
+  pub read : read_header bytes ≡ Ok head
   pub keep : PartName → Bool
   pub more : ℕ
   pub made : s ≡ take (head.end + more) (take head.end bytes ++ flat (kept_in keep bytes) (read_parts head bytes).parts)
@@ -386,7 +381,7 @@ pub record Recorded (z : Size) (planes : ℕ) (pyramid : List ℤ) (bytes : List
   pub codable : Codable z pyramid
   pub count : PlaneCount pyramid planes
   pub its_bytes : bytes ≡ record_with z planes pyramid
-  pub its_header : read_header bytes ≡ header.Header (header_of z planes)
+  pub its_header : read_header bytes ≡ Ok (header_of z planes)
   pub its_parts : parts_in (header_of z planes) bytes ≡ parts_with z planes pyramid
   pub every_part : names (parts_in (header_of z planes) bytes) ≡ part_names (levels z) planes
 

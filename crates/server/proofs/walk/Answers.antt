@@ -1,32 +1,31 @@
 -- `server::walk`: what `next` gives goes on, ends or refuses the walk; the cursor's place rises.
+use Rattle.std.proofs.Common.{rules, Ok, refl, ap, ◌∙◌}
+use Rattle.std.proofs.lemmas.Result.{err_from_is_err_and}
 use Rattle.record.specs.Walk.{next_falls}
-use Rattle.server.proofs.Laws.{walking_first, walking_legal, walking_copies, walking_past, walking_same, walking_whole, walking_fault}
-use borrow.Author.Rules.{rules}
+use Rattle.server.proofs.Laws.{walking_first, walking_legal, walking_copies, walking_past, walking_whole, walking_fault}
 use Rattle.server.proofs.walk.Goals as goal
 
-pub loop-r-init : goal.loop-r-init
-loop-r-init c = search (rules, walking_first)
+pub loop-p-init : goal.loop-p-init
+loop-p-init c = search (rules, walking_first)
 
 pub next-requires : goal.next-requires
 next-requires c = search (rules, walking_legal)
 
-pub shape_of-out-in-Tail : goal.shape_of-out-in-Tail
-shape_of-out-in-Tail c = search (rules, walking_same)
+pub returns-in_err-p : goal.returns-in_err-p
+returns-in_err-p c =
+    let p = err_from_is_err_and c.from_residual.result c.from_residual.ensures.1 in
+    rw (p.1, p.2) (walking_fault _ _ _ _ _ _ _ _ c.loop-p.invariant _ refl _ c.next.ensures _ c.in_err-p.was)
 
-pub returns-in-Tail : goal.returns-in-Tail
-returns-in-Tail c = search (rules, walking_whole)
+pub keep-length-requires : goal.keep-length-requires
+keep-length-requires c = walking_copies _ _ _ _ _ _ _ _ c.loop-p.invariant _ c.next.ensures _ (c.in_ok-p.was ∙ ap (λ x. Ok x) c.in-Part.is)
 
-pub shape_of-out-in-Refused : goal.shape_of-out-in-Refused
-shape_of-out-in-Refused c = search (rules, walking_same)
+pub loop-p-smaller : goal.loop-p-smaller
+loop-p-smaller c = next_falls _ _ _ _ c.next.ensures _ _ (c.in_ok-p.was ∙ ap (λ x. Ok x) c.in-Part.is) c.past-cursor.ensures
 
-pub returns-in-Refused : goal.returns-in-Refused
-returns-in-Refused c = search (rules, walking_fault)
+pub loop-p-preserved : goal.loop-p-preserved
+loop-p-preserved c =
+    walking_past _ _ _ _ _ _ _ _ c.loop-p.invariant _ c.next.ensures _ _ _ _ (c.in_ok-p.was ∙ ap (λ x. Ok x) c.in-Part.is) c.past-cursor.ensures
+    c.keep-length.ensures
 
-pub keep-written-requires : goal.keep-written-requires
-keep-written-requires c = search (rules, walking_copies)
-
-pub loop-r-smaller : goal.loop-r-smaller
-loop-r-smaller c = search (rules, next_falls)
-
-pub loop-r-preserved : goal.loop-r-preserved
-loop-r-preserved c = search (rules, walking_past)
+pub returns : goal.returns
+returns c = walking_whole _ _ _ _ _ _ _ _ c.loop-p.invariant _ refl _ c.next.ensures _ c.in_ok-p.was c.in_default.not-Part

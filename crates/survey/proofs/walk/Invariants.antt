@@ -3,8 +3,8 @@ use lib.ListN.{length}
 use Rattle.survey.proofs.Laws.{Surveying}
 use Rattle.survey.proofs.walk.Given as goal
 
-abbrev pub invariant-loop-r : goal.invariant-loop-r
-invariant-loop-r l = Surveying l.bytes l.h l.cursor l.parts
+abbrev pub invariant-loop-p : goal.invariant-loop-p
+invariant-loop-p l = Surveying l.bytes l.header l.cursor l.parts
 
-abbrev pub decreases-loop-r : goal.decreases-loop-r
-decreases-loop-r l = length l.bytes - l.cursor.place
+abbrev pub decreases-loop-p : goal.decreases-loop-p
+decreases-loop-p l = length l.bytes - l.cursor.place

@@ -1,16 +1,15 @@
 -- Numbers read back: their values and the place behind them, whatever follows; and where they are cut, one of them is cut off.
-use Rattle.std.specs.Prelude.{◌≡◌, List, [], ◌∷◌, ◌++◌, ℕ, zero, suc, ◌+◌, ◌-◌, ◌*◌, ◌/◌, ◌%◌, ◌^◌, ◌≤◌, ◌<◌, length, get_or, take, drop}
+use Rattle.std.specs.Prelude.{◌≡◌, List, [], ◌∷◌, ◌++◌, ℕ, zero, suc, ◌+◌, ◌-◌, ◌*◌, ◌/◌, ◌%◌, ◌^◌, ◌≤◌, ◌<◌, length, get_or, take, drop, Ok, Err}
 use Rattle.std.proofs.Common.{ap, ap₂, sym, ◌∙◌, subst, append_assoc, arith, mul_assoc, mul_comm, add-mul, length-drop, length-append, get_or-drop, drop-drop}
 use Rattle.std.proofs.Math.Decide.{dec_lt}
 use Rattle.std.proofs.Math.Seq.{drop-append_seam, take-append-add}
 use Rattle.std.proofs.lemmas.List.{take-append-le}
-use Rattle.rules.specs.declared.Number.TheVariants.{Value, CutOff}
+use Rattle.rules.specs.declared.NoNumber.TheVariants.{CutOff}
 use Rattle.rules.specs.Document.Notation.{flat}
 use Rattle.rules.specs.Document.Layout.{groups, number_bytes, number_from, read_number}
 use Rattle.rules.specs.Laws.Counting.Sums.{All}
 use Rattle.rules.specs.Laws.Bytes.Numbers.{too_large}
-use Rattle.rules.proofs.Laws.Bytes.Numbers.{groups_last, groups_next, by_groups, number_from_cut, number_from_last, number_from_next}
-use Rattle.rules.proofs.Laws.Bytes.Numbers.{shortest_form}
+use Rattle.rules.proofs.Laws.Bytes.Numbers.{groups_last, groups_next, by_groups, number_from_cut, number_from_last, number_from_next, shortest_form}
 use Rattle.rules.specs.Promises.Refusals.{Numbers, none, next}
 use Rattle.rules.specs.Laws.Bytes.NumberBack.{AllSmall, Cut, inside, behind}
 
@@ -30,7 +29,7 @@ module _ {X : Type 0} (s : List X) (at : ℕ) where
 
 -- One byte of a number: the last one, or one with its top bit set.
 module _ (more : ℕ) (s : List ℕ) (at worth v b : ℕ) (rest : List ℕ) (e : drop at s ≡ b ∷ rest) where
-  number_last : b < 128 → (1 < worth → 1 ≤ b) → number_from (suc more) s at worth v ≡ Value (v + b * worth) (at + 1)
+  number_last : b < 128 → (1 < worth → 1 ≤ b) → number_from (suc more) s at worth v ≡ Ok (v + b * worth, at + 1)
   number_last l h =
       let f : get_or s at 0 ≡ b = left_first s at 0 b rest e in
       number_from_last more s at worth v (left_some s at b rest e) (omega arith) ∙ rw (f, shortest_form worth b h)
@@ -47,13 +46,13 @@ worth_whole v worth =
 
 from_groups : (more : ℕ) (s : List ℕ) (at worth acc v : ℕ) (rest : List ℕ) → v < 128 ^ suc more → (1 < worth → 1 ≤ v)
     → drop at s ≡ groups more v ++ rest
-    → number_from (suc more) s at worth acc ≡ Value (acc + v * worth) (at + length (groups more v))
+    → number_from (suc more) s at worth acc ≡ Ok (acc + v * worth, at + length (groups more v))
 from_groups more s at worth acc v rest small = by_groups Read last next more v small s at worth acc rest
   where
     Read : ℕ → ℕ → Type 0
     Read more v =
         (s : List ℕ) (at worth acc : ℕ) (rest : List ℕ) → (1 < worth → 1 ≤ v) → drop at s ≡ groups more v ++ rest
-        → number_from (suc more) s at worth acc ≡ Value (acc + v * worth) (at + length (groups more v))
+        → number_from (suc more) s at worth acc ≡ Ok (acc + v * worth, at + length (groups more v))
 
     last : (more v : ℕ) → v < 128 → Read more v
     last more v l s at worth acc rest h e = rw (groups_last more v l) (number_last more s at worth acc v rest (e ∙ rw (groups_last more v l)) l h)
@@ -67,27 +66,27 @@ from_groups more s at worth acc v rest small = by_groups Read last next more v s
         rw (groups_next more v l)
         (number_more (suc more) s at worth acc b (groups more (v / 128) ++ rest) f (omega arith)
         ∙ higher s (at + 1) (worth * 128) (acc + (b - 128) * worth) rest (λ x. omega arith) d
-        ∙ ap₂ Value
+        ∙ ap₂ (λ v end. Ok (v, end))
         (ap (λ x. acc + x * worth + v / 128 * (worth * 128)) clear ∙ omega (arith, worth_whole v worth))
         (omega arith))
 
 pub reads_number : (s : List ℕ) (at v : ℕ) (rest : List ℕ) → v < too_large → drop at s ≡ number_bytes v ++ rest
-    → read_number s at ≡ Value v (at + length (number_bytes v))
+    → read_number s at ≡ Ok (v, at + length (number_bytes v))
 unfolding read_number number_bytes
 reads_number s at v rest small e =
-    from_groups 3 s at 1 0 v rest small (λ x. absurd (omega arith)) e ∙ ap (λ x. Value x (at + length (groups 3 v))) (omega arith)
+    from_groups 3 s at 1 0 v rest small (λ x. absurd (omega arith)) e ∙ ap (λ x. Ok (x, at + length (groups 3 v))) (omega arith)
 
 -- A number that ends before its last byte.
 from_cut : (more : ℕ) (s : List ℕ) (at worth acc v c : ℕ) → v < 128 ^ suc more → c < length (groups more v) → drop at s ≡ take c (groups more v)
-    → number_from (suc more) s at worth acc ≡ CutOff
+    → number_from (suc more) s at worth acc ≡ Err CutOff
 from_cut more s at worth acc v c small = by_groups Cut last next more v small s at worth acc c
   where
     Cut : ℕ → ℕ → Type 0
     Cut more v =
         (s : List ℕ) (at worth acc c : ℕ) → c < length (groups more v) → drop at s ≡ take c (groups more v)
-        → number_from (suc more) s at worth acc ≡ CutOff
+        → number_from (suc more) s at worth acc ≡ Err CutOff
 
-    none : (more : ℕ) (s : List ℕ) (at worth acc : ℕ) → drop at s ≡ [] → number_from (suc more) s at worth acc ≡ CutOff
+    none : (more : ℕ) (s : List ℕ) (at worth acc : ℕ) → drop at s ≡ [] → number_from (suc more) s at worth acc ≡ Err CutOff
     none more s at worth acc e = number_from_cut more s at worth acc (left_none s at e)
 
     last : (more v : ℕ) → v < 128 → Cut more v
@@ -104,7 +103,7 @@ from_cut more s at worth acc v c small = by_groups Cut last next more v small s 
         (left_behind s at (b ∷ []) (take c (groups more (v / 128))) f)
 
 reads_cut : (s : List ℕ) (at v c : ℕ) → v < too_large → c < length (number_bytes v) → drop at s ≡ take c (number_bytes v)
-    → read_number s at ≡ CutOff
+    → read_number s at ≡ Err CutOff
 unfolding read_number number_bytes
 reads_cut s at v c small h e = from_cut 3 s at 1 0 v c small h e
 
@@ -140,7 +139,7 @@ numbers_cut s at (v ∷ vs) more c small short e =
     long : length (number_bytes v ++ flat number_bytes vs) ≡ n + length (flat number_bytes vs)
     long = length-append (number_bytes v) (flat number_bytes vs)
 
-    later : read_number s at ≡ Value v (at + n) → (d : ℕ) → n + d ≡ c → drop at s ≡ number_bytes v ++ take d rest → Cut s (at + n) vs more d
+    later : read_number s at ≡ Ok (v, at + n) → (d : ℕ) → n + d ≡ c → drop at s ≡ number_bytes v ++ take d rest → Cut s (at + n) vs more d
         → Cut s at (v ∷ vs) more c
     later r d q f (inside ns l z k) = inside (next r ns) (omega arith) z (omega (arith, long))
     later r d q f (behind k l g j) =

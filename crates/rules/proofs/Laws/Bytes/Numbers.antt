@@ -1,10 +1,11 @@
 -- A number's bytes, one group at a time: how many they are, that each is a byte, and how they are read.
 use Rattle.std.specs.Prelude.{◌≡◌, List, [], ◌∷◌, Bool, true, false, cond, ◌&&◌, ℕ, zero, suc, ◌+◌, ◌-◌, ◌*◌, ◌/◌, ◌%◌, ◌^◌, ◌≤◌, ◌<◌, ltb, eqb, length, get_or}
+use Rattle.std.specs.Prelude.{Ok, Err}
 use Rattle.std.proofs.Math.Path.{refl}
 use Rattle.std.proofs.Common.{ap, sym, ◌∙◌, arith, pow-suc, mul-le-mul_right}
 use Rattle.std.proofs.Math.Decide.{dec_lt}
 use borrow.Author.Tests.{ltb-true, lt-ltb, le-ltb, le-leb, lt-leb, ne_eqb}
-use Rattle.rules.specs.declared.Number.TheVariants.{Value, LongForm, CutOff}
+use Rattle.rules.specs.declared.NoNumber.TheVariants.{LongForm, CutOff}
 use Rattle.rules.specs.Document.Layout.{groups, number_bytes, number_from}
 use Rattle.rules.specs.Laws.Bytes.Numbers.{too_large}
 use Rattle.rules.proofs.Promises.Cases.{cases_hold}
@@ -84,14 +85,14 @@ number_bytes_three v h = groups_few 1 2 v h
 
 -- Reading, one byte at a time: there is none, one that goes on, or a last one, which is not 0 if there are several.
 module _ (more : ℕ) (s : List ℕ) (at worth value : ℕ) where
-  pub number_from_cut : length s ≤ at → number_from (suc more) s at worth value ≡ CutOff
+  pub number_from_cut : length s ≤ at → number_from (suc more) s at worth value ≡ Err CutOff
   unfolding number_from
   number_from_cut h = rw (le-leb (length s) at h) refl
 
   module _ (h : at < length s) where
     pub number_from_last : get_or s at 0 < 128
         → number_from (suc more) s at worth value
-        ≡ cond (ltb 1 worth && eqb (get_or s at 0) 0) LongForm (Value (value + get_or s at 0 * worth) (at + 1))
+        ≡ cond (ltb 1 worth && eqb (get_or s at 0) 0) (Err LongForm) (Ok (value + get_or s at 0 * worth, at + 1))
     unfolding number_from
     number_from_last g = rw (lt-leb (length s) at h, lt-leb 128 (get_or s at 0) g) refl
 

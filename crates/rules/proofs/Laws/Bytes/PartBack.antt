@@ -1,5 +1,5 @@
 -- A header and a part read back, whole or cut.
-use Rattle.std.specs.Prelude.{◌≡◌, ℕ, ◌+◌, ◌-◌, ◌≤◌, ◌<◌, take, drop}
+use Rattle.std.specs.Prelude.{◌≡◌, ℕ, ◌+◌, ◌-◌, ◌≤◌, ◌<◌, take, drop, Ok}
 use Rattle.std.proofs.Math.Path.{refl, ap, sym}
 use Rattle.std.proofs.Common.{◌∙◌, subst, arith, length-drop, length-take, take_all, le-leb}
 use mathlib.Core.List.{List, [], ◌∷◌, ◌++◌, append_assoc}
@@ -9,8 +9,7 @@ use Rattle.std.proofs.Math.Seq.{length-take-le, take_at, take-append-add}
 use Rattle.std.proofs.lemmas.Bool.{lt-leb}
 use Rattle.rules.specs.declared.Size.{Size}
 use Rattle.rules.specs.declared.Header.{Header}
-use Rattle.rules.specs.declared.HeaderRead.TheVariants as header
-use Rattle.rules.specs.declared.PartRead.TheVariants as part
+use Rattle.rules.specs.declared.Piece.TheVariants as part
 use Rattle.rules.specs.Document.Notation.{flat}
 use Rattle.rules.specs.Document.Pyramid.{most_area, area, most_planes, legal_size}
 use Rattle.rules.specs.Document.Passes.{PartName}
@@ -43,7 +42,7 @@ legal_small z planes h l =
 
 -- A header.
 pub reads_header : (z : Size) (planes : ℕ) (rest : List ℕ) → legal_size z ≡ true → planes ≤ most_planes
-    → read_header (header_bytes z planes ++ rest) ≡ header.Header (header_of z planes)
+    → read_header (header_bytes z planes ++ rest) ≡ Ok (header_of z planes)
 unfolding header_bytes All
 reads_header z planes rest ok l =
     let S : Small z planes = legal_small z planes ok l in
@@ -127,7 +126,7 @@ module _ (h : Header) (small : Small h.size h.planes) (s : List ℕ) (before : P
   unfolding name_of part_at headed
   legal_here = legal_head_lem h before p.name (length p.bits) ok
 
-  pub reads_part : (rest : List ℕ) → drop place s ≡ part_bytes p ++ rest → read_part h s before place ≡ part.Part (part_at place p)
+  pub reads_part : (rest : List ℕ) → drop place s ≡ part_bytes p ++ rest → read_part h s before place ≡ Ok (part.Part (part_at place p))
   unfolding part_bytes
   reads_part rest stands =
       let head = stands ∙ append_assoc (head_bytes p) (packed p.bits) rest in

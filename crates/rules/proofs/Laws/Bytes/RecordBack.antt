@@ -1,5 +1,5 @@
 -- The parts of a record, or of any selection of them, read back, whole or cut.
-use Rattle.std.specs.Prelude.{◌≡◌, refl, List, [], ◌∷◌, ◌++◌, map, Bool, true, false, cond, ℕ, zero, suc, ◌+◌, ◌-◌, ◌≤◌, ◌<◌, leb, take, drop}
+use Rattle.std.specs.Prelude.{◌≡◌, refl, List, [], ◌∷◌, ◌++◌, map, Bool, true, false, cond, ℕ, zero, suc, ◌+◌, ◌-◌, ◌≤◌, ◌<◌, leb, take, drop, Ok, Err}
 use Rattle.std.proofs.Common.{ap, ap₂, sym, ◌∙◌, subst, append_assoc, append-nil, arith, length-drop, length-take-le}
 use Rattle.std.proofs.Math.ListN.{length, length-append}
 use Rattle.std.proofs.lemmas.List.{take-append-le}
@@ -7,8 +7,8 @@ use Rattle.std.proofs.Math.Seq.{take-append-add, drop-append_seam}
 use Rattle.rules.specs.declared.Size.{Size}
 use Rattle.rules.specs.declared.Header.{Header}
 use Rattle.rules.specs.declared.Part.{Part}
-use Rattle.rules.specs.declared.PartRead.{PartRead}
-use Rattle.rules.specs.declared.PartRead.TheVariants as part
+use Rattle.rules.specs.Document.Numbers.{PartRead}
+use Rattle.rules.specs.declared.Piece.TheVariants as part
 use Rattle.rules.specs.Document.Notation.{flat}
 use Rattle.rules.specs.Document.Pyramid.{Family, most_planes, legal_size}
 use Rattle.rules.specs.Document.Passes.{State, after, PartName, part_names, coded}
@@ -32,16 +32,16 @@ nothing_more s rest place e = ap (λ x. record { parts = []; ending = tail x }) 
 pub short_ends : (s : List ℕ) (place : ℕ) (x : PartRead) (next : Part → Reading) → Short x
     → go_on s place x next ≡ record { parts = []; ending = tail (length s - place) }
 unfolding Short go_on
-short_ends s place (part.Part p) next h = absurd h
-short_ends s place (part.Cut p) next h = refl
-short_ends s place part.Tail next h = refl
-short_ends s place (part.Refused r) next h = absurd h
+short_ends s place (Ok (part.Part p)) next h = absurd h
+short_ends s place (Ok (part.Cut p)) next h = refl
+short_ends s place (Ok part.Tail) next h = refl
+short_ends s place (Err r) next h = absurd h
 
 pub cut_short : (place c : ℕ) (p : CodedPart) → Short (cut_at place c p)
 unfolding Short cut_at
 cut_short place c p = by (leb (length (head_bytes p)) c)
   where
-    by : (b : Bool) → Short (cond b (part.Cut (part_at place p)) part.Tail)
+    by : (b : Bool) → Short (cond b (Ok (part.Cut (part_at place p))) (Ok part.Tail))
     by true = tt
     by false = tt
 
@@ -117,7 +117,7 @@ module _ (z : Size) (planes : ℕ) (ok : legal_size z ≡ true) (l : planes ≤ 
       (unfold Short in tt))
 
   pub uncut_behind : behind (header_of z planes) (header_bytes z planes ++ (flat part_bytes ps ++ [])) (parts_at (length (header_bytes z planes)) ps)
-      ≡ part.Tail
+      ≡ Ok part.Tail
   uncut_behind =
       behind_parts (header_of z planes) _ (before_all planes) front ps
       ∙ read_part_past (header_of z planes) (bytes []) (last_name (before_all planes) ps) (front + length (flat part_bytes ps)) (left_none _ _ (past []))

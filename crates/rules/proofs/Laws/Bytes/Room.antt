@@ -11,19 +11,16 @@ use native.Mathlib.Omega.{arith}
 use Rattle.std.proofs.Math.Nat.{suc-mul, mul-le-mul, mul-le-mul_right}
 use Rattle.std.proofs.Math.ListN.{length, length-append, length-map}
 use Rattle.rules.specs.declared.Size.{Size}
-use Rattle.rules.specs.declared.Verdict.TheVariants.{Accepted}
-use Rattle.rules.specs.declared.Coded.{Coded}
 use Rattle.rules.specs.Document.Notation.{flat}
 use Rattle.rules.specs.Document.Pyramid.{area, levels, most_planes, most_magnitude, magnitude, negative}
 use Rattle.rules.specs.Document.Passes.{PartName, parts_of_plane, part_names, start}
 use Rattle.rules.specs.Document.Layout.{number_bytes, version, header_bytes, CodedPart, part_bytes, planes_in, parts_of, record_of}
-use Rattle.rules.specs.Document.Numbers.{verdict_number}
-use Rattle.rules.specs.Document.Calls.{Result, accepted, work_for, coding, code_answer, Coding, code_places, AfsCode}
+use Rattle.rules.specs.Document.Numbers.{verdict_number, Accepted}
+use Rattle.rules.specs.Document.Calls.{Result, accepted, work_for, coding, code_answer, Coding, code_places, AfsCode, Coded}
 use Rattle.rules.specs.Laws.Counting.Sums.{sum, All}
 use Rattle.rules.proofs.Laws.Counting.Sums.{all_then, all_both, map_all, sum_append, sum-map, sum_plus, sum_times, sum_le, sum_one, all_of}
 use Rattle.rules.specs.Laws.Family.Sizes.{level_start, level_size}
-use Rattle.rules.proofs.Laws.Family.Sizes.{legal, size_legal, area_bound, span_whole, level_start_fine, level_end_start}
-use Rattle.rules.proofs.Laws.Family.Sizes.{level_size_end}
+use Rattle.rules.proofs.Laws.Family.Sizes.{legal, size_legal, area_bound, span_whole, level_start_fine, level_end_start, level_size_end}
 use Rattle.rules.specs.Promises.Vocabulary.{Legal, Named, Codable, enough_room}
 use Rattle.rules.proofs.Laws.Rounding.Planes.{none_over}
 use Rattle.rules.specs.Promises.Refusals.{CodingCase, SIZE, LENGTH, WORK, RANGE, ROOM, CODED}

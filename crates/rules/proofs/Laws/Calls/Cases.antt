@@ -1,5 +1,5 @@
 -- Each call has the outcome that its case says, and no other.
-use Rattle.std.specs.Prelude.{◌≡◌, Bool, ◌&&◌, ◌≢◌, ℕ, ◌≤◌, ◌<◌, replicate, ℤ, pos}
+use Rattle.std.specs.Prelude.{◌≡◌, Bool, ◌&&◌, ◌≢◌, ℕ, ◌≤◌, ◌<◌, replicate, ℤ, pos, Ok, Err}
 use Rattle.std.proofs.Math.Path.{refl, ap, sym, subst}
 use Rattle.std.proofs.Common.{◌∙◌, true≢false, arith}
 use mathlib.Core.List.{List, [], ◌∷◌, ◌++◌, map}
@@ -11,19 +11,15 @@ use Rattle.rules.specs.declared.Size.{Size}
 use Rattle.rules.specs.declared.Refusal.{Refusal}
 use Rattle.rules.specs.declared.Refusal.TheVariants as refusal
 use Rattle.rules.specs.declared.Header.{Header}
-use Rattle.rules.specs.declared.HeaderRead.{HeaderRead}
-use Rattle.rules.specs.declared.HeaderRead.TheVariants as header
 use Rattle.rules.specs.declared.Part.{Part}
-use Rattle.rules.specs.declared.PartRead.{PartRead}
-use Rattle.rules.specs.declared.PartRead.TheVariants as part
+use Rattle.rules.specs.declared.Piece.TheVariants as part
 use Rattle.rules.specs.Document.Pyramid.{legal_size, area, family, most_magnitude}
 use Rattle.rules.specs.Document.Passes.{Course, Reader, State, PartName, start, after, decoded}
 use Rattle.rules.specs.Document.Layout.{record_of, bit_at, body_of, bits_there, name_of, usable}
-use Rattle.rules.specs.Document.Numbers.{read_header, Ending, tail, fault, Reading, read_parts, behind_from, behind, top_level}
+use Rattle.rules.specs.Document.Numbers.{read_header, Ending, tail, fault, Reading, read_parts, behind_from, behind, top_level, PartRead, HeaderRead}
 use Rattle.rules.specs.Document.Calls.{Result, unless, work_for, first_over, fitted, coding, on_header, on_ending, legal_ask, served_bytes, Portion}
-use Rattle.rules.specs.Document.Calls.{portioned, serving}
 use Rattle.rules.specs.Document.Calls.{Progress, going, unfit, used, onward, decode_parts, used_cut, tail_onward, Picture, pictured, decoded_parts}
-use Rattle.rules.specs.Document.Calls.{accepted, reached_planes, skipped_counts, decoding}
+use Rattle.rules.specs.Document.Calls.{accepted, reached_planes, skipped_counts, decoding, portioned, serving}
 use Rattle.rules.proofs.Laws.Counting.Booleans.{clash, both_left, both_right, not_test}
 use Rattle.rules.proofs.Laws.Family.Sizes.{legal, size_legal}
 use Rattle.rules.specs.Promises.Vocabulary.{Legal, Usable}
@@ -100,7 +96,7 @@ module _ (s : List ℕ) where
   pub parts_to : (h : Header) (e : Ending) → (read_parts h s).ending ≡ e → Parts h s (read_parts h s).parts e
   parts_to h e q = subst (Parts h s (read_parts h s).parts) q (parts_case h s)
 
-  pub parts_of_lem : (h : Header) (ps : List Part) (e : Ending) → HeaderCase s (header.Header h) → Parts h s ps e
+  pub parts_of_lem : (h : Header) (ps : List Part) (e : Ending) → HeaderCase s (Ok h) → Parts h s ps e
       → read_parts h s ≡ record { parts = ps; ending = e }
   parts_of_lem h ps e c w = parts_is h s ps e (header_within (read_header_stands s h (header_is s _ c))) w
 
@@ -112,7 +108,7 @@ module _ (s : List ℕ) (r p room : ℕ) where
   unfolding serving portioned
   serving_case =
       on_header_case Serves (read_header s) _ (λ why e. HEADER (header_of_lem s _ e)) (λ h e.
-      let H : HeaderCase s (header.Header h) = header_of_lem s _ e in
+      let H : HeaderCase s (Ok h) = header_of_lem s _ e in
       unless_case Serves (legal_ask h r p) refusal.Ask _ (λ e. ASK H (failed _ (legal_ask_lem h r p) e)) (λ e.
       let A : LegalAsk h r p = ask_legal h r p e in
       on_ending_case Serves (read_parts h s).ending _ (λ why e. PARTS H A (parts_to s h _ e)) (λ t e.
@@ -205,25 +201,25 @@ module _ (h : Header) (s : List ℕ) (there : List PartName) where
 
 -- What stands behind the parts: a fault is met there, and a part that is cut is used where it can be.
 fault_behind : (h : Header) (s : List ℕ) {before : PartName} {place : ℕ} {ps : List Part} (r : Refusal) → Walk h s before place ps (fault r)
-    → behind_from h s before place ps ≡ part.Refused r
+    → behind_from h s before place ps ≡ Err r
 unfolding behind_from
 fault_behind h s r (MORE c w) = fault_behind h s r w
 fault_behind h s r (FAULT {before = before} {place = place} c) = part_is h s before place _ c
 
-cut_same : (p q : Part) → part.Cut p ≡ part.Cut q → p ≡ q
+cut_same : (p q : Part) → ◌≡◌ {A = PartRead} (Ok (part.Cut p)) (Ok (part.Cut q)) → p ≡ q
 cut_same p q e = cc
 
 module _ (h : Header) (s : List ℕ) where
-  tail_fault : (there : List PartName) (x : PartRead) (g : Progress) {r : Refusal} → x ≡ part.Refused r → tail_onward h s there x g ≡ g
+  tail_fault : (there : List PartName) (x : PartRead) (g : Progress) {r : Refusal} → x ≡ Err r → tail_onward h s there x g ≡ g
   unfolding tail_onward
   tail_fault there x g e = rw e
 
   pub tail_unfit : (there : List PartName) (x : PartRead) (at : ℕ) → tail_onward h s there x (unfit at) ≡ unfit at
   unfolding tail_onward
-  tail_unfit there (part.Part p) at = refl
-  tail_unfit there (part.Cut p) at = refl
-  tail_unfit there part.Tail at = refl
-  tail_unfit there (part.Refused r) at = refl
+  tail_unfit there (Ok (part.Part p)) at = refl
+  tail_unfit there (Ok (part.Cut p)) at = refl
+  tail_unfit there (Ok part.Tail) at = refl
+  tail_unfit there (Err r) at = refl
 
   module _ (ps : List Part) (st : State) (v : List ℤ) where
     abbrev onward_tail : Progress
@@ -234,13 +230,13 @@ module _ (h : Header) (s : List ℕ) where
     tail_unused n = by (behind h s ps) refl
       where
         by : (x : PartRead) → behind h s ps ≡ x → tail_onward h s (map name_of ps) x (going st v) ≡ going st v
-        by (part.Part p) e = refl
-        by (part.Cut p) e =
+        by (Ok (part.Part p)) e = refl
+        by (Ok (part.Cut p)) e =
             let none : usable (top_level h) h.planes (map name_of ps ++ (name_of p ∷ [])) (name_of p) ≡ false
             = not_test _ (λ u. n p (record { stands = e; usable = usable_every _ _ _ _ u })) in
             rw none
-        by part.Tail e = refl
-        by (part.Refused r) e = refl
+        by (Ok part.Tail) e = refl
+        by (Err r) e = refl
 
     module _ (p : Part) (u : CutUsable h s ps p) where
       cut_test : usable (top_level h) h.planes (map name_of ps ++ (name_of p ∷ [])) (name_of p) ≡ true
@@ -262,7 +258,7 @@ module _ (s : List ℕ) (room work : ℕ) where
   abbrev begun : Header → Progress
   begun h = going (start h.size) (replicate (area h.size) (pos 0))
 
-  module _ (h : Header) (H : HeaderCase s (header.Header h)) (L : room ≡ area h.size) (K : work_for h.size ≤ work) where
+  module _ (h : Header) (H : HeaderCase s (Ok h)) (L : room ≡ area h.size) (K : work_for h.size ≤ work) where
     unfit_first : (ps : List Part) (at : ℕ) → decode_parts h s (map name_of ps) ps (begun h) ≡ unfit at → FirstUnfit h s ps at
     unfit_first ps at e =
         let f = first_stop h s (map name_of ps) ps _ _ at e in
@@ -285,10 +281,10 @@ module _ (s : List ℕ) (room work : ℕ) where
     unfolding pictured on_ending
     tail_case ps t st v w f = cases (behind h s ps) refl
       where
-        unused : ((p : Part) → behind h s ps ≡ part.Cut p → ⊥) → decodes (pictured h (map name_of ps) (tail t) (going st v))
+        unused : ((p : Part) → behind h s ps ≡ Ok (part.Cut p) → ⊥) → decodes (pictured h (map name_of ps) (tail t) (going st v))
         unused d = DECODED H L K w f (UNUSED (λ p u. d p u.stands))
 
-        cut : (p : Part) → behind h s ps ≡ part.Cut p → (a : Bool) → usable (top_level h) h.planes (map name_of ps ++ (name_of p ∷ [])) (name_of p) ≡ a
+        cut : (p : Part) → behind h s ps ≡ Ok (part.Cut p) → (a : Bool) → usable (top_level h) h.planes (map name_of ps ++ (name_of p ∷ [])) (name_of p) ≡ a
             → (b : Bool) → leb (bits_there s p) (cut_course h s p st v).side.taken ≡ b
             → decodes (pictured h (map name_of ps) (tail t)
             (cond a
@@ -304,13 +300,13 @@ module _ (s : List ℕ) (room work : ℕ) where
             true≢false (sym (every_usable _ _ _ _ could) ∙ u)))
 
         cases : (x : PartRead) → behind h s ps ≡ x → decodes (pictured h (map name_of ps) (tail t) (tail_onward h s (map name_of ps) x (going st v)))
-        cases (part.Part p) e = unfold tail_onward in unused (λ q i. clash (cc))
-        cases (part.Cut p) e =
+        cases (Ok (part.Part p)) e = unfold tail_onward in unused (λ q i. clash (cc))
+        cases (Ok (part.Cut p)) e =
             unfold tail_onward used_cut in
             cut p e (usable (top_level h) h.planes (map name_of ps ++ (name_of p ∷ [])) (name_of p)) refl
             (leb (bits_there s p) (cut_course h s p st v).side.taken) refl
-        cases part.Tail e = unfold tail_onward in unused (λ q i. clash (cc))
-        cases (part.Refused r) e = unfold tail_onward in unused (λ q i. clash (cc))
+        cases (Ok part.Tail) e = unfold tail_onward in unused (λ q i. clash (cc))
+        cases (Err r) e = unfold tail_onward in unused (λ q i. clash (cc))
 
     decoded_parts_case : (r : Reading) → Parts h s r.parts r.ending → decodes (decoded_parts h s r)
     unfolding decoded_parts pictured on_ending
@@ -331,14 +327,14 @@ module _ (s : List ℕ) (room work : ℕ) where
   unfolding decoding
   decoding_case =
       on_header_case decodes (read_header s) _ (λ why e. HEADER (header_of_lem s _ e)) (λ h e.
-      let H : HeaderCase s (header.Header h) = header_of_lem s _ e in
+      let H : HeaderCase s (Ok h) = header_of_lem s _ e in
       unless_case decodes (eqb room (area h.size)) refusal.Length _ (λ e. LENGTH H (eqb-false _ _ e)) (λ e.
       let L : room ≡ area h.size = eqb-true _ _ e in
       unless_case decodes (leb (work_for h.size) work) refusal.Work _ (λ e. WORK H L (leb-false _ _ e)) (λ e.
       decoded_parts_case h H L (leb-true _ _ e) (read_parts h s) (parts_case h s))))
 
   -- where the parts are read
-  decoding_parts : (h : Header) (ps : List Part) (e : Ending) → HeaderCase s (header.Header h) → room ≡ area h.size → work_for h.size ≤ work
+  decoding_parts : (h : Header) (ps : List Part) (e : Ending) → HeaderCase s (Ok h) → room ≡ area h.size → work_for h.size ≤ work
       → Parts h s ps e
       → decoding s room work
       ≡ pictured h (map name_of ps) e (tail_onward h s (map name_of ps) (behind h s ps) (decode_parts h s (map name_of ps) ps (begun h)))

@@ -5,15 +5,12 @@ use Rattle.std.proofs.Math.Bool.{true, false}
 use Rattle.std.proofs.Math.Dec.{leb}
 use borrow.Author.Tests.{le-leb, lt-leb}
 use Rattle.rules.specs.declared.Size.{Size}
-use Rattle.rules.specs.declared.Coded.{Coded}
-use Rattle.rules.specs.declared.Served.{Served}
-use Rattle.rules.specs.declared.Decoded.{Decoded}
 use Rattle.rules.specs.Document.Notation.{zeros}
 use Rattle.rules.specs.Document.Passes.{from}
 use Rattle.rules.specs.Document.Numbers.{verdict_number}
 use Rattle.rules.specs.Document.Calls.{coding, serving, decoding, filled, code_answer, serve_answer, decode_answer, Coding, Serving, Decoding}
 use Rattle.rules.specs.Document.Calls.{code_numbers, serve_numbers, decode_numbers, code_places, serve_places, decode_places, returned, reported}
-use Rattle.rules.specs.Document.Calls.{lent_out, AfsCode, AfsServe, AfsDecode}
+use Rattle.rules.specs.Document.Calls.{lent_out, AfsCode, AfsServe, AfsDecode, Decoded, Served, Coded}
 use Rattle.rules.proofs.Promises.Cases.{cases_hold}
 
 -- "A slice shorter than the answer gives 5 before any other check, with that slice and the output all 0." In one that is long

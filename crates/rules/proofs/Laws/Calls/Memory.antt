@@ -1,6 +1,6 @@
 -- For Promises/Memory, a law for each field. Each call is led back to `coding`, `serving` or `decoding`, an export by way of its routine; what arrived reads as
 -- the parts that are whole in it; and then demands 2 and 3 say the rest.
-use Rattle.std.specs.Prelude.{◌≡◌, Bool, true, false, cond, ◌&&◌, get_or, drop, replicate, ℤ}
+use Rattle.std.specs.Prelude.{◌≡◌, Bool, true, false, cond, ◌&&◌, get_or, drop, replicate, ℤ, Ok}
 use Rattle.std.proofs.Math.Path.{refl, ap, ap₂, sym, subst, subst₂}
 use Rattle.std.proofs.Common.{◌∙◌, ⊎_elim, ext_get_or}
 use mathlib.Core.List.{List, [], ◌∷◌, ◌++◌, map}
@@ -12,21 +12,16 @@ use Rattle.std.proofs.Math.Seq.{take_all, take-append_seam}
 use borrow.Author.Tests.{le-leb}
 use Rattle.rules.specs.declared.Size.{Size}
 use Rattle.rules.specs.declared.Plane.{Plane}
-use Rattle.rules.specs.declared.Verdict.TheVariants.{Accepted}
-use Rattle.rules.specs.declared.Coded.{Coded}
-use Rattle.rules.specs.declared.Served.{Served}
-use Rattle.rules.specs.declared.Decoded.{Decoded}
 use Rattle.rules.specs.declared.Header.{Header}
-use Rattle.rules.specs.declared.HeaderRead.TheVariants as header
 use Rattle.rules.specs.Document.Notation.{flat, zeros}
 use Rattle.rules.specs.Document.Pyramid.{area, levels, level_of, most_planes, legal_size}
 use Rattle.rules.specs.Document.Passes.{PartName, from}
 use Rattle.rules.specs.Document.Layout.{CodedPart, parts_with, record_with, planes_in, record_of, header_bytes, part_bytes, packed, body_of, name_of, reached}
-use Rattle.rules.specs.Document.Numbers.{verdict_number, verdict_place, read_header, read_parts, headed}
+use Rattle.rules.specs.Document.Numbers.{verdict_number, verdict_place, read_header, read_parts, headed, Accepted}
 use Rattle.rules.specs.Document.Calls.{work_for, unless, legal_ask, portioned, Result, refused, accepted, Portion, Picture, coding, serving, decoding}
 use Rattle.rules.specs.Document.Calls.{filled, code_out, code_answer, serve_out, serve_answer, decode_out, decode_answer, code_numbers, serve_numbers}
 use Rattle.rules.specs.Document.Calls.{decode_numbers, code_places, serve_places, decode_places, level_places, plane_in, count_in, Coding, Serving, Decoding}
-use Rattle.rules.specs.Document.Calls.{AfsCode, AfsServe, AfsDecode}
+use Rattle.rules.specs.Document.Calls.{AfsCode, AfsServe, AfsDecode, Decoded, Served, Coded}
 use Rattle.rules.proofs.Laws.Counting.Sums.{flat_append}
 use Rattle.rules.proofs.Laws.Family.Sizes.{legal}
 use Rattle.rules.proofs.Laws.Offspring.Level.{level_most, level_least}
@@ -89,8 +84,8 @@ module _ {z : Size} {planes : ℕ} {ps : List CodedPart} {cut : ℕ} {bytes : Li
       ap₂ (λ x y. take (front + n) (x ++ y)) head some
 
   module _ (ok : legal_size z ≡ true) (few : planes ≤ most_planes) where
-    head_is : (h : Header) → read_header bytes ≡ header.Header h → h ≡ header_of z planes
-    head_is h e = let same : header.Header h ≡ header.Header (header_of z planes) = sym e ∙ header_read r ok few in cc
+    head_is : (h : Header) → read_header bytes ≡ Ok h → h ≡ header_of z planes
+    head_is h e = let same : Ok h ≡ Ok (header_of z planes) = sym e ∙ header_read r ok few in cc
 
     module _ {s : List ℕ} (x : Selected bytes s) where
       selected_arrived : s ≡ arrived z planes (kept x.keep ps) x.more

@@ -1,23 +1,17 @@
 -- Demand 1, for Promises/One: number and place tell refusals apart, each routine gives its own numbers only, and so a call whose result has its
 -- case, and no other's, comes back with a number and a place exactly where that case holds.
-use Rattle.std.specs.Prelude.{◌≡◌, refl, List, [], ◌∷◌, ◌++◌, cond, ℕ, ◌-◌, eqb, length, replicate, ℤ, pos}
+use Rattle.std.specs.Prelude.{◌≡◌, refl, List, [], ◌∷◌, ◌++◌, cond, ℕ, ◌-◌, eqb, length, replicate, ℤ, pos, Err}
 use Rattle.std.proofs.Math.Path.{ap, ap₂, subst}
 use Rattle.std.proofs.Common.{sym, ◌∙◌, arith}
 use Rattle.rules.specs.declared.Size.{Size}
 use Rattle.rules.specs.declared.Refusal.{Refusal}
 use Rattle.rules.specs.declared.Refusal.TheVariants as refusal
-use Rattle.rules.specs.declared.Verdict.{Verdict}
-use Rattle.rules.specs.declared.Coded.{Coded}
-use Rattle.rules.specs.declared.Served.{Served}
-use Rattle.rules.specs.declared.Decoded.{Decoded}
 use Rattle.rules.specs.declared.Header.{Header}
-use Rattle.rules.specs.declared.HeaderRead.TheVariants as header
 use Rattle.rules.specs.declared.Part.{Part}
-use Rattle.rules.specs.declared.PartRead.TheVariants as part
 use Rattle.rules.specs.Document.Notation.{any, zeros}
 use Rattle.rules.specs.Document.Passes.{PartName}
-use Rattle.rules.specs.Document.Numbers.{refusal_number, refusal_place, verdict_number, verdict_place, fault}
-use Rattle.rules.specs.Document.Calls.{Result, refused, accepted, coding, Portion, serving, level_places, Picture, decoding, filled}
+use Rattle.rules.specs.Document.Numbers.{refusal_number, refusal_place, verdict_number, verdict_place, fault, Verdict}
+use Rattle.rules.specs.Document.Calls.{Result, refused, accepted, coding, Portion, serving, level_places, Picture, decoding, filled, Decoded, Served, Coded}
 use Rattle.rules.specs.Document.Calls.{code_out, code_answer, serve_out, serve_answer, decode_out, decode_answer, Coding, Serving, Decoding}
 use Rattle.rules.specs.Promises.Vocabulary.{among, coding_numbers, serving_numbers, decoding_numbers, Exactly}
 use Rattle.rules.specs.Promises.Refusals.{HeaderCase, HEAD, LONGFORM, VERSION, HEAD-later, LONGFORM-later, SIZE, PartCase, PART-malformed, PART, PAD}
@@ -89,7 +83,7 @@ module _ {X : Type 0} where
       })
 
 -- Each routine gives its own numbers only.
-pub header_gives : {s : List ℕ} {why : Refusal} (P : ℕ → Type 0) → P 1 → P 6 → P 7 → P 12 → HeaderCase s (header.Refused why) → P (refusal_number why)
+pub header_gives : {s : List ℕ} {why : Refusal} (P : ℕ → Type 0) → P 1 → P 6 → P 7 → P 12 → HeaderCase s (Err why) → P (refusal_number why)
 header_gives P one six seven twelve (HEAD u) = six
 header_gives P one six seven twelve (LONGFORM e) = twelve
 header_gives P one six seven twelve (VERSION ns n) = seven
@@ -98,7 +92,7 @@ header_gives P one six seven twelve (LONGFORM-later ns l e) = twelve
 header_gives P one six seven twelve (SIZE ns n) = one
 
 part_gives : {h : Header} {s : List ℕ} {before : PartName} {place : ℕ} {why : Refusal} (P : ℕ → Type 0) → P 8 → P 9 → P 12
-    → PartCase h s before place (part.Refused why) → P (refusal_number why)
+    → PartCase h s before place (Err why) → P (refusal_number why)
 part_gives P eight nine twelve (PART-malformed ns l e) = eight
 part_gives P eight nine twelve (LONGFORM ns l e) = twelve
 part_gives P eight nine twelve (PART r n) = eight

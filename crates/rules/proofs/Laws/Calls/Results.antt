@@ -1,16 +1,12 @@
 -- What comes of a test, a header and an ending, for whatever is claimed of a result; and a call that was accepted passed each of them.
 use Rattle.std.proofs.Math.Path.{◌≡◌, refl}
-use Rattle.std.specs.Prelude.{Bool, ℕ, ◌≤◌}
+use Rattle.std.specs.Prelude.{Bool, ℕ, ◌≤◌, Ok, Err}
 use Rattle.std.proofs.Math.Bool.{true, false}
 use Rattle.std.proofs.Common.{arith}
 use Rattle.rules.specs.declared.Refusal.{Refusal}
 use Rattle.rules.specs.declared.Refusal.TheVariants as refusal
-use Rattle.rules.specs.declared.Verdict.{Verdict}
-use Rattle.rules.specs.declared.Verdict.TheVariants.{Accepted, Refused}
 use Rattle.rules.specs.declared.Header.{Header}
-use Rattle.rules.specs.declared.HeaderRead.{HeaderRead}
-use Rattle.rules.specs.declared.HeaderRead.TheVariants as header
-use Rattle.rules.specs.Document.Numbers.{refusal_number, verdict_number, Ending, tail, fault}
+use Rattle.rules.specs.Document.Numbers.{refusal_number, verdict_number, Ending, tail, fault, Accepted, Refused, Verdict, HeaderRead}
 use Rattle.rules.specs.Document.Calls.{Result, refused, accepted, unless, on_header, on_ending}
 use Rattle.rules.proofs.Promises.Cases.{cases_hold}
 
@@ -20,11 +16,11 @@ module _ {X : Type 0} (P : Result X → Type 0) where
   unless_case true r x bad on = on refl
   unless_case false r x bad on = bad refl
 
-  pub on_header_case : (y : HeaderRead) (go : Header → Result X) → ((r : Refusal) → y ≡ header.Refused r → P (refused r))
-      → ((h : Header) → y ≡ header.Header h → P (go h)) → P (on_header y go)
+  pub on_header_case : (y : HeaderRead) (go : Header → Result X) → ((r : Refusal) → y ≡ Err r → P (refused r))
+      → ((h : Header) → y ≡ Ok h → P (go h)) → P (on_header y go)
   unfolding on_header
-  on_header_case (header.Header h) go bad on = on h refl
-  on_header_case (header.Refused r) go bad on = bad r refl
+  on_header_case (Ok h) go bad on = on h refl
+  on_header_case (Err r) go bad on = bad r refl
 
   pub on_ending_case : (y : Ending) (go : ℕ → Result X) → ((r : Refusal) → y ≡ fault r → P (refused r)) → ((t : ℕ) → y ≡ tail t → P (go t))
       → P (on_ending y go)
@@ -42,10 +38,10 @@ module _ {X : Type 0} where
   unless_accepted false r y x e = absurd (let z : ◌≡◌ {A = ℕ} 0 1 = cc in omega arith)
 
   pub on_header_accepted : (y : HeaderRead) (go : Header → Result X) (x : X) → on_header y go ≡ accepted x
-      → (h : Header) × (y ≡ header.Header h) × (go h ≡ accepted x)
+      → (h : Header) × (y ≡ Ok h) × (go h ≡ accepted x)
   unfolding on_header
-  on_header_accepted (header.Header h) go x e = (h, refl, e)
-  on_header_accepted (header.Refused r) go x e = absurd (let z : ◌≡◌ {A = ℕ} 0 1 = cc in omega arith)
+  on_header_accepted (Ok h) go x e = (h, refl, e)
+  on_header_accepted (Err r) go x e = absurd (let z : ◌≡◌ {A = ℕ} 0 1 = cc in omega arith)
 
   pub on_ending_accepted : (y : Ending) (go : ℕ → Result X) (x : X) → on_ending y go ≡ accepted x → (t : ℕ) × (y ≡ tail t) × (go t ≡ accepted x)
   unfolding on_ending

@@ -1,10 +1,10 @@
 -- A part that was read with its body incomplete: where it stands, how many of its bits are there, and when it is usable.
-use Rattle.std.specs.Prelude.{◌≡◌, ℕ, ◌-◌, ◌*◌, ◌<◌, min, length, drop}
+use Rattle.std.specs.Prelude.{◌≡◌, ℕ, ◌-◌, ◌*◌, ◌<◌, min, length, drop, Ok}
 use Rattle.std.proofs.Common.{subst, arith, length-take, length-drop}
 use mathlib.Core.List.{List, [], ◌∷◌, ◌++◌, map}
 use Rattle.rules.specs.declared.Header.{Header}
 use Rattle.rules.specs.declared.Part.{Part}
-use Rattle.rules.specs.declared.PartRead.TheVariants as part
+use Rattle.rules.specs.declared.Piece.TheVariants as part
 use Rattle.rules.specs.Document.Passes.{PartName}
 use Rattle.rules.specs.Document.Layout.{bytes_for, body_of, bits_there, name_of, usable, reached}
 use Rattle.rules.specs.Document.Numbers.{read_part, behind_from, top_level}
@@ -19,11 +19,11 @@ use Rattle.rules.proofs.Laws.Reading.OneWalk.{one_walk}
 use Rattle.rules.specs.Laws.Reading.WholeParts.{WholeParts}
 use Rattle.rules.specs.Laws.Reading.CutPart.{CutStands}
 
-pub read_part_cut : (h : Header) (s : List ℕ) (before : PartName) (place : ℕ) (p : Part) → read_part h s before place ≡ part.Cut p
+pub read_part_cut : (h : Header) (s : List ℕ) (before : PartName) (place : ℕ) (p : Part) → read_part h s before place ≡ Ok (part.Cut p)
     → CutStands h s before place p
 read_part_cut h s before place p e = cases (subst (PartCase h s before place) e (part_case h s before place))
   where
-    cases : {p : Part} → PartCase h s before place (part.Cut p) → CutStands h s before place p
+    cases : {p : Part} → PartCase h s before place (Ok (part.Cut p)) → CutStands h s before place p
     cases {p} (CUT r l w) = numbers r.numbers
       where
         numbers : Numbers s place (p.plane.0 ∷ p.level.0 ∷ p.bits ∷ []) p.body → CutStands h s before place p
@@ -56,7 +56,8 @@ cut_there {s = s} {p = p} t = (
 
 -- What came by before it decides whether it is usable.
 module _ (h : Header) (s : List ℕ) where
-  cut_in_order : (before : PartName) (place : ℕ) (ps : List Part) (p : Part) → WholeParts h s before place ps → behind_from h s before place ps ≡ part.Cut p
+  cut_in_order : (before : PartName) (place : ℕ) (ps : List Part) (p : Part) → WholeParts h s before place ps
+      → behind_from h s before place ps ≡ Ok (part.Cut p)
       → InOrder before (map name_of ps ++ (name_of p ∷ [])) × Named (top_level h) h.planes (name_of p)
   unfolding WholeParts behind_from InOrder
   cut_in_order before place [] p w e =
@@ -67,7 +68,7 @@ module _ (h : Header) (s : List ℕ) where
       (((read_part_stands h s before place q w.0).legal.in_order, r.0), r.1)
 
   pub usable_cut : (before : PartName) (place : ℕ) (ps : List Part) (p : Part) → WholeParts h s before place ps
-      → behind_from h s before place ps ≡ part.Cut p
+      → behind_from h s before place ps ≡ Ok (part.Cut p)
       → usable (top_level h) h.planes (map name_of ps ++ (name_of p ∷ [])) (name_of p)
       ≡ usable_now (λ k. reached (top_level h) h.planes (map name_of ps) k) (name_of p)
   usable_cut before place ps p w e =

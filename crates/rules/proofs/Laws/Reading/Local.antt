@@ -1,14 +1,12 @@
 -- Reading looks at the bytes of what it reads and no others: a number or a part that stands elsewhere, in other bytes, reads the same.
-use Rattle.std.specs.Prelude.{◌≡◌, refl, List, [], ◌∷◌, ◌++◌, true, ℕ, zero, suc, ◌+◌, ◌-◌, ◌≤◌, ◌<◌, length, get_or, drop}
+use Rattle.std.specs.Prelude.{◌≡◌, refl, List, [], ◌∷◌, ◌++◌, true, ℕ, zero, suc, ◌+◌, ◌-◌, ◌≤◌, ◌<◌, length, get_or, drop, Ok}
 use Rattle.std.proofs.Math.Path.{ap}
 use Rattle.std.proofs.Common.{ap₂, sym, ◌∙◌, subst, length-append, length-drop, ext_get_or, get_or-take, get_or-drop, length-take-le}
 use native.Mathlib.Omega.{arith}
 use Rattle.std.proofs.Math.ListN.{take, get_or-append}
-use Rattle.rules.specs.declared.Number.TheVariants.{Value}
 use Rattle.rules.specs.declared.Header.{Header}
-use Rattle.rules.specs.declared.HeaderRead.TheVariants as header
 use Rattle.rules.specs.declared.Part.{Part}
-use Rattle.rules.specs.declared.PartRead.TheVariants as part
+use Rattle.rules.specs.declared.Piece.TheVariants as part
 use Rattle.rules.specs.Document.Layout.{bit_at, read_number, bytes_for, body_of, name_of}
 use Rattle.rules.specs.Document.Passes.{PartName}
 use Rattle.rules.specs.Document.Numbers.{read_header, legal_head, read_part}
@@ -58,17 +56,17 @@ unfolding groups_worth
 groups_local s a t b n zero m l = refl
 groups_local s a t b n (suc i) m l = rw (groups_local s a t b n i m (omega arith), m.bytes i (omega arith))
 
-read_number_local : (s : List ℕ) (a : ℕ) (t : List ℕ) (b v end : ℕ) → read_number s a ≡ Value v end → Same s a t b (end - a)
-    → read_number t b ≡ Value v (b + (end - a))
+read_number_local : (s : List ℕ) (a : ℕ) (t : List ℕ) (b v end : ℕ) → read_number s a ≡ Ok (v, end) → Same s a t b (end - a)
+    → read_number t b ≡ Ok (v, b + (end - a))
 read_number_local s a t b v end e m = cases (subst (NumberCase s a) e (number_case s a)) m
   where
-    cases : {v end : ℕ} → NumberCase s a (Value v end) → Same s a t b (end - a) → read_number t b ≡ Value v (b + (end - a))
+    cases : {v end : ℕ} → NumberCase s a (Ok (v, end)) → Same s a t b (end - a) → read_number t b ≡ Ok (v, b + (end - a))
     cases (VALUE i l g w k n) m =
         let last : get_or t (b + i) 0 ≡ get_or s (a + i) 0 = m.bytes i (omega arith) in
         let q : b + i + 1 ≡ b + (a + i + 1 - a) = omega arith in
         number_is t b _
         (VALUE i l (λ j o. rw (m.bytes j (omega arith)) (g j o)) (omega (arith, m.there)) (omega (arith, last)) (λ o z. n o (sym last ∙ z)))
-        ∙ ap₂ Value (rw (last, groups_local s a t b (a + i + 1 - a) i m (omega arith))) q
+        ∙ ap₂ (λ v end. Ok (v, end)) (rw (last, groups_local s a t b (a + i + 1 - a) i m (omega arith))) q
 
 -- Several numbers.
 numbers_forward : (s : List ℕ) {vs : List ℕ} {a e : ℕ} → Numbers s a vs e → a ≤ e
@@ -106,15 +104,15 @@ module _ (s : List ℕ) (t : List ℕ) (b : ℕ) (p : Part) (m : Same s p.place 
       same_stretch s (p.place + (p.body - p.place)) t (b + (p.body - p.place)) (bytes_for p.bits) u (omega arith)
       ∙ ap (λ (n : ℕ). take (bytes_for p.bits) (drop n s)) e
 
-pub read_part_local : (h : Header) (s : List ℕ) (before : PartName) (place : ℕ) (p : Part) → read_part h s before place ≡ part.Part p → (t : List ℕ)
+pub read_part_local : (h : Header) (s : List ℕ) (before : PartName) (place : ℕ) (p : Part) → read_part h s before place ≡ Ok (part.Part p) → (t : List ℕ)
     (b : ℕ) (earlier : PartName) → Same s place t b (p.end - place) → legal_head h earlier (name_of p) p.bits ≡ true
-    → read_part h t earlier b ≡ part.Part (moved_to b p)
+    → read_part h t earlier b ≡ Ok (part.Part (moved_to b p))
 unfolding name_of moved_to
 read_part_local h s before place p e t b earlier m l =
     part_is h t earlier b _ (cases (subst (PartCase h s before place) e (part_case h s before place)) m l)
   where
-    cases : {p : Part} → PartCase h s before place (part.Part p) → Same s place t b (p.end - place) → legal_head h earlier (name_of p) p.bits ≡ true
-        → PartCase h t earlier b (part.Part (moved_to b p))
+    cases : {p : Part} → PartCase h s before place (Ok (part.Part p)) → Same s place t b (p.end - place) → legal_head h earlier (name_of p) p.bits ≡ true
+        → PartCase h t earlier b (Ok (part.Part (moved_to b p)))
     cases {p} (WHOLE r o w n) m l =
         let here : place ≡ p.place = sym r.placed in
         let ns : Numbers s p.place (p.plane.0 ∷ p.level.0 ∷ p.bits ∷ []) p.body = rw here at r.numbers in
@@ -132,10 +130,10 @@ read_part_local h s before place p e t b earlier m l =
         (λ q. n (record { which = q.which; behind = q.behind; inside = q.inside; is_set = ap (λ x. bit_at x q.which) (sym same) ∙ q.is_set }))
 
 -- A header at the front of other bytes.
-pub read_header_local : (s : List ℕ) (h : Header) → read_header s ≡ header.Header h → (t : List ℕ) → Same s 0 t 0 h.end → read_header t ≡ header.Header h
+pub read_header_local : (s : List ℕ) (h : Header) → read_header s ≡ Ok h → (t : List ℕ) → Same s 0 t 0 h.end → read_header t ≡ Ok h
 read_header_local s h e t m = header_is t _ (cases (subst (HeaderCase s) e (header_case s)) m)
   where
-    cases : {h : Header} → HeaderCase s (header.Header h) → Same s 0 t 0 h.end → HeaderCase t (header.Header h)
+    cases : {h : Header} → HeaderCase s (Ok h) → Same s 0 t 0 h.end → HeaderCase t (Ok h)
     cases {h} (LEGAL ns l) m =
         let q : h.end - 0 ≡ h.end = omega arith in
         let o : 0 + (h.end - 0) ≡ h.end = omega arith in

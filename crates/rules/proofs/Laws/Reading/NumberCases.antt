@@ -1,5 +1,5 @@
 -- Reading a number has the outcome that its case says, and no other.
-use Rattle.std.specs.Prelude.{◌≡◌, List, Bool, true, false, cond, ◌&&◌, ◌≢◌, leb, ltb, eqb, length}
+use Rattle.std.specs.Prelude.{◌≡◌, List, Bool, true, false, cond, ◌&&◌, ◌≢◌, leb, ltb, eqb, length, Ok, Err}
 use Rattle.std.proofs.Math.Path.{refl, ap₂, subst}
 use Rattle.std.proofs.Common.{sym, ◌∙◌, pow-suc}
 use Prim.Native.Nat.{ℕ, zero, suc, ◌+◌, ◌-◌, ◌*◌, ◌^◌, ◌≤◌, ◌<◌}
@@ -8,9 +8,8 @@ use Rattle.std.proofs.Math.Nat.{pow-le-pow_right}
 use Rattle.std.proofs.Math.Decide.{dec_lt}
 use Rattle.std.proofs.Math.ListN.{get_or, get_or-eq_default}
 use borrow.Author.Tests.{leb-true, leb-false, le-leb, lt-ltb, eqb-true, eqb-false}
-use Rattle.rules.specs.declared.Number.{Number}
-use Rattle.rules.specs.declared.Number.TheVariants.{Value, LongForm, CutOff}
-use Rattle.rules.specs.Document.Layout.{number_from, read_number}
+use Rattle.rules.specs.declared.NoNumber.TheVariants.{LongForm, CutOff}
+use Rattle.rules.specs.Document.Layout.{number_from, read_number, Number}
 use Rattle.rules.specs.Laws.Bytes.Numbers.{too_large}
 use Rattle.rules.proofs.Laws.Bytes.Numbers.{number_from_cut, number_from_last, number_from_next, shortest_form, group_below}
 use Rattle.rules.specs.Promises.Refusals.{GoesOn, groups_worth, NumberCase, CUT-OFF, FOURTH-goes-on, LAST-is-0, VALUE}
@@ -49,7 +48,7 @@ module _ (s : List ℕ) (at : ℕ) where
       b = get_or s (at + i) 0
 
       last : (c : Bool) → eqb b 0 ≡ c → at + i < length s → b < 128 → (d : Bool) → leb 1 i ≡ d
-          → NumberCase s at (cond (d && c) LongForm (Value (groups_worth s at i + b * 128 ^ i) (at + i + 1)))
+          → NumberCase s at (cond (d && c) (Err LongForm) (Ok (groups_worth s at i + b * 128 ^ i, at + i + 1)))
       last true z l k true o = LAST-is-0 i (leb-true 1 i o) (omega arith) g l (eqb-true b 0 z)
       last true z l k false o = VALUE i (omega arith) g l k (λ q. absurd (omega (arith, leb-false 1 i o)))
       last false z l k true o = VALUE i (omega arith) g l k (λ q. eqb-false b 0 z)
@@ -57,8 +56,8 @@ module _ (s : List ℕ) (at : ℕ) where
 
       cases : (x : Bool) → leb (length s) (at + i) ≡ x → (y : Bool) → leb 128 b ≡ y → (c : Bool) → eqb b 0 ≡ c
           → (GoesOn s at (suc i) → NumberCase s at (behind (suc i) more))
-          → NumberCase s at (cond x CutOff (cond y (number_from more s (at + i + 1) (128 ^ i * 128) (groups_worth s at i + (b - 128) * 128 ^ i))
-          (cond (ltb 1 (128 ^ i) && c) LongForm (Value (groups_worth s at i + b * 128 ^ i) (at + i + 1)))))
+          → NumberCase s at (cond x (Err CutOff) (cond y (number_from more s (at + i + 1) (128 ^ i * 128) (groups_worth s at i + (b - 128) * 128 ^ i))
+          (cond (ltb 1 (128 ^ i) && c) (Err LongForm) (Ok (groups_worth s at i + b * 128 ^ i, at + i + 1)))))
       cases true l y k c z r = CUT-OFF i (omega arith) g (leb-true _ _ l)
       cases false l true k c z r = rw (behind_next i more) (r (one_more i g (leb-true _ _ k)))
       cases false l false k c z r = rw (several i) (last c z (leb-false _ _ l) (leb-false _ _ k) (leb 1 i) refl)
@@ -111,10 +110,10 @@ module _ (s : List ℕ) (at : ℕ) where
       rw (pow-suc 128 i)
       (group_below (groups_worth s at i) (128 ^ i) (get_or s (at + i) 0 - 128) (groups_under bytes i) (omega (arith, bytes (at + i))))
 
-  pub number_under : ((j : ℕ) → get_or s j 0 < 256) → (v end : ℕ) → read_number s at ≡ Value v end → v < too_large
+  pub number_under : ((j : ℕ) → get_or s j 0 < 256) → (v end : ℕ) → read_number s at ≡ Ok (v, end) → v < too_large
   number_under bytes v end e = cases (subst (NumberCase s at) e number_case)
     where
-      cases : {v end : ℕ} → NumberCase s at (Value v end) → v < too_large
+      cases : {v end : ℕ} → NumberCase s at (Ok (v, end)) → v < too_large
       cases (VALUE i l g t k n) =
           omega (
             arith,

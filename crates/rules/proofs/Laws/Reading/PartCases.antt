@@ -1,5 +1,5 @@
 -- Reading a header and a part has the outcome that its case says, and no other.
-use Rattle.std.specs.Prelude.{◌≡◌, Bool, cond, not, ◌&&◌, eqb}
+use Rattle.std.specs.Prelude.{◌≡◌, Bool, cond, not, ◌&&◌, eqb, Ok, Err}
 use Rattle.std.proofs.Math.Path.{refl, sym}
 use Rattle.std.proofs.Common.{ap, ◌∙◌, subst, arith}
 use mathlib.Core.List.{List, [], ◌∷◌}
@@ -10,17 +10,14 @@ use Rattle.std.proofs.Math.ListN.{length}
 use borrow.Author.Tests.{leb-true, leb-false, le-leb, lt-leb, eqb-true, eqb-false, ne_eqb}
 use Rattle.rules.specs.declared.Size.{Size}
 use Rattle.rules.specs.declared.Refusal.TheVariants as refusal
-use Rattle.rules.specs.declared.Number.{Number}
-use Rattle.rules.specs.declared.Number.TheVariants.{Value, TooManyBytes, LongForm, CutOff}
+use Rattle.rules.specs.declared.NoNumber.TheVariants.{TooManyBytes, LongForm, CutOff}
 use Rattle.rules.specs.declared.Header.{Header}
-use Rattle.rules.specs.declared.HeaderRead.{HeaderRead}
-use Rattle.rules.specs.declared.HeaderRead.TheVariants as header
 use Rattle.rules.specs.declared.Part.{Part}
-use Rattle.rules.specs.declared.PartRead.{PartRead}
-use Rattle.rules.specs.declared.PartRead.TheVariants as part
+use Rattle.rules.specs.Document.Numbers.{PartRead, HeaderRead}
+use Rattle.rules.specs.declared.Piece.TheVariants as part
 use Rattle.rules.specs.Document.Pyramid.{legal_size, most_planes}
 use Rattle.rules.specs.Document.Passes.{PartName}
-use Rattle.rules.specs.Document.Layout.{read_number, version, bit_at, clear_from, pad_clear, body_of, name_of}
+use Rattle.rules.specs.Document.Layout.{read_number, version, bit_at, clear_from, pad_clear, body_of, name_of, Number}
 use Rattle.rules.specs.Document.Numbers.{head_number, judged_header, read_sizes, read_header, part_number, legal_head, judged_part, headed, read_part}
 use Rattle.rules.proofs.Laws.Counting.Booleans.{both, both_left, both_right, not_test}
 use Rattle.rules.proofs.Laws.Family.Sizes.{legal, size_legal}
@@ -47,27 +44,27 @@ pub legal_judged : (z : Size) (planes : ℕ) → LegalHeader z planes → legal_
 legal_judged z planes l = both _ _ (size_legal z l.size) (le-leb planes most_planes l.few)
 
 head_number_case : (P : HeaderRead → Type 0) (s : List ℕ) (at : ℕ) (go : ℕ → ℕ → HeaderRead)
-    → (Unread (read_number s at) → P (header.Refused (refusal.Head at))) → (read_number s at ≡ LongForm → P (header.Refused (refusal.LongForm at)))
-    → ((v end : ℕ) → read_number s at ≡ Value v end → P (go v end)) → P (head_number at (read_number s at) go)
+    → (Unread (read_number s at) → P (Err (refusal.Head at))) → (read_number s at ≡ Err LongForm → P (Err (refusal.LongForm at)))
+    → ((v end : ℕ) → read_number s at ≡ Ok (v, end) → P (go v end)) → P (head_number at (read_number s at) go)
 unfolding head_number
 head_number_case P s at go bad long on = cases (read_number s at) refl
   where
     cases : (x : Number) → read_number s at ≡ x → P (head_number at x go)
-    cases (Value v end) e = on v end e
-    cases TooManyBytes e = bad (subst Unread (sym e) fourth_goes_on)
-    cases LongForm e = long e
-    cases CutOff e = bad (subst Unread (sym e) ends_early)
+    cases (Ok (v, end)) e = on v end e
+    cases (Err TooManyBytes) e = bad (subst Unread (sym e) fourth_goes_on)
+    cases (Err LongForm) e = long e
+    cases (Err CutOff) e = bad (subst Unread (sym e) ends_early)
 
 -- What a number that is no value makes of a header, whatever would come behind it.
 abbrev Stops : ℕ → Number → HeaderRead → Type 0
 Stops at x y = (go : ℕ → ℕ → HeaderRead) → head_number at x go ≡ y
 
-unread_stops : (at : ℕ) {x : Number} → Unread x → Stops at x (header.Refused (refusal.Head at))
+unread_stops : (at : ℕ) {x : Number} → Unread x → Stops at x (Err (refusal.Head at))
 unfolding head_number
 unread_stops at ends_early go = refl
 unread_stops at fourth_goes_on go = refl
 
-long_stops : (at : ℕ) {x : Number} → x ≡ LongForm → Stops at x (header.Refused (refusal.LongForm at))
+long_stops : (at : ℕ) {x : Number} → x ≡ Err LongForm → Stops at x (Err (refusal.LongForm at))
 unfolding head_number
 long_stops at e go = rw e
 
@@ -77,11 +74,11 @@ unfolding judged_header
 judged_case s z planes end ns = cases (legal_size z && leb planes most_planes) refl
   where
     cases : (b : Bool) → legal_size z && leb planes most_planes ≡ b
-        → HeaderCase s (cond b (header.Header (record { size = z; planes = planes; end = end })) (header.Refused refusal.Size))
+        → HeaderCase s (cond b (Ok (record { size = z; planes = planes; end = end })) (Err refusal.Size))
     cases true e = LEGAL ns (judged_legal z planes e)
     cases false e = SIZE ns (failed _ (legal_judged z planes) e)
 
-sizes_case : (s : List ℕ) (a : ℕ) → read_number s 0 ≡ Value version a → HeaderCase s (read_sizes s a)
+sizes_case : (s : List ℕ) (a : ℕ) → read_number s 0 ≡ Ok (version, a) → HeaderCase s (read_sizes s a)
 unfolding read_sizes
 sizes_case s a r0 =
     number (next r0 none) (omega arith) (λ w b r1.
@@ -91,16 +88,16 @@ sizes_case s a r0 =
     judged_case s (record { w = w; h = g; n = n }) planes end (next r0 (next r1 (next r2 (next r3 (next r4 none)))))))))
   where
     number : {vs : List ℕ} {at : ℕ} → Numbers s 0 (version ∷ vs) at → length vs < 4 → {go : ℕ → ℕ → HeaderRead}
-        → ((v end : ℕ) → read_number s at ≡ Value v end → HeaderCase s (go v end)) → HeaderCase s (head_number at (read_number s at) go)
+        → ((v end : ℕ) → read_number s at ≡ Ok (v, end) → HeaderCase s (go v end)) → HeaderCase s (head_number at (read_number s at) go)
     number {at = at} ns l {go} on = head_number_case (HeaderCase s) s at go (HEAD-later ns l) (LONGFORM-later ns l) on
 
 pub header_case : (s : List ℕ) → HeaderCase s (read_header s)
 unfolding read_header
 header_case s = head_number_case (HeaderCase s) s 0 _ HEAD LONGFORM (λ v a r. cases v a r (eqb v version) refl)
   where
-    cases : (v a : ℕ) → read_number s 0 ≡ Value v a → (b : Bool) → eqb v version ≡ b
-        → HeaderCase s (cond b (read_sizes s a) (header.Refused refusal.Version))
-    cases v a r true e = sizes_case s a (r ∙ ap (λ x. Value x a) (eqb-true v version e))
+    cases : (v a : ℕ) → read_number s 0 ≡ Ok (v, a) → (b : Bool) → eqb v version ≡ b
+        → HeaderCase s (cond b (read_sizes s a) (Err refusal.Version))
+    cases v a r true e = sizes_case s a (r ∙ ap (λ x. Ok (x, a)) (eqb-true v version e))
     cases v a r false e = VERSION (next r none) (eqb-false v version e)
 
 sizes_stop : (s : List ℕ) (a : ℕ) (vs : List ℕ) (at : ℕ) (y : HeaderRead) → Numbers s a vs at → length vs < 4 → Stops at (read_number s at) y
@@ -148,17 +145,17 @@ module _ (s : List ℕ) (p : Part) where
   pad_none e q = true≢false (sym q.is_set ∙ pad_clear_lem (body_of s p) p.bits _ q.which e q.behind (omega (arith, q.inside)))
 
 part_number_case : (P : PartRead → Type 0) (place : ℕ) (s : List ℕ) (at : ℕ) (go : ℕ → ℕ → PartRead)
-    → (read_number s at ≡ TooManyBytes → P (part.Refused (refusal.Part place)))
-    → (read_number s at ≡ LongForm → P (part.Refused (refusal.LongForm place))) → (read_number s at ≡ CutOff → P part.Tail)
-    → ((v end : ℕ) → read_number s at ≡ Value v end → P (go v end)) → P (part_number place (read_number s at) go)
+    → (read_number s at ≡ Err TooManyBytes → P (Err (refusal.Part place)))
+    → (read_number s at ≡ Err LongForm → P (Err (refusal.LongForm place))) → (read_number s at ≡ Err CutOff → P (Ok part.Tail))
+    → ((v end : ℕ) → read_number s at ≡ Ok (v, end) → P (go v end)) → P (part_number place (read_number s at) go)
 unfolding part_number
 part_number_case P place s at go many long cut on = cases (read_number s at) refl
   where
     cases : (x : Number) → read_number s at ≡ x → P (part_number place x go)
-    cases (Value v end) e = on v end e
-    cases TooManyBytes e = many e
-    cases LongForm e = long e
-    cases CutOff e = cut e
+    cases (Ok (v, end)) e = on v end e
+    cases (Err TooManyBytes) e = many e
+    cases (Err LongForm) e = long e
+    cases (Err CutOff) e = cut e
 
 module _ (h : Header) (s : List ℕ) (before : PartName) (place : ℕ) where
   abbrev reads : PartRead → Type 0
@@ -171,7 +168,7 @@ module _ (h : Header) (s : List ℕ) (before : PartName) (place : ℕ) where
     where
       cases : (a : Bool) → legal_head h before (name_of p) p.bits ≡ a → (b : Bool) → leb p.end (length s) ≡ b → (c : Bool)
           → pad_clear (body_of s p) p.bits ≡ c
-          → reads (cond a (cond b (cond c (part.Part p) (part.Refused (refusal.Pad p.place))) (part.Cut p)) (part.Refused (refusal.Part p.place)))
+          → reads (cond a (cond b (cond c (Ok (part.Part p)) (Err (refusal.Pad p.place))) (Ok (part.Cut p))) (Err (refusal.Part p.place)))
       cases true l true w true c = WHOLE r (legal_head_lem h before (name_of p) p.bits l) (leb-true _ _ w) (pad_none s p c)
       cases true l true w false c =
           rw r.placed (PAD r (legal_head_lem h before (name_of p) p.bits l) (leb-true _ _ w) (pad_set_lem s p c))
@@ -187,7 +184,7 @@ module _ (h : Header) (s : List ℕ) (before : PartName) (place : ℕ) where
       judged_part_case (headed place n k bits body) (record { numbers = next r0 (next r1 (next r2 none)); placed = refl; ends = refl }))))
     where
       number : {vs : List ℕ} {at : ℕ} → Numbers s place vs at → length vs < 3 → {go : ℕ → ℕ → PartRead}
-          → ((v end : ℕ) → read_number s at ≡ Value v end → reads (go v end)) → reads (part_number place (read_number s at) go)
+          → ((v end : ℕ) → read_number s at ≡ Ok (v, end) → reads (go v end)) → reads (part_number place (read_number s at) go)
       number {at = at} ns l {go} on = part_number_case reads place s at go (PART-malformed ns l) (LONGFORM ns l) (TAIL-head ns l) on
 
   part_stops : (x : PartRead) (vs : List ℕ) (at : ℕ) → Numbers s place vs at → length vs < 3

@@ -1,11 +1,9 @@
 -- What is known of a number, a header and a part that were read: their values are legal, and they stand whole within the bytes.
-use Rattle.std.specs.Prelude.{◌≡◌, List, [], ◌∷◌, true, ℕ, ◌-◌, ◌≤◌, ◌<◌, length}
+use Rattle.std.specs.Prelude.{◌≡◌, List, [], ◌∷◌, true, ℕ, ◌-◌, ◌≤◌, ◌<◌, length, Ok}
 use Rattle.std.proofs.Common.{subst, arith, leb-true}
-use Rattle.rules.specs.declared.Number.TheVariants.{Value}
 use Rattle.rules.specs.declared.Header.{Header}
-use Rattle.rules.specs.declared.HeaderRead.TheVariants as header
 use Rattle.rules.specs.declared.Part.{Part}
-use Rattle.rules.specs.declared.PartRead.TheVariants as part
+use Rattle.rules.specs.declared.Piece.TheVariants as part
 use Rattle.rules.specs.Document.Pyramid.{legal_size, most_planes}
 use Rattle.rules.specs.Document.Passes.{PartName}
 use Rattle.rules.specs.Document.Layout.{read_number}
@@ -16,16 +14,16 @@ use Rattle.rules.proofs.Laws.Reading.NumberCases.{number_case}
 use Rattle.rules.proofs.Laws.Reading.PartCases.{passed, legal_judged, header_case, pad_set_lem, part_case}
 use Rattle.rules.specs.Laws.Reading.Stands.{NumberStands, HeaderStands, PartStands}
 
-pub read_number_stands : (s : List ℕ) (at v end : ℕ) → read_number s at ≡ Value v end → NumberStands s at v end
+pub read_number_stands : (s : List ℕ) (at v end : ℕ) → read_number s at ≡ Ok (v, end) → NumberStands s at v end
 read_number_stands s at v end e = cases (subst (NumberCase s at) e (number_case s at))
   where
-    cases : {v end : ℕ} → NumberCase s at (Value v end) → NumberStands s at v end
+    cases : {v end : ℕ} → NumberCase s at (Ok (v, end)) → NumberStands s at v end
     cases (VALUE i l g t k n) = record { after = omega arith; within = omega arith }
 
-pub read_header_stands : (s : List ℕ) (h : Header) → read_header s ≡ header.Header h → HeaderStands s h
+pub read_header_stands : (s : List ℕ) (h : Header) → read_header s ≡ Ok h → HeaderStands s h
 read_header_stands s h e = cases (subst (HeaderCase s) e (header_case s))
   where
-    cases : {h : Header} → HeaderCase s (header.Header h) → HeaderStands s h
+    cases : {h : Header} → HeaderCase s (Ok h) → HeaderStands s h
     cases {h} (LEGAL (next {b = a} r0 (next {b = b} r1 (next {b = c} r2 (next {b = d} r3 (next r4 none))))) l) =
         record {
           width_at = a;
@@ -50,11 +48,11 @@ header_planes {h = h} t = leb-true h.planes most_planes (both_right (legal_size 
 pub header_within : {s : List ℕ} {h : Header} → HeaderStands s h → h.end ≤ length s
 header_within {s} {h} t = (read_number_stands s t.planes_at h.planes h.end t.planes_read).within
 
-pub read_part_stands : (h : Header) (s : List ℕ) (before : PartName) (place : ℕ) (p : Part) → read_part h s before place ≡ part.Part p
+pub read_part_stands : (h : Header) (s : List ℕ) (before : PartName) (place : ℕ) (p : Part) → read_part h s before place ≡ Ok (part.Part p)
     → PartStands h s before place p
 read_part_stands h s before place p e = cases (subst (PartCase h s before place) e (part_case h s before place))
   where
-    cases : {p : Part} → PartCase h s before place (part.Part p) → PartStands h s before place p
+    cases : {p : Part} → PartCase h s before place (Ok (part.Part p)) → PartStands h s before place p
     cases {p} (WHOLE r l w n) = numbers r.numbers
       where
         numbers : Numbers s place (p.plane.0 ∷ p.level.0 ∷ p.bits ∷ []) p.body → PartStands h s before place p

@@ -1,18 +1,17 @@
 -- Walking over the parts of a record, without a bound on their number: what is left to read from a place on, part by part.
-use Rattle.std.specs.Prelude.{◌≡◌, List, [], ◌∷◌}
+use Rattle.std.specs.Prelude.{◌≡◌, List, [], ◌∷◌, Ok, Err}
 use Rattle.std.proofs.Math.Path.{refl}
 use Rattle.std.proofs.Common.{ap, ◌∙◌, subst, arith}
 use Prim.Native.Nat.{ℕ, zero, suc, ◌+◌, ◌-◌, ◌≤◌, ◌<◌}
 use Rattle.std.proofs.Math.ListN.{length}
 use Rattle.rules.specs.declared.Refusal.{Refusal}
-use Rattle.rules.specs.declared.Number.TheVariants.{CutOff}
+use Rattle.rules.specs.declared.NoNumber.TheVariants.{CutOff}
 use Rattle.rules.specs.declared.Header.{Header}
 use Rattle.rules.specs.declared.Part.{Part}
-use Rattle.rules.specs.declared.PartRead.{PartRead}
-use Rattle.rules.specs.declared.PartRead.TheVariants as part
+use Rattle.rules.specs.declared.Piece.TheVariants as part
 use Rattle.rules.specs.Document.Passes.{PartName}
 use Rattle.rules.specs.Document.Layout.{read_number, name_of}
-use Rattle.rules.specs.Document.Numbers.{part_number, read_part, Ending, tail, fault, Reading, go_on, read_from, read_parts}
+use Rattle.rules.specs.Document.Numbers.{part_number, read_part, Ending, tail, fault, Reading, go_on, read_from, read_parts, PartRead}
 use Rattle.rules.proofs.Laws.Bytes.Numbers.{number_from_cut}
 use Rattle.rules.specs.Promises.Refusals.{PartCase, Walk, MORE, TAIL, CUT, FAULT, Parts}
 use Rattle.rules.proofs.Laws.Reading.PartCases.{part_case, part_is}
@@ -20,11 +19,11 @@ use Rattle.rules.proofs.Laws.Reading.Stands.{read_part_stands}
 use Rattle.rules.specs.Laws.Reading.Walk.{parts_from}
 
 -- At the end of the bytes a part is cut off.
-read_number_past : (s : List ℕ) (at : ℕ) → length s ≤ at → read_number s at ≡ CutOff
+read_number_past : (s : List ℕ) (at : ℕ) → length s ≤ at → read_number s at ≡ Err CutOff
 unfolding read_number
 read_number_past s at l = number_from_cut 3 s at 1 0 l
 
-pub read_part_past : (h : Header) (s : List ℕ) (before : PartName) (place : ℕ) → length s ≤ place → read_part h s before place ≡ part.Tail
+pub read_part_past : (h : Header) (s : List ℕ) (before : PartName) (place : ℕ) → length s ≤ place → read_part h s before place ≡ Ok part.Tail
 unfolding read_part part_number
 read_part_past h s before place l = rw (read_number_past s place l)
 
@@ -41,12 +40,12 @@ read_from_enough (suc m) (suc n) h s before place a b =
     go : (x : PartRead) → read_part h s before place ≡ x
         → ((p : Part) → place < p.end → read_from m h s (name_of p) p.end ≡ read_from n h s (name_of p) p.end)
         → go_on s place x (λ p. read_from m h s (name_of p) p.end) ≡ go_on s place x (λ p. read_from n h s (name_of p) p.end)
-    go (part.Part p) e r =
+    go (Ok (part.Part p)) e r =
         let t = read_part_stands h s before place p e in
         ap (λ (x : Reading). record { parts = p ∷ x.parts; ending = x.ending }) (r p (omega (arith, t.after, t.end)))
-    go (part.Cut p) e r = refl
-    go part.Tail e r = refl
-    go (part.Refused f) e r = refl
+    go (Ok (part.Cut p)) e r = refl
+    go (Ok part.Tail) e r = refl
+    go (Err f) e r = refl
 
 pub read_parts_from : (h : Header) (s : List ℕ) → h.end ≤ length s → read_parts h s ≡ parts_from h s (record { plane = h.planes; level = 0 }) h.end
 unfolding read_parts parts_from
@@ -58,7 +57,7 @@ module _ (h : Header) (s : List ℕ) (before : PartName) (place : ℕ) where
   unfolding parts_from read_from
   parts_from_step = read_from_enough (length s - place) (suc (length s - place)) h s before place (omega arith) (omega arith)
 
-  pub parts_from_part : (p : Part) → read_part h s before place ≡ part.Part p
+  pub parts_from_part : (p : Part) → read_part h s before place ≡ Ok (part.Part p)
       → parts_from h s before place ≡ record { parts = p ∷ (parts_from h s (name_of p) p.end).parts; ending = (parts_from h s (name_of p) p.end).ending }
   unfolding go_on parts_from
   parts_from_part p e =
@@ -67,16 +66,16 @@ module _ (h : Header) (s : List ℕ) (before : PartName) (place : ℕ) where
       (ap (λ (x : Reading). record { parts = p ∷ x.parts; ending = x.ending })
       (read_from_enough (length s - place) (length s - p.end) h s (name_of p) p.end (omega (arith, t.after, t.end)) (omega arith)))
 
-  pub parts_from_tail : read_part h s before place ≡ part.Tail → parts_from h s before place ≡ record { parts = []; ending = tail (length s - place) }
+  pub parts_from_tail : read_part h s before place ≡ Ok part.Tail → parts_from h s before place ≡ record { parts = []; ending = tail (length s - place) }
   unfolding go_on
   parts_from_tail e = parts_from_step ∙ rw e
 
-  pub parts_from_cut : (p : Part) → read_part h s before place ≡ part.Cut p → parts_from h s before place
+  pub parts_from_cut : (p : Part) → read_part h s before place ≡ Ok (part.Cut p) → parts_from h s before place
       ≡ record { parts = []; ending = tail (length s - place) }
   unfolding go_on
   parts_from_cut p e = parts_from_step ∙ rw e
 
-  pub parts_from_fault : (r : Refusal) → read_part h s before place ≡ part.Refused r → parts_from h s before place ≡ record { parts = []; ending = fault r }
+  pub parts_from_fault : (r : Refusal) → read_part h s before place ≡ Err r → parts_from h s before place ≡ record { parts = []; ending = fault r }
   unfolding go_on
   parts_from_fault r e = parts_from_step ∙ rw e
 
@@ -94,12 +93,12 @@ module _ (h : Header) (s : List ℕ) where
       cases : (x : PartRead) → read_part h s before place ≡ x
           → ((p : Part) → length s ≤ p.end + m → Walks (name_of p) p.end (read_from m h s (name_of p) p.end))
           → Walks before place (go_on s place x (λ p. read_from m h s (name_of p) p.end))
-      cases (part.Part p) e r =
+      cases (Ok (part.Part p)) e r =
           let t = read_part_stands h s before place p e in
           MORE (subst (PartCase h s before place) e (part_case h s before place)) (r p (omega (arith, t.after, t.end)))
-      cases (part.Cut p) e r = CUT (subst (PartCase h s before place) e (part_case h s before place))
-      cases part.Tail e r = TAIL (subst (PartCase h s before place) e (part_case h s before place))
-      cases (part.Refused q) e r = FAULT (subst (PartCase h s before place) e (part_case h s before place))
+      cases (Ok (part.Cut p)) e r = CUT (subst (PartCase h s before place) e (part_case h s before place))
+      cases (Ok part.Tail) e r = TAIL (subst (PartCase h s before place) e (part_case h s before place))
+      cases (Err q) e r = FAULT (subst (PartCase h s before place) e (part_case h s before place))
 
   pub parts_case : Parts h s (read_parts h s).parts (read_parts h s).ending
   unfolding read_parts

@@ -1,14 +1,13 @@
 -- The parts that were read, whatever the bytes: each is whole, legal and after the one before it, and which are usable is known on the way.
-use Rattle.std.specs.Prelude.{◌≡◌, refl, List, [], ◌∷◌, ◌++◌, map, ℕ, zero, suc, ◌≤◌, length}
+use Rattle.std.specs.Prelude.{◌≡◌, refl, List, [], ◌∷◌, ◌++◌, map, ℕ, zero, suc, ◌≤◌, length, Ok, Err}
 use Rattle.std.proofs.Common.{ap, ◌∙◌, subst}
 use Rattle.std.proofs.lemmas.List.{map-append}
 use Rattle.rules.specs.declared.Header.{Header}
 use Rattle.rules.specs.declared.Part.{Part}
-use Rattle.rules.specs.declared.PartRead.{PartRead}
-use Rattle.rules.specs.declared.PartRead.TheVariants as part
+use Rattle.rules.specs.declared.Piece.TheVariants as part
 use Rattle.rules.specs.Document.Passes.{PartName}
 use Rattle.rules.specs.Document.Layout.{name_of, usable, reached}
-use Rattle.rules.specs.Document.Numbers.{read_part, go_on, read_from, read_parts, top_level}
+use Rattle.rules.specs.Document.Numbers.{read_part, go_on, read_from, read_parts, top_level, PartRead}
 use Rattle.rules.specs.Laws.Counting.Sums.{All}
 use Rattle.rules.specs.Laws.Reading.Parts.{InOrder}
 use Rattle.rules.proofs.Laws.Reading.Parts.{all_middle}
@@ -27,10 +26,10 @@ parts_whole (suc m) h s before place = cases (read_part h s before place) refl (
     cases : (x : PartRead) → read_part h s before place ≡ x
         → ((p : Part) → WholeParts h s (name_of p) p.end (read_from m h s (name_of p) p.end).parts)
         → WholeParts h s before place (go_on s place x (λ p. read_from m h s (name_of p) p.end)).parts
-    cases (part.Part p) e r = (e, r p)
-    cases (part.Cut p) e r = tt
-    cases part.Tail e r = tt
-    cases (part.Refused why) e r = tt
+    cases (Ok (part.Part p)) e r = (e, r p)
+    cases (Ok (part.Cut p)) e r = tt
+    cases (Ok part.Tail) e r = tt
+    cases (Err why) e r = tt
 
 pub read_parts_whole : (h : Header) (s : List ℕ) → WholeParts h s (record { plane = h.planes; level = 0 }) h.end (read_parts h s).parts
 unfolding read_parts

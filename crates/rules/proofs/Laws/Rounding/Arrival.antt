@@ -1,5 +1,5 @@
 -- What arrives of a record: some of its parts, the last of them cut perhaps. Those that are whole are again a selection of the record's parts.
-use Rattle.std.specs.Prelude.{◌≡◌, refl, Bool, true, false, cond, ◌&&◌, ◌⊎◌, ℕ, ◌+◌, ◌-◌, ◌≤◌, leb, take}
+use Rattle.std.specs.Prelude.{◌≡◌, refl, Bool, true, false, cond, ◌&&◌, ◌⊎◌, ℕ, ◌+◌, ◌-◌, ◌≤◌, leb, take, Ok}
 use Rattle.std.proofs.Math.Path.{ap, ap₂}
 use Rattle.std.proofs.Common.{sym, ◌∙◌, subst, inl, inr, arith, take_all, length-take-le, leb-true, leb-false}
 use mathlib.Core.List.{List, [], ◌∷◌, ◌++◌, map-append, append_assoc, append-nil}
@@ -8,15 +8,13 @@ use Rattle.std.proofs.Math.ListN.{length, drop, length-append}
 use Rattle.std.proofs.Math.Seq.{take-append-add, drop-append_seam}
 use Rattle.rules.specs.declared.Size.{Size}
 use Rattle.rules.specs.declared.Header.{Header}
-use Rattle.rules.specs.declared.HeaderRead.TheVariants as header
-use Rattle.rules.specs.declared.PartRead.TheVariants as part
+use Rattle.rules.specs.declared.Piece.TheVariants as part
 use Rattle.rules.specs.Document.Notation.{flat}
 use Rattle.rules.specs.Document.Pyramid.{most_planes, legal_size}
 use Rattle.rules.specs.Document.Passes.{PartName}
 use Rattle.rules.specs.Document.Layout.{header_bytes, CodedPart, part_bytes}
 use Rattle.rules.specs.Document.Numbers.{read_header, follows, tail, read_parts, behind, top_level}
-use Rattle.rules.specs.Promises.Vocabulary.{Named, ReadsAs, names, kept, whole_in, tail_in, cut_in, arrived, header_of, record_bytes}
-use Rattle.rules.specs.Promises.Vocabulary.{parts_at, selection}
+use Rattle.rules.specs.Promises.Vocabulary.{Named, ReadsAs, names, kept, whole_in, tail_in, cut_in, arrived, header_of, record_bytes, parts_at, selection}
 use Rattle.rules.proofs.Laws.Counting.Booleans.{not_test, selection_both}
 use Rattle.rules.specs.Laws.Counting.Sums.{All}
 use Rattle.rules.proofs.Laws.Counting.Sums.{all_then, map_all}
@@ -59,7 +57,7 @@ all_or_cut n (p ∷ ps) = by (leb (length (part_bytes p)) n) refl (all_or_cut (n
         inr (record { q = p; later = ps; parts = rw e; short = rw e (leb-false (length (part_bytes p)) n e); cut = rw e; bytes = rw e (omega arith) })
 
 module _ {z : Size} {planes : ℕ} {ps : List CodedPart} {cut : ℕ} {bytes : List ℕ} (r : ReadsAs z planes ps cut bytes) where
-  pub header_read : legal_size z ≡ true → planes ≤ most_planes → read_header bytes ≡ header.Header (header_of z planes)
+  pub header_read : legal_size z ≡ true → planes ≤ most_planes → read_header bytes ≡ Ok (header_of z planes)
   header_read ok l = ap read_header r.stand ∙ reads_header z planes (flat part_bytes ps ++ r.rest) ok l
 
   pub parts_stand : drop (length (header_bytes z planes)) bytes ≡ flat part_bytes ps ++ r.rest
@@ -67,7 +65,7 @@ module _ {z : Size} {planes : ℕ} {ps : List CodedPart} {cut : ℕ} {bytes : Li
 
 -- Where nothing is left behind the parts, nothing stands there.
 pub none_behind : {z : Size} {planes : ℕ} {ps : List CodedPart} {bytes : List ℕ} → ReadsAs z planes ps 0 bytes → legal_size z ≡ true → planes ≤ most_planes
-    → LegalParts (header_of z planes) (before_all planes) ps → behind (header_of z planes) bytes (parts_at (length (header_bytes z planes)) ps) ≡ part.Tail
+    → LegalParts (header_of z planes) (before_all planes) ps → behind (header_of z planes) bytes (parts_at (length (header_bytes z planes)) ps) ≡ Ok part.Tail
 none_behind {z} {planes} {ps} r ok l legal-ps =
     ap (λ x. behind (header_of z planes) x (parts_at (length (header_bytes z planes)) ps))
     (r.stand ∙ ap (λ x. header_bytes z planes ++ (flat part_bytes ps ++ x)) (no_length r.rest r.left))

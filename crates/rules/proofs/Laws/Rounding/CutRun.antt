@@ -1,6 +1,6 @@
 -- Decoding what arrived of a coder's record, the last part cut perhaps: it is accepted, and each coefficient is rounded at the plane that its level
 -- reached, or at the one below where that is the plane of the part that was cut.
-use Rattle.std.specs.Prelude.{◌≡◌, Bool, cond, ◌&&◌, ltb, take, replicate, ℤ, pos}
+use Rattle.std.specs.Prelude.{◌≡◌, Bool, cond, ◌&&◌, ltb, take, replicate, ℤ, pos, Ok}
 use Rattle.std.proofs.Math.Path.{refl, ap, ap₂, sym, subst}
 use Rattle.std.proofs.Common.{◌∙◌, true≢false, ⊎_elim, get_or-take}
 use mathlib.Core.List.{List, [], ◌∷◌, ◌++◌, map-append}
@@ -13,14 +13,12 @@ use borrow.Author.Tests.{leb-true, le-leb, lt-leb, eqb-true}
 use Rattle.rules.specs.declared.Size.{Size}
 use Rattle.rules.specs.declared.Header.{Header}
 use Rattle.rules.specs.declared.Part.{Part}
-use Rattle.rules.specs.declared.PartRead.{PartRead}
-use Rattle.rules.specs.declared.PartRead.TheVariants as part
+use Rattle.rules.specs.declared.Piece.TheVariants as part
 use Rattle.rules.specs.Document.Notation.{any, flat}
 use Rattle.rules.specs.Document.Pyramid.{Family, legal_size, area, levels, level_of, family, magnitude, negative, most_planes}
 use Rattle.rules.specs.Document.Passes.{State, start, after, from, PartName, part_names, Course, Reader, signed, decoded}
-use Rattle.rules.specs.Document.Layout.{header_bytes, CodedPart, parts_with, part_bytes, packed, bit_at, body_of, bits_there, name_of}
-use Rattle.rules.specs.Document.Layout.{usable, reached}
-use Rattle.rules.specs.Document.Numbers.{headed, behind}
+use Rattle.rules.specs.Document.Layout.{header_bytes, CodedPart, parts_with, part_bytes, packed, bit_at, body_of, bits_there, name_of, usable, reached}
+use Rattle.rules.specs.Document.Numbers.{headed, behind, PartRead}
 use Rattle.rules.specs.Document.Calls.{going, used_cut, tail_onward, decoding}
 use Rattle.rules.proofs.Laws.Counting.Booleans.{clash, both_left, both_right, not_test}
 use Rattle.rules.specs.Laws.Counting.Sums.{All, is, sum}
@@ -46,8 +44,7 @@ use Rattle.rules.proofs.Laws.Rounding.CutPass.{drawn_to, drawn_to_length, cut_dr
 use Rattle.rules.specs.Laws.Rounding.CutTurn.{used_by}
 use Rattle.rules.proofs.Laws.Rounding.CutTurn.{MadeAt, made_at, Turn, turn}
 use Rattle.rules.specs.Laws.Rounding.Arrival.{CutIn, AllThere}
-use Rattle.rules.proofs.Laws.Rounding.Arrival.{all_or_cut, none_behind, arrived_reads, cut_stands, cut_behind, arrived_selection}
-use Rattle.rules.proofs.Laws.Rounding.Arrival.{legal_order, legal_named}
+use Rattle.rules.proofs.Laws.Rounding.Arrival.{all_or_cut, none_behind, arrived_reads, cut_stands, cut_behind, arrived_selection, legal_order, legal_named}
 use Rattle.rules.proofs.Laws.Rounding.Run.{kept_legal, Run, run_of, Onward, RoundedTo, rounded_by, unused_rounded}
 use Rattle.rules.specs.Laws.Rounding.CutRun.{bits_held_in}
 
@@ -298,7 +295,7 @@ module _ (z : Size) (ok : legal_size z ≡ true) (planes : ℕ) (few : planes �
         its_drawn : course.side.pyramid ≡ drawn_to F mag neg x s bits_in v
         its_drawn = cut_drawn F mag neg x s (bit_at (body_of bytes its_part)) bits_in v its_bit few_bits
 
-        leads : tail_onward h bytes there (part.Cut its_part) (going s v) ≡ going (after x.level course s) (drawn_to F mag neg x s bits_in v)
+        leads : tail_onward h bytes there (Ok (part.Cut its_part)) (going s v) ≡ going (after x.level course s) (drawn_to F mag neg x s bits_in v)
         unfolding tail_onward used_cut name_of part_at headed
         leads =
             rw (u, there_bits, le-leb bits_in course.side.taken (cut_fits F mag neg x s (bit_at (body_of bytes its_part)) bits_in v its_bit few_bits))
@@ -408,7 +405,7 @@ module _ (z : Size) (ok : legal_size z ≡ true) (planes : ℕ) (few : planes �
     comes_all : AllThere n (selected keep) → Comes
     unfolding tail_onward
     comes_all t =
-        let e : its_behind ≡ part.Tail
+        let e : its_behind ≡ Ok part.Tail
         = none_behind (subst (λ (i : ℕ). ReadsAs z planes (whole_in n (selected keep)) i (arrived z planes (selected keep) n)) t.none reads) ok few
         (subst (LegalParts h (before_all planes)) (sym t.parts) (kept_legal z ok planes pyramid keep)) in
         comes_whole (rw e) (λ q f u. clash (let g : [] ≡ q ∷ [] = sym t.uncut ∙ f in cc))

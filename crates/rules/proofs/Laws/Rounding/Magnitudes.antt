@@ -1,7 +1,7 @@
 -- How large a decoded coefficient can be: whatever bytes decoding accepts, every magnitude that it writes is below 2^planes, so at most 131,071.
 -- The parts come plane by plane downward. Between parts, a coefficient's magnitude and the power of two of the last plane that its level may have
 -- come by are at most 2^planes together: a new one has as much as its plane is worth, and a refined one gains at most what the plane gives back.
-use Rattle.std.specs.Prelude.{◌≡◌, Bool, ◌≢◌, ℕ, suc, ◌+◌, ◌*◌, ◌^◌, ◌≤◌, ◌<◌, leb, ltb, eqb, length, set, replicate, pos, negsuc, nat_abs}
+use Rattle.std.specs.Prelude.{◌≡◌, Bool, ◌≢◌, ℕ, suc, ◌+◌, ◌*◌, ◌^◌, ◌≤◌, ◌<◌, leb, ltb, eqb, length, set, replicate, pos, negsuc, nat_abs, Ok, Err}
 use Rattle.std.proofs.Math.Path.{refl, subst}
 use Rattle.std.proofs.Common.{ap, sym, ◌∙◌, arith, pow-suc, pow_mono, get_or-set_same, get_or-set_other, le-leb}
 use mathlib.Core.List.{List, [], ◌∷◌, ◌++◌, map}
@@ -13,19 +13,16 @@ use Rattle.std.proofs.Math.Seq.{set_out}
 use Rattle.std.proofs.Math.IntN.{ℤ}
 use Rattle.std.proofs.lemmas.Bool.{lt-leb}
 use Rattle.rules.specs.declared.Size.{Size}
-use Rattle.rules.specs.declared.Decoded.{Decoded}
 use Rattle.rules.specs.declared.Header.{Header}
-use Rattle.rules.specs.declared.HeaderRead.TheVariants as header
 use Rattle.rules.specs.declared.Part.{Part}
-use Rattle.rules.specs.declared.PartRead.{PartRead}
-use Rattle.rules.specs.declared.PartRead.TheVariants as part
+use Rattle.rules.specs.declared.Piece.TheVariants as part
 use Rattle.rules.specs.declared.Refusal.TheVariants as refusal
 use Rattle.rules.specs.Document.Pyramid.{Family, family, area, levels, level_of, legal_size, magnitude, most_planes}
 use Rattle.rules.specs.Document.Passes.{Entry, Lists, Course, listed, listing, passed, State, after, start, PartName}
 use Rattle.rules.specs.Document.Passes.{Reader, signed, grown, written, decoder, decoded}
 use Rattle.rules.specs.Document.Layout.{name_of, bit_at, body_of, bits_there, usable}
-use Rattle.rules.specs.Document.Numbers.{read_header, follows, Ending, read_part, read_parts, behind_from}
-use Rattle.rules.specs.Document.Calls.{Result, refused, accepted, Progress, going, unfit, used, onward, decode_parts, Picture, pictured, decoded_parts}
+use Rattle.rules.specs.Document.Numbers.{read_header, follows, Ending, read_part, read_parts, behind_from, PartRead}
+use Rattle.rules.specs.Document.Calls.{Result, refused, accepted, Progress, going, unfit, used, onward, decode_parts, Picture, pictured, decoded_parts, Decoded}
 use Rattle.rules.specs.Document.Calls.{used_cut, tail_onward, work_for, decoding, decode_out, Decoding, decode_places, AfsDecode}
 use Rattle.rules.specs.Promises.Vocabulary.{most_decoded, at, LegalHead}
 use Rattle.rules.specs.Laws.Counting.Sums.{sum, is, All}
@@ -321,7 +318,7 @@ module _ (h : Header) (ok : legal_size h.size ≡ true) (bytes : List ℕ) (ther
         by true = unfold used in decoded_fits (eqb c.side.taken p.bits)
         by false = (i.0, walked)
 
-    cut_going : Under (name_of p) (tail_onward h bytes there (part.Cut p) (going st v))
+    cut_going : Under (name_of p) (tail_onward h bytes there (Ok (part.Cut p)) (going st v))
     unfolding tail_onward Under
     cut_going = by (usable (levels z) h.planes (there ++ (name_of p ∷ [])) (name_of p))
       where
@@ -332,11 +329,11 @@ module _ (h : Header) (ok : legal_size h.size ≡ true) (bytes : List ℕ) (ther
   tail_under : (b : PartName) (place : ℕ) (g : Progress) → Under b g → (x : PartRead) → read_part h bytes b place ≡ x
       → (last : PartName) × Under last (tail_onward h bytes there x g)
   unfolding tail_onward Under
-  tail_under b place g i (part.Part p) e = (b, i)
-  tail_under b place g i part.Tail e = (b, i)
-  tail_under b place g i (part.Refused r) e = (b, i)
-  tail_under b place (unfit at) i (part.Cut p) e = (b, tt)
-  tail_under b place (going st v) i (part.Cut p) e =
+  tail_under b place g i (Ok (part.Part p)) e = (b, i)
+  tail_under b place g i (Ok part.Tail) e = (b, i)
+  tail_under b place g i (Err r) e = (b, i)
+  tail_under b place (unfit at) i (Ok (part.Cut p)) e = (b, tt)
+  tail_under b place (going st v) i (Ok (part.Cut p)) e =
       let l : LegalHead h b (name_of p) p.bits = (read_part_cut h bytes b place p e).legal in
       (name_of p, cut_going b p l.in_order (record { from1 = l.named.from1; up_to = l.named.up_to }) st v i)
 
@@ -362,7 +359,7 @@ going_accepted h there e (going st v) x i =
     (st, ap (λ (y : Picture). going st y.pyramid) (accepted_same t.2))
 
 module _ (s : List ℕ) (room work : ℕ) (x : Picture) (e : decoding s room work ≡ accepted x) where
-  under_planes : (h : Header) × (read_header s ≡ header.Header h) × ((q : ℕ) → magnitude x.pyramid q < 2 ^ h.planes)
+  under_planes : (h : Header) × (read_header s ≡ Ok h) × ((q : ℕ) → magnitude x.pyramid q < 2 ^ h.planes)
   unfolding decoding decoded_parts Under
   under_planes =
       let a = on_header_accepted (read_header s) _ x e in
@@ -382,10 +379,10 @@ module _ (s : List ℕ) (room work : ℕ) (x : Picture) (e : decoding s room wor
 
 -- Whatever bytes decoding accepts, every magnitude is below 2^planes, planes being what the header says, and no more than 131,071.
 module _ (s : List ℕ) (room work : ℕ) (x : Picture) (e : decoding s room work ≡ accepted x) where
-  pub decoded_under : (h : Header) → read_header s ≡ header.Header h → (q : ℕ) → magnitude x.pyramid q < 2 ^ h.planes
+  pub decoded_under : (h : Header) → read_header s ≡ Ok h → (q : ℕ) → magnitude x.pyramid q < 2 ^ h.planes
   decoded_under h r q =
       let u = under_planes s room work x e in
-      let heads : header.Header u.0 ≡ header.Header h = sym u.1 ∙ r in
+      let heads : Ok u.0 ≡ Ok h = sym u.1 ∙ r in
       let same : u.0 ≡ h = cc in
       subst (λ (k : Header). magnitude x.pyramid q < 2 ^ k.planes) same (u.2 q)
 

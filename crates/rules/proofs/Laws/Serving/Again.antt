@@ -1,5 +1,5 @@
 -- Served twice, for Promises/Two: the parts that both requests want are those that the larger level and plane want, wherever they stand.
-use Rattle.std.specs.Prelude.{◌≡◌, refl, true, ◌&&◌, get_or}
+use Rattle.std.specs.Prelude.{◌≡◌, refl, true, ◌&&◌, get_or, Ok}
 use Rattle.std.proofs.Math.Path.{ap, ap₂}
 use Rattle.std.proofs.Common.{sym, ◌∙◌, subst, arith}
 use mathlib.Core.List.{List, ◌++◌}
@@ -10,17 +10,14 @@ use Rattle.std.proofs.Math.ListN.{length, take}
 use Rattle.std.proofs.Math.Seq.{take_at, length-take-le}
 use borrow.Author.Tests.{leb-true, le-leb, lt-leb}
 use Rattle.rules.specs.declared.Refusal.TheVariants as refusal
-use Rattle.rules.specs.declared.Verdict.TheVariants.{Accepted}
-use Rattle.rules.specs.declared.Served.{Served}
 use Rattle.rules.specs.declared.Header.{Header}
-use Rattle.rules.specs.declared.HeaderRead.TheVariants as header
 use Rattle.rules.specs.declared.Part.{Part}
 use Rattle.rules.specs.Document.Notation.{flat, zeros}
 use Rattle.rules.specs.Document.Pyramid.{levels}
 use Rattle.rules.specs.Document.Layout.{whole_of}
-use Rattle.rules.specs.Document.Numbers.{verdict_number, read_header, read_parts}
+use Rattle.rules.specs.Document.Numbers.{verdict_number, read_header, read_parts, Accepted, HeaderRead}
 use Rattle.rules.specs.Document.Calls.{Result, refused, accepted, unless, on_header, on_ending, legal_ask, kept_of, served_bytes, Portion, portioned, serving}
-use Rattle.rules.specs.Document.Calls.{filled, serve_out, serve_answer, Serving, serve_numbers, serve_places, AfsServe}
+use Rattle.rules.specs.Document.Calls.{filled, serve_out, serve_answer, Serving, serve_numbers, serve_places, AfsServe, Served}
 use Rattle.rules.specs.Promises.Vocabulary.{Again, Leaves, AgainLent, Told, AgainTold, selection, placed_from, wanted, IsServed}
 use Rattle.rules.proofs.Laws.Reading.Stands.{read_header_stands, header_within}
 use Rattle.rules.proofs.Laws.Counting.Booleans.{clash, both, both_left, both_right}
@@ -112,7 +109,7 @@ found_served s r p out (refused q) e a = absurd (clash (cc))
 found_served s r p out (accepted x) e a = (x, e, refl, take_at x.bytes _ (length x.bytes) refl)
 
 pub serving_again_lent : {s : List ℕ} {h : Header} {r1 p1 r2 p2 : ℕ} {out : List ℕ} {answer : Served} {out' : List ℕ}
-    → Serving s r1 p1 out answer out' → answer.verdict ≡ Accepted → read_header s ≡ header.Header h → legal_ask h r2 p2 ≡ true
+    → Serving s r1 p1 out answer out' → answer.verdict ≡ Accepted → read_header s ≡ Ok h → legal_ask h r2 p2 ≡ true
     → AgainLent s r1 p1 answer out' r2 p2
 serving_again_lent {s} {h} {r1} {p1} {r2} {p2} {out} {answer} {out'} x ok read asked =
     let y : Result Portion = serving s r1 p1 (length out) in
@@ -128,7 +125,7 @@ serving_again_lent {s} {h} {r1} {p1} {r2} {p2} {out} {answer} {out'} x ok read a
       once = λ {lent} z. leaves g.bytes answer.tail (g.once legal (length lent) ∙ ap (λ t. portioned g.bytes t (length lent)) tail) z;
     }
   where
-    header_same : {a b : Header} → header.Header a ≡ header.Header b → a ≡ b
+    header_same : {a b : Header} → ◌≡◌ {A = HeaderRead} (Ok a) (Ok b) → a ≡ b
     header_same e = cc
 
 tells : (bytes : List ℕ) (tail : ℕ) {s : List ℕ} {r p : ℕ} {out answer : List ℕ} {number : ℕ} {out' answer' : List ℕ}
@@ -147,7 +144,7 @@ tells bytes tail {out = out} {answer} {number} {out'} {answer'} l e x =
     }
 
 pub serving_again_told : {s : List ℕ} {h : Header} {r1 p1 r2 p2 : ℕ} {out answer out' answer' : List ℕ}
-    → AfsServe s r1 p1 out answer 0 out' answer' → read_header s ≡ header.Header h → legal_ask h r2 p2 ≡ true
+    → AfsServe s r1 p1 out answer 0 out' answer' → read_header s ≡ Ok h → legal_ask h r2 p2 ≡ true
     → AgainTold s r1 p1 out' answer' r2 p2
 unfolding serve_numbers
 serving_again_told {s} {h} {r1} {p1} {r2} {p2} {out} {answer} {out'} {answer'} x read asked = by (dec_le serve_places (length answer))

@@ -1,6 +1,6 @@
 -- "Any selection in that order is also a record": pieces, parts that were read somewhere, put together in order behind a header, read as just these
 -- parts, moved; so do any of one record's parts.
-use Rattle.std.specs.Prelude.{◌≡◌, Bool, true, false, cond, ◌&&◌, leb, take, drop}
+use Rattle.std.specs.Prelude.{◌≡◌, Bool, true, false, cond, ◌&&◌, leb, take, drop, Ok}
 use Rattle.std.proofs.Math.Path.{refl, ap, ap₂, subst}
 use Rattle.std.proofs.Common.{sym, ◌∙◌, subst₂, length-append, length-drop, get_or-append-add, get_or-take, get_or-drop, length-take-le, take_at}
 use mathlib.Core.List.{List, [], ◌∷◌, ◌++◌, map, append_assoc, append-nil}
@@ -10,7 +10,7 @@ use Rattle.std.proofs.Math.ListN.{length, get_or-append}
 use Rattle.std.proofs.Math.Seq.{drop-append_seam}
 use Rattle.rules.specs.declared.Header.{Header}
 use Rattle.rules.specs.declared.Part.{Part}
-use Rattle.rules.specs.declared.PartRead.TheVariants as part
+use Rattle.rules.specs.declared.Piece.TheVariants as part
 use Rattle.rules.specs.Document.Notation.{flat}
 use Rattle.rules.specs.Document.Passes.{PartName}
 use Rattle.rules.specs.Document.Layout.{whole_of, name_of}
@@ -96,7 +96,7 @@ module _ {h : Header} where
       st : PartStands h x.source x.before x.place p
       st = piece_stands x
 
-      here : read_part h u earlier (length front) ≡ part.Part (moved_to (length front) p)
+      here : read_part h u earlier (length front) ≡ Ok (part.Part (moved_to (length front) p))
       here =
           read_part_local h x.source x.before x.place p x.read u (length front) earlier
           (subst (λ (i : ℕ). Same x.source i u (length front) (p.end - i)) st.placed

@@ -1,6 +1,6 @@
 -- Serving: what is served is a record with exactly the parts named and no tail; a record served whole is itself less its tail.
 use Rattle.std.proofs.Math.Path.{◌≡◌, refl, ap, fun_ext}
-use Rattle.std.proofs.Common.{ap₂, sym, ◌∙◌, subst, subst₂, leb-true, le-leb, length-append, length-drop, length-take-le, take_all, take_at, drop-drop}
+use Rattle.std.proofs.Common.{ap₂, sym, ◌∙◌, subst, subst₂, leb-true, le-leb, length-append, length-drop, length-take-le, take_all, take_at, drop-drop, Ok, Err}
 use mathlib.Core.List.{List, [], ◌∷◌, ◌++◌, append_assoc}
 use Rattle.std.specs.Prelude.{Bool, true, false, cond, ◌&&◌, leb}
 use Prim.Native.Nat.{ℕ, zero, suc, ◌+◌, ◌-◌, ◌≤◌, max}
@@ -8,14 +8,12 @@ use native.Mathlib.Omega.{arith}
 use Rattle.std.proofs.Math.ListN.{length, take, drop, take-append-drop}
 use Rattle.rules.specs.declared.Refusal.TheVariants as refusal
 use Rattle.rules.specs.declared.Header.{Header}
-use Rattle.rules.specs.declared.HeaderRead.TheVariants as header
 use Rattle.rules.specs.declared.Part.{Part}
 use Rattle.rules.specs.Document.Notation.{flat}
 use Rattle.rules.specs.Document.Passes.{PartName}
 use Rattle.rules.specs.Document.Layout.{whole_of, name_of}
-use Rattle.rules.specs.declared.PartRead.{PartRead}
-use Rattle.rules.specs.declared.PartRead.TheVariants as part
-use Rattle.rules.specs.Document.Numbers.{tail, Reading, read_header, read_part, go_on, read_from, read_parts, top_level}
+use Rattle.rules.specs.declared.Piece.TheVariants as part
+use Rattle.rules.specs.Document.Numbers.{tail, Reading, read_header, read_part, go_on, read_from, read_parts, top_level, PartRead}
 use Rattle.rules.specs.Document.Calls.{accepted, unless, on_header, on_ending, legal_ask, kept_of, served_bytes, Portion, portioned, serving}
 use Rattle.rules.specs.Promises.Vocabulary.{wanted, IsServed, selection, placed_from}
 use Rattle.rules.proofs.Laws.Reading.Stands.{read_header_stands, header_within, read_part_stands}
@@ -89,7 +87,7 @@ module _ (s : List ℕ) (r p : ℕ) (x : Portion) (v : IsServed s r p x) where
   within : v.head.end ≤ length s
   within = header_within (read_header_stands s v.head v.read)
 
-  pub served_header : read_header x.bytes ≡ header.Header v.head
+  pub served_header : read_header x.bytes ≡ Ok v.head
   served_header =
       read_header_local s v.head v.read x.bytes
       (subst (λ (l : List ℕ). Same s 0 l 0 v.head.end) (sym v.bytes) (same_taken s v.head.end (flat (whole_of s) named) within))
@@ -130,13 +128,13 @@ module _ (h : Header) (s : List ℕ) where
           → ((p : Part) → p.end ≤ length s → (read_from m h s (name_of p) p.end).ending ≡ tail k
           → flat (whole_of s) (read_from m h s (name_of p) p.end).parts ++ drop (length s - k) s ≡ drop p.end s)
           → flat (whole_of s) (go_on s place x (λ p. read_from m h s (name_of p) p.end)).parts ++ drop (length s - k) s ≡ drop place s
-      go (part.Part p) f i r =
+      go (Ok (part.Part p)) f i r =
           let st = read_part_stands h s before place p f in
           append_assoc (whole_of s p) _ (drop (length s - k) s) ∙ ap (λ (l : List ℕ). whole_of s p ++ l) (r p st.within i)
           ∙ whole_rest p (omega (arith, st.placed, st.after, st.end)) ∙ ap (λ (n : ℕ). drop n s) st.placed
-      go (part.Cut p) f i r = tail_rest place k l i
-      go part.Tail f i r = tail_rest place k l i
-      go (part.Refused q) f i r = absurd (let z : ◌≡◌ {A = ℕ} 0 1 = cc in omega arith)
+      go (Ok (part.Cut p)) f i r = tail_rest place k l i
+      go (Ok part.Tail) f i r = tail_rest place k l i
+      go (Err q) f i r = absurd (let z : ◌≡◌ {A = ℕ} 0 1 = cc in omega arith)
 
   pub record_bytes_lem : (k : ℕ) → h.end ≤ length s → (read_parts h s).ending ≡ tail k
       → take h.end s ++ (flat (whole_of s) (read_parts h s).parts ++ drop (length s - k) s) ≡ s
@@ -177,13 +175,13 @@ serves_all s h k l e =
     ap (λ (x : List ℕ). take h.end s ++ x) (flat_selection s 1 0 (read_parts h s).parts ∙ ap (flat (whole_of s)) c) ∙ record_whole s h k l e
 
 -- A record served whole is itself less its tail, in whatever room there is; without a tail it is itself.
-pub serving_all : (s : List ℕ) (h : Header) (k room : ℕ) → read_header s ≡ header.Header h → (read_parts h s).ending ≡ tail k
+pub serving_all : (s : List ℕ) (h : Header) (k room : ℕ) → read_header s ≡ Ok h → (read_parts h s).ending ≡ tail k
     → serving s 1 0 room ≡ portioned (take (length s - k) s) k room
 unfolding serving on_header on_ending unless
 serving_all s h k room a e =
     rw (a, asks_all h, e) (ap (λ (x : List ℕ). portioned x k room) (serves_all s h k (header_within (read_header_stands s h a)) e))
 
-pub served_whole : (s : List ℕ) (h : Header) (room : ℕ) → read_header s ≡ header.Header h → (read_parts h s).ending ≡ tail 0 → length s ≤ room
+pub served_whole : (s : List ℕ) (h : Header) (room : ℕ) → read_header s ≡ Ok h → (read_parts h s).ending ≡ tail 0 → length s ≤ room
     → serving s 1 0 room ≡ accepted (record { bytes = s; tail = 0 })
 unfolding portioned unless
 served_whole s h room a e l =

@@ -1,12 +1,11 @@
 -- The parts of a record, or of any selection of them, read back, whole or cut.
-use Rattle.std.specs.Prelude.{◌≡◌, List, [], ◌∷◌, true, ℕ}
+use Rattle.std.specs.Prelude.{◌≡◌, List, [], ◌∷◌, true, ℕ, Ok, Err}
 use Rattle.std.proofs.Math.ListN.{length}
 use Rattle.rules.specs.declared.Header.{Header}
-use Rattle.rules.specs.declared.PartRead.{PartRead}
-use Rattle.rules.specs.declared.PartRead.TheVariants as part
+use Rattle.rules.specs.declared.Piece.TheVariants as part
 use Rattle.rules.specs.Document.Passes.{PartName}
 use Rattle.rules.specs.Document.Layout.{CodedPart}
-use Rattle.rules.specs.Document.Numbers.{legal_head}
+use Rattle.rules.specs.Document.Numbers.{legal_head, PartRead}
 use Rattle.rules.specs.Promises.Vocabulary.{at}
 
 -- Parts that may stand in a record, in order, the first after `before`; and the name of the last. A record's first part comes after this:
@@ -23,7 +22,7 @@ last_name before (p ∷ ps) = last_name p.name ps
 
 -- what is no further part: less than a head, or a head and less than its body
 unfoldable pub Short : PartRead → Type 0
-Short (part.Part p) = ⊥
-Short (part.Cut p) = Unit {0}
-Short part.Tail = Unit {0}
-Short (part.Refused r) = ⊥
+Short (Ok (part.Part p)) = ⊥
+Short (Ok (part.Cut p)) = Unit {0}
+Short (Ok part.Tail) = Unit {0}
+Short (Err r) = ⊥

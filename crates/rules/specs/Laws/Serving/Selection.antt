@@ -1,11 +1,11 @@
 -- "Any selection in that order is also a record": pieces, parts that were read somewhere, put together in order behind a header, read as just these
 -- parts, moved; so do any of one record's parts.
-use Rattle.std.specs.Prelude.{◌≡◌, true}
+use Rattle.std.specs.Prelude.{◌≡◌, true, Ok}
 use mathlib.Core.List.{List, map}
 use Prim.Native.Nat.{ℕ}
 use Rattle.rules.specs.declared.Header.{Header}
 use Rattle.rules.specs.declared.Part.{Part}
-use Rattle.rules.specs.declared.PartRead.TheVariants as part
+use Rattle.rules.specs.declared.Piece.TheVariants as part
 use Rattle.rules.specs.Document.Notation.{flat}
 use Rattle.rules.specs.Document.Passes.{PartName}
 use Rattle.rules.specs.Document.Layout.{whole_of, name_of}
@@ -18,7 +18,7 @@ pub record Piece (h : Header) : Type 0 where
   pub before : PartName
   pub place : ℕ
   pub this : Part
-  pub read : read_part h source before place ≡ part.Part this
+  pub read : read_part h source before place ≡ Ok (part.Part this)
 
 -- What a part holds, wherever it stands: its name and its bytes.
 pub record Held : Type 0 where
