@@ -1,18 +1,17 @@
--- Reading by places: what is left to pass over, or to read, from here on is what was left at entry.
+-- Reading from the front: what each step makes of what is left.
 use mathlib.Core.Path.{◌≡◌, refl, ap, sym, ◌∙◌, subst}
-use mathlib.Core.List.{List, [], ◌∷◌}
-use mathlib.Core.Bool.{Bool, true, false, cond, not, true≢false, and-false}
-use Prim.Native.Nat.{ℕ, zero, suc, ◌+◌, ◌-◌, ◌*◌, ◌≤◌, ◌<◌}
+use mathlib.Core.List.{List, [], ◌∷◌, ◌++◌}
+use mathlib.Core.Bool.{Bool, true, false, cond, not, and-false}
+use Prim.Native.Nat.{ℕ, suc, ◌+◌, ◌-◌, ◌*◌, ◌≤◌, ◌<◌}
 use native.Mathlib.Nat.{mul-le-mul, mul_comm}
-use native.Mathlib.Numerals.{add-one}
 use native.Mathlib.Omega.{arith}
 use native.Mathlib.Decide.{dec_le}
 use lib.Dec.{leb, eqb}
-use lib.ListN.{length, get_or, drop, drop_of_length-le, get_or-eq_default}
-use lib.Seq.{drop-cons, drop-drop}
+use lib.ListN.{length, get_or, take, drop, length-append}
 use borrow.Author.Tests.{leb-true, leb-false, eq-eqb, ne_eqb}
-use Rattle.rules.proofs.Laws.Counting.Booleans.{both_right}
-use Rattle.std.specs.Prelude.{Option, Some, None}
+use Rattle.std.specs.Prelude.{Option, Some, None, ◌&&◌}
+use Rattle.std.specs.Cmp.Lexicographic.{pointwise}
+use Rattle.std.proofs.lemmas.List.{append_assoc, take_all, take-append-drop}
 use Rattle.pictures.specs.declared.Picture.{Picture}
 use Rattle.pictures.specs.Document.Netpbm.{line_end, blank, hash, gap_byte, digit, begins, after_comment, after_blanks, after_gap}
 use Rattle.pictures.specs.Document.Netpbm.{number, GreyHeader, no_header}
@@ -20,64 +19,9 @@ use Rattle.pictures.specs.Document.Netpbm.{header, is_p5, on_magic, on_number, l
 use Rattle.pictures.specs.Laws.GreyCauses.{no_more}
 use Rattle.pictures.specs.Laws.GreyCauses.Gap.{a_blank}
 use Rattle.pictures.proofs.Laws.GreyCases.{end_blank, gap_passed}
-use Rattle.netpbm.specs.declared.Digits.{Digits}
 use Rattle.netpbm.specs.Told.{Tells, no_header_lem, too_short, all_there}
-use Rattle.netpbm.specs.Places.{Moved, DigitsAt, FieldAt, missing, there, EndTold, GreatestTold}
+use Rattle.netpbm.specs.Rests.{Rest, ToldOf, Missing, EndTold}
 
--- What is left from a place on.
-module _ (s : List ℕ) (i : ℕ) where
-  pub left_next : i < length s → drop i s ≡ get_or s i 0 ∷ drop (i + 1) s
-  left_next l = rw add-one (drop-cons s i 0 l)
-
-  pub left_none : length s ≤ i → drop i s ≡ []
-  left_none l = drop_of_length-le s l
-
-begins_left : (t : ℕ → Bool) → t 0 ≡ false → (s : List ℕ) (i : ℕ) → begins t (drop i s) ≡ t (get_or s i 0)
-unfolding begins
-begins_left t z [] zero = sym z
-begins_left t z [] (suc i) = sym z
-begins_left t z (b ∷ s) zero = refl
-begins_left t z (b ∷ s) (suc i) = begins_left t z s i
-
-byte_within : (t : ℕ → Bool) → t 0 ≡ false → (s : List ℕ) (i : ℕ) → t (get_or s i 0) ≡ true → i < length s
-byte_within t z s i e = cases (dec_le (length s) i)
-  where
-    cases : Dec (length s ≤ i) → i < length s
-    cases (yes l) = absurd (true≢false (sym e ∙ ap t (get_or-eq_default s 0 {n = i} l) ∙ z))
-    cases (no l) = omega arith
-
--- A reader makes of what is left from here on what it made at entry.
-pub record Still (f : List ℕ → List ℕ) (s : List ℕ) (at i : ℕ) : Type 0 where
-  pub onward : at ≤ i
-  pub within : i ≤ length s
-  pub same : f (drop i s) ≡ f (drop at s)
-
-module _ {f : List ℕ → List ℕ} {s : List ℕ} {at : ℕ} where
-  pub still_begins : at ≤ length s → Still f s at at
-  still_begins l = record { onward = omega arith; within = l; same = refl }
-
-  module _ {i : ℕ} (x : Still f s at i) where
-    pub still_further : {j : ℕ} → i ≤ j → j ≤ length s → f (drop i s) ≡ f (drop j s) → Still f s at j
-    still_further l k e = record { onward = omega (arith, x.onward); within = k; same = sym e ∙ x.same }
-
-    pub still_stops : f (drop i s) ≡ drop i s → Moved s at i (f (drop at s))
-    still_stops e = record { onward = x.onward; within = x.within; leaves = sym e ∙ x.same }
-
--- Comments.
-module _ {s : List ℕ} {at i : ℕ} (x : Still after_comment s at i) where
-  pub comment_on : {b : Bool} → i < length s → b ≡ line_end (get_or s i 0) → b ≡ false → Still after_comment s at (i + 1)
-  unfolding after_comment
-  comment_on l e n = still_further x (omega arith) (omega arith) (rw (left_next s i l, sym e ∙ n))
-
-  pub comment_ends : {b : Bool} → i < length s → b ≡ line_end (get_or s i 0) → b ≡ true → Moved s at i (after_comment (drop at s))
-  unfolding after_comment
-  comment_ends l e n = still_stops x (rw (left_next s i l, sym e ∙ n))
-
-  pub comment_out : length s ≤ i → Moved s at (length s) (after_comment (drop at s))
-  unfolding after_comment
-  comment_out l = let end : length s ≡ i = omega (arith, x.within) in rw end (still_stops x (rw (left_none s i l)))
-
--- Gaps.
 comment_in_gap : (s : List ℕ) → after_blanks true s ≡ after_gap (after_comment s)
 unfolding after_gap after_blanks after_comment gap_byte blank
 comment_in_gap [] = refl
@@ -88,76 +32,171 @@ comment_in_gap (b ∷ s) = cases (line_end b) refl (comment_in_gap s)
     cases true e r = sym (gap_passed (a_blank b (end_blank b e) no_more) s)
     cases false e r = r
 
-module _ {s : List ℕ} {at i : ℕ} (x : Still after_gap s at i) where
-  pub gap_ends : {b : Bool} → i < length s → b ≡ gap_byte (get_or s i 0) → b ≡ false → Moved s at i (after_gap (drop at s))
-  unfolding after_gap after_blanks
-  gap_ends l e n = still_stops x (rw (left_next s i l, sym e ∙ n))
+-- What stands first, and what is behind it.
+module _ (s : List ℕ) where
+  abbrev pub behind : List ℕ
+  behind = take (length s - 1) (drop 1 s)
 
-  pub gap_out : length s ≤ i → Moved s at i (after_gap (drop at s))
-  unfolding after_gap after_blanks
-  gap_out l = still_stops x (rw (left_none s i l))
+  pub first_and_behind : 1 ≤ length s → s ≡ get_or s 0 0 ∷ behind
+  first_and_behind l = by s l
+    where
+      by : (s : List ℕ) → 1 ≤ length s → s ≡ get_or s 0 0 ∷ take (length s - 1) (drop 1 s)
+      by [] l = absurd (omega arith)
+      by (b ∷ t) l = ap (λ u. b ∷ u) (sym (take_all (suc (length t) - 1) t (omega arith)))
 
-  module _ {b : Bool} (l : i < length s) (e : b ≡ gap_byte (get_or s i 0)) (y : b ≡ true) where
-    gap_byte_lem : after_gap (drop i s) ≡ after_blanks (eqb (get_or s i 0) hash) (drop (i + 1) s)
+  pub none_left : length s < 1 → s ≡ []
+  none_left l = by s l
+    where
+      by : (s : List ℕ) → length s < 1 → s ≡ []
+      by [] l = refl
+      by (b ∷ t) l = absurd (omega arith)
+
+  module _ (l : 1 ≤ length s) {x : Bool} where
+    pub comment_on : x ≡ line_end (get_or s 0 0) → x ≡ false → after_comment behind ≡ after_comment s
+    unfolding after_comment
+    comment_on e n = sym (ap after_comment (first_and_behind l) ∙ rw (sym e ∙ n))
+
+    pub comment_ends : x ≡ line_end (get_or s 0 0) → x ≡ true → s ≡ after_comment s
+    unfolding after_comment
+    comment_ends e y = first_and_behind l ∙ sym (ap after_comment (first_and_behind l) ∙ rw (sym e ∙ y))
+
+    pub gap_ends : x ≡ gap_byte (get_or s 0 0) → x ≡ false → s ≡ after_gap s
     unfolding after_gap after_blanks
-    gap_byte_lem = rw (left_next s i l, sym e ∙ y)
+    gap_ends e n = first_and_behind l ∙ sym (ap after_gap (first_and_behind l) ∙ rw (sym e ∙ n))
 
-    pub gap_blank : ¬ (get_or s i 0 ≡ hash) → Still after_gap s at (i + 1)
+    gap_on : x ≡ gap_byte (get_or s 0 0) → x ≡ true → after_gap s ≡ after_blanks (eqb (get_or s 0 0) hash) behind
+    unfolding after_gap after_blanks
+    gap_on e y = ap after_gap (first_and_behind l) ∙ rw (sym e ∙ y)
+
+    pub gap_blank : x ≡ gap_byte (get_or s 0 0) → x ≡ true → ¬ (get_or s 0 0 ≡ hash) → after_gap behind ≡ after_gap s
     unfolding after_gap
-    gap_blank n =
-        still_further x (omega arith) (omega arith)
-        (gap_byte_lem ∙ ap (λ z. after_blanks z (drop (i + 1) s)) (ne_eqb (get_or s i 0) hash n))
+    gap_blank e y n = sym (gap_on e y ∙ ap (λ z. after_blanks z behind) (ne_eqb (get_or s 0 0) hash n))
 
-    pub gap_comment : {j : ℕ} → get_or s i 0 ≡ hash → Moved s (i + 1) j (after_comment (drop (i + 1) s)) → Still after_gap s at j
-    gap_comment {j} h m =
-        still_further x (omega (arith, m.onward)) m.within
-        (gap_byte_lem ∙ ap (λ z. after_blanks z (drop (i + 1) s)) (eq-eqb (get_or s i 0) hash h) ∙ comment_in_gap (drop (i + 1) s)
-        ∙ ap after_gap (sym m.leaves))
+    pub gap_comment : x ≡ gap_byte (get_or s 0 0) → x ≡ true → get_or s 0 0 ≡ hash → {t : List ℕ} → t ≡ after_comment behind → after_gap t ≡ after_gap s
+    gap_comment e y h m =
+        ap after_gap m
+        ∙ sym (gap_on e y ∙ ap (λ z. after_blanks z behind) (eq-eqb (get_or s 0 0) hash h) ∙ comment_in_gap behind)
 
--- Digits: what those passed are worth, which may be more than can be told.
+pub comment_none : (s : List ℕ) → length s < 1 → s ≡ after_comment s
+unfolding after_comment
+comment_none s l = none_left s l ∙ sym (ap after_comment (none_left s l))
+
+pub gap_none : (s : List ℕ) → length s < 1 → s ≡ after_gap s
+unfolding after_gap after_blanks
+gap_none s l = none_left s l ∙ sym (ap after_gap (none_left s l))
+
 told_digit : (v d : ℕ) → told (10 * told v + d) ≡ told (10 * v + d)
 unfolding told
 told_digit v d = omega arith
 
-pub record Counting (s : List ℕ) (at i value : ℕ) : Type 0 where
-  pub onward : at ≤ i
-  pub within : i ≤ length s
+-- Digits passed: what they are worth, which may be more than can be told, and what is left.
+pub record Counting (s : List ℕ) (value : ℕ) (left : List ℕ) : Type 0 where
   pub worth : ℕ
   pub tells : value ≡ told worth
-  pub same : number worth (drop i s) ≡ number 0 (drop at s)
+  pub same : number worth left ≡ number 0 s
 
-pub counting_begins : {s : List ℕ} {at : ℕ} → at ≤ length s → Counting s at at 0
+pub counting_begins : {s : List ℕ} → Counting s 0 s
 unfolding told
-counting_begins l = record { onward = omega arith; within = l; worth = 0; tells = refl; same = refl }
+counting_begins = record { worth = 0; tells = refl; same = refl }
 
-module _ {s : List ℕ} {at i value : ℕ} (x : Counting s at i value) where
-  counting_stops : number x.worth (drop i s) ≡ record { value = x.worth; behind = drop i s } → DigitsAt s at (record { value = value; end = i })
-  counting_stops e =
-      let q = sym e ∙ x.same in
-      record {
-        worth = x.tells ∙ ap (λ r. told r.value) q;
-        moves = record { onward = x.onward; within = x.within; leaves = ap (λ r. r.behind) q };
-      }
+pub counting_on : {s left : List ℕ} {value d next : ℕ} {x : Bool} → Counting s value left → 1 ≤ length left → x ≡ digit (get_or left 0 0) → x ≡ true
+    → d ≡ get_or left 0 0 - 48 → next ≡ told (10 * value + d) → Counting s next (behind left)
+unfolding number
+counting_on {left = left} {value = value} c l e y f n =
+    let b : ℕ = get_or left 0 0 in
+    record {
+      worth = 10 * c.worth + (b - 48);
+      tells = n ∙ ap (λ z. told (10 * value + z)) f ∙ ap (λ z. told (10 * z + (b - 48))) c.tells ∙ told_digit c.worth (b - 48);
+      same = sym (ap (number c.worth) (first_and_behind left l) ∙ rw (sym e ∙ y)) ∙ c.same;
+    }
 
-  pub counting_ends : {b : Bool} → i < length s → b ≡ digit (get_or s i 0) → b ≡ false → DigitsAt s at (record { value = value; end = i })
-  unfolding number
-  counting_ends l e n = counting_stops (rw (left_next s i l, sym e ∙ n))
+counting_stops : {s left : List ℕ} {value : ℕ} (c : Counting s value left) → number c.worth left ≡ record { value = c.worth; behind = left }
+    → (value ≡ told (number 0 s).value) × (left ≡ (number 0 s).behind)
+counting_stops c e = let q = sym e ∙ c.same in (c.tells ∙ ap (λ r. told r.value) q, ap (λ r. r.behind) q)
 
-  pub counting_out : length s ≤ i → DigitsAt s at (record { value = value; end = length s })
-  unfolding number
-  counting_out l = let end : length s ≡ i = omega (arith, x.within) in rw end (counting_stops (rw (left_none s i l)))
+pub counting_ends : {s left : List ℕ} {value : ℕ} {x : Bool} → Counting s value left → 1 ≤ length left → x ≡ digit (get_or left 0 0) → x ≡ false
+    → (value ≡ told (number 0 s).value) × (left ≡ (number 0 s).behind)
+unfolding number
+counting_ends {left = left} c l e n =
+    let v : ℕ = c.worth in
+    counting_stops c
+    (ap (number v) (first_and_behind left l) ∙ (rw (sym e ∙ n)) ∙ ap (λ t. record { value = v; behind = t }) (sym (first_and_behind left l)))
 
-  pub counting_on : {b : Bool} {d next : ℕ} → i < length s → b ≡ digit (get_or s i 0) → b ≡ true → d ≡ get_or s i 0 - 48
-      → next ≡ told (10 * value + d) → Counting s at (i + 1) next
-  unfolding number
-  counting_on {b} {d} {next} l e y f n =
-      record {
-        onward = omega (arith, x.onward);
-        within = omega arith;
-        worth = 10 * x.worth + (get_or s i 0 - 48);
-        tells = n ∙ ap (λ z. told (10 * value + z)) f ∙ ap (λ z. told (10 * z + (get_or s i 0 - 48))) x.tells ∙ told_digit x.worth (get_or s i 0 - 48);
-        same = sym (rw (left_next s i l, sym e ∙ y)) ∙ x.same;
-      }
+pub counting_out : {s left : List ℕ} {value : ℕ} → Counting s value left → length left < 1
+    → (value ≡ told (number 0 s).value) × (left ≡ (number 0 s).behind)
+unfolding number
+counting_out {left = left} c l =
+    let v : ℕ = c.worth in
+    counting_stops c (ap (number v) (none_left left l) ∙ ap (λ t. record { value = v; behind = t }) (sym (none_left left l)))
+
+-- What each reader leaves is a rest.
+rest_all : (s : List ℕ) → Rest s s
+rest_all s = record { front = []; split = refl }
+
+rest_on : {s t : List ℕ} (b : ℕ) → Rest s t → Rest (b ∷ s) t
+rest_on b r = record { front = b ∷ r.front; split = ap (λ l. b ∷ l) r.split }
+
+pub rest_dropped_front : (n : ℕ) (s : List ℕ) {t : List ℕ} → t ≡ drop n s → Rest s t
+rest_dropped_front n s e = record { front = take n s; split = sym (take-append-drop n s) ∙ ap (λ l. take n s ++ l) (sym e) }
+
+pub rest_further : {s t u : List ℕ} → Rest s t → Rest t u → Rest s u
+rest_further {u = u} p q =
+    record { front = p.front ++ q.front; split = p.split ∙ ap (λ l. p.front ++ l) q.split ∙ sym (append_assoc p.front q.front u) }
+
+rest_behind : {s t : List ℕ} {b : ℕ} → Rest s (b ∷ t) → Rest s t
+rest_behind {t = t} {b = b} r = record { front = r.front ++ (b ∷ []); split = r.split ∙ sym (append_assoc r.front (b ∷ []) t) }
+
+rest_comment : (s : List ℕ) → Rest s (after_comment s)
+unfolding after_comment
+rest_comment [] = rest_all []
+rest_comment (b ∷ s) = by (line_end b) (rest_comment s)
+  where
+    by : (x : Bool) → Rest s (after_comment s) → Rest (b ∷ s) (cond x (b ∷ s) (after_comment s))
+    by true r = rest_all (b ∷ s)
+    by false r = rest_on b r
+
+rest_blanks : (inside : Bool) (s : List ℕ) → Rest s (after_blanks inside s)
+unfolding after_blanks
+rest_blanks inside [] = rest_all []
+rest_blanks true (b ∷ s) = rest_on b (rest_blanks (not (line_end b)) s)
+rest_blanks false (b ∷ s) = by (gap_byte b) (rest_blanks (eqb b hash) s)
+  where
+    by : (x : Bool) → Rest s (after_blanks (eqb b hash) s) → Rest (b ∷ s) (cond x (after_blanks (eqb b hash) s) (b ∷ s))
+    by true r = rest_on b r
+    by false r = rest_all (b ∷ s)
+
+rest_digits : (v : ℕ) (s : List ℕ) → Rest s (number v s).behind
+unfolding number
+rest_digits v [] = rest_all []
+rest_digits v (b ∷ s) = by (digit b) (rest_digits (10 * v + (b - 48)) s)
+  where
+    by : (x : Bool) → Rest s (number (10 * v + (b - 48)) s).behind
+        → Rest (b ∷ s) (cond x (number (10 * v + (b - 48)) s) (record { value = v; behind = b ∷ s })).behind
+    by true r = rest_on b r
+    by false r = rest_all (b ∷ s)
+
+rest_blank : (s : List ℕ) → Rest s (last_blank s)
+unfolding last_blank
+rest_blank s = by (begins (λ b. eqb b hash) s)
+  where
+    by : (x : Bool) → Rest s (cond x (after_comment s) s)
+    by true = rest_comment s
+    by false = rest_all s
+
+rest_length : {s t : List ℕ} → Rest s t → length t ≤ length s
+rest_length {t = t} r = omega (arith, ap length r.split, length-append r.front t)
+
+pub comment_shorter : (s : List ℕ) → 1 ≤ length s → {t : List ℕ} → t ≡ after_comment (behind s) → length t < length s
+comment_shorter s l m = omega (arith, ap length m, rest_length (rest_comment (behind s)), ap length (first_and_behind s l))
+
+drop_front : (front s : List ℕ) → drop (length front) (front ++ s) ≡ s
+drop_front [] s = refl
+drop_front (b ∷ front) s = drop_front front s
+
+rest_dropped : {s t : List ℕ} → Rest s t → drop (length s - length t) s ≡ t
+rest_dropped {s} {t} r =
+    let many : length s - length t ≡ length r.front = omega (arith, ap length r.split, length-append r.front t) in
+    rw (many, r.split) (drop_front r.front t)
 
 -- A byte past the end is in no gap, no digit and no blank.
 no_gap_byte : gap_byte 0 ≡ false
@@ -168,76 +207,48 @@ no_digit_byte : digit 0 ≡ false
 unfolding digit
 no_digit_byte = refl
 
-no_blank_byte : blank 0 ≡ false
-unfolding blank line_end
-no_blank_byte = refl
+begins_first : (t : ℕ → Bool) → t 0 ≡ false → (s : List ℕ) → begins t s ≡ t (get_or s 0 0)
+unfolding begins
+begins_first t z [] = sym z
+begins_first t z (b ∷ s) = refl
 
--- A field.
-module _ (s : List ℕ) (at : ℕ) where
-  begins_gap : {b : Bool} {byte : ℕ} → byte ≡ get_or s at 0 → b ≡ gap_byte byte → begins gap_byte (drop at s) ≡ b
-  begins_gap r e = begins_left gap_byte no_gap_byte s at ∙ ap gap_byte (sym r) ∙ sym e
+-- A number.
+module _ (s : List ℕ) {a : Bool} {first : ℕ} (q : first ≡ get_or s 0 0) (f : a ≡ gap_byte first) where
+  begins_gap : begins gap_byte s ≡ a
+  begins_gap = begins_first gap_byte no_gap_byte s ∙ ap gap_byte (sym q) ∙ sym f
 
-  pub field_no_gap : {b : Bool} {byte : ℕ} → byte ≡ get_or s at 0 → b ≡ gap_byte byte → b ≡ false → FieldAt s at None
+  pub no_gap : a ≡ false → Missing s
   unfolding on_number
-  field_no_gap r e n = missing (λ go. rw (begins_gap r e ∙ n))
+  no_gap n = record { reads = λ go. rw (begins_gap ∙ n) }
 
-  module _ {from : ℕ} (m : Moved s at from (after_gap (drop at s))) where
-    begins_digit : {b : Bool} {byte : ℕ} → byte ≡ get_or s from 0 → b ≡ digit byte → begins digit (after_gap (drop at s)) ≡ b
-    begins_digit r e = ap (begins digit) (sym m.leaves) ∙ begins_left digit no_digit_byte s from ∙ ap digit (sym r) ∙ sym e
+  module _ {digits : List ℕ} {byte : ℕ} {b : Bool} (m : digits ≡ after_gap s) (r : byte ≡ get_or digits 0 0) (e : b ≡ digit byte) where
+    begins_digit : begins digit (after_gap s) ≡ b
+    begins_digit = ap (begins digit) (sym m) ∙ begins_first digit no_digit_byte digits ∙ ap digit (sym r) ∙ sym e
 
-    pub field_no_digit : {b : Bool} {byte : ℕ} → byte ≡ get_or s from 0 → b ≡ digit byte → b ≡ false → FieldAt s at None
+    pub no_digit : b ≡ false → Missing s
     unfolding on_number
-    field_no_digit r e n = missing (λ go. rw (begins_digit r e ∙ n, and-false (begins gap_byte (drop at s))))
+    no_digit n = record { reads = λ go. rw (begins_digit ∙ n, and-false (begins gap_byte s)) }
 
-    pub field_read : {a b : Bool} {first byte : ℕ} {d : Digits} → first ≡ get_or s at 0 → a ≡ gap_byte first → a ≡ true
-        → byte ≡ get_or s from 0 → b ≡ digit byte → b ≡ true → DigitsAt s from d → FieldAt s at (Some d)
-    unfolding on_number
-    field_read {d = d} q f y r e o D =
-        subst (λ v. FieldAt s at (Some (record { value = v; end = d.end }))) (sym D.worth)
-        (there (omega (arith, m.onward, D.moves.onward)) D.moves.within (λ go.
-        rw (begins_gap q f ∙ y, begins_digit r e ∙ o)
-        (ap (λ z. go (number 0 z).value (number 0 z).behind) (sym m.leaves) ∙ ap (go (number 0 (drop from s)).value) (sym D.moves.leaves))))
-
-pub record FieldThere (s : List ℕ) (at value end : ℕ) : Type 0 where
-  pub worth : ℕ
-  pub tells : value ≡ told worth
-  pub onward : at ≤ end
-  pub within : end ≤ length s
-  pub reads : (go : ℕ → List ℕ → GreyHeader) → on_number (drop at s) go ≡ go worth (drop end s)
-
-pub field_there : {s : List ℕ} {at : ℕ} {d : Digits} → FieldAt s at (Some d) → FieldThere s at d.value d.end
-field_there (there {v = v} l k r) = record { worth = v; tells = refl; onward = l; within = k; reads = r }
+    pub number_read : {value : ℕ} {behind : List ℕ} → a ≡ true → b ≡ true → (value ≡ told (number 0 digits).value) × (behind ≡ (number 0 digits).behind)
+        → ToldOf s value behind
+    unfolding on_number after_gap
+    number_read y o d =
+        record {
+          worth = (number 0 digits).value;
+          tells = d.0;
+          rest = rw (d.1, m) (rest_further (rest_blanks false s) (rest_digits 0 (after_gap s)));
+          reads = λ go. rw (begins_gap ∙ y, begins_digit ∙ o, d.1, m);
+        }
 
 -- The end of a header.
-module _ (s : List ℕ) (at : ℕ) where
-  begins_hash : {byte : ℕ} → byte ≡ get_or s at 0 → begins (λ b. eqb b hash) (drop at s) ≡ eqb byte hash
-  begins_hash r = begins_left (λ b. eqb b hash) refl s at ∙ ap (λ x. eqb x hash) (sym r)
+pub last_comment : (s : List ℕ) {t : List ℕ} {byte : ℕ} → byte ≡ get_or s 0 0 → byte ≡ hash → t ≡ after_comment s → t ≡ last_blank s
+unfolding last_blank
+last_comment s {t} {byte} e h m = m ∙ sym (rw (begins_first (λ b. eqb b hash) refl s ∙ ap (λ x. eqb x hash) (sym e) ∙ eq-eqb byte hash h))
 
-  pub last_comment : {byte r : ℕ} → byte ≡ get_or s at 0 → byte ≡ hash → Moved s at r (after_comment (drop at s)) → Moved s at r (last_blank (drop at s))
-  unfolding last_blank
-  last_comment {byte} e h m =
-      record { onward = m.onward; within = m.within; leaves = m.leaves ∙ sym (rw (begins_hash e ∙ eq-eqb byte hash h)) }
+pub last_here : (s : List ℕ) {byte : ℕ} → byte ≡ get_or s 0 0 → ¬ (byte ≡ hash) → s ≡ last_blank s
+unfolding last_blank
+last_here s {byte} e n = sym (rw (begins_first (λ b. eqb b hash) refl s ∙ ap (λ x. eqb x hash) (sym e) ∙ ne_eqb byte hash n))
 
-  pub last_here : {byte : ℕ} → byte ≡ get_or s at 0 → ¬ (byte ≡ hash) → at ≤ length s → Moved s at at (last_blank (drop at s))
-  unfolding last_blank
-  last_here {byte} e n l = record { onward = omega arith; within = l; leaves = sym (rw (begins_hash e ∙ ne_eqb byte hash n)) }
-
-  module _ {last byte : ℕ} {b : Bool} (m : Moved s at last (last_blank (drop at s))) (r : byte ≡ get_or s last 0) (e : b ≡ blank byte) where
-    begins_blank : begins blank (last_blank (drop at s)) ≡ b
-    begins_blank = ap (begins blank) (sym m.leaves) ∙ begins_left blank no_blank_byte s last ∙ ap blank (sym r) ∙ sym e
-
-    pub end_missing : {width height : ℕ} → b ≡ false → EndTold s width height at None
-    unfolding on_end
-    end_missing n w h p q = rw (begins_blank ∙ n) no_header_lem
-
-    pub end_within : b ≡ true → last + 1 ≤ length s
-    end_within y = omega (arith, byte_within blank no_blank_byte s last (ap blank (sym r) ∙ sym e ∙ y))
-
-    end_read : b ≡ true → (w h : ℕ) → on_end (drop at s) (λ e. header w h e) ≡ header w h (drop (last + 1) s)
-    unfolding on_end
-    end_read y w h = rw (begins_blank ∙ y, ← m.leaves) (ap (header w h) (drop-drop 1 last s))
-
--- The pixels: the numbers told are as good as the numbers.
 -- a product with a number that can't be told is over every number that can
 over_told : (w h n : ℕ) → n < greatest_told → greatest_told < w → told w * told h ≤ n → told h ≡ 0
 unfolding told
@@ -267,74 +278,104 @@ told_product w h n l k = cases (dec_le w greatest_told) (dec_le h greatest_told)
         let y : w ≡ 0 = omega arith in
         rw y (omega arith)
 
-module _ {s : List ℕ} {at last byte : ℕ} {b x : Bool} {width height : ℕ} (m : Moved s at last (last_blank (drop at s))) (r : byte ≡ get_or s last 0)
-    (e : b ≡ blank byte) (y : b ≡ true) (f : x ≡ leb (width * height) (length s - (last + 1))) where
-  pub end_all : x ≡ true → length s - (last + 1) < greatest_told → EndTold s width height at (Some (record { w = width; h = height; at = last + 1 }))
-  end_all t l w h p q =
-      let k : told w * told h ≤ length s - (last + 1) = rw (← p, ← q) (leb-true _ _ (sym f ∙ t)) in
-      rw (end_read s at m r e y w h, p, q) (all_there {w = w} {h = h} (end_within s at m r e y) (told_product w h _ l k))
+module _ (file s : List ℕ) (width height : ℕ) {last : List ℕ} (e : last ≡ last_blank s) where
+  pub end_cut : length last < 1 → EndTold file width height s None
+  unfolding on_end begins
+  end_cut l w h p q = let none = sym e ∙ none_left last l in rw none no_header_lem
 
-  pub end_short : x ≡ false → EndTold s width height at None
-  unfolding told
-  end_short t w h p q =
-      let k : length s - (last + 1) < told w * told h = rw (← p, ← q) (leb-false _ _ (sym f ∙ t)) in
-      let g : told w * told h ≤ w * h = mul-le-mul {n₁ = told w} {m₁ = told h} {n₂ = w} {m₂ = h} (omega arith) (omega arith) in
-      rw (end_read s at m r e y w h) (too_short {w = w} {h = h} (end_within s at m r e y) (omega arith))
+  module _ (l : 1 ≤ length last) {a : Bool} (f : a ≡ blank (get_or last 0 0)) where
+    whole : last_blank s ≡ get_or last 0 0 ∷ behind last
+    whole = sym e ∙ first_and_behind last l
 
--- The maxval.
-module _ {s : List ℕ} {width height at greatest behind : ℕ} {r : Option Picture} (F : FieldThere s at greatest behind) where
-  pub greatest_right : greatest ≡ greatest_pixel → EndTold s width height behind r → GreatestTold s width height at r
-  unfolding told
-  greatest_right e E w h p q =
-      let v : F.worth ≡ greatest_pixel = omega (arith, F.tells) in
-      rw (F.reads (λ g d. cond (eqb g greatest_pixel) (on_end d (λ e. header w h e)) no_header), eq-eqb F.worth greatest_pixel v) (E w h p q)
+    pub end_missing : a ≡ false → EndTold file width height s None
+    unfolding on_end begins
+    end_missing n w h p q = rw (whole, sym f ∙ n) no_header_lem
 
-module _ {s : List ℕ} {width height at greatest behind : ℕ} (F : FieldThere s at greatest behind) where
-  pub greatest_wrong : ¬ (greatest ≡ greatest_pixel) → GreatestTold s width height at None
-  unfolding told
-  greatest_wrong n w h p q =
-      let other : ¬ (F.worth ≡ greatest_pixel) = λ e. n (omega (arith, F.tells)) in
-      rw (F.reads (λ g d. cond (eqb g greatest_pixel) (on_end d (λ e. header w h e)) no_header), ne_eqb F.worth greatest_pixel other)
-      no_header_lem
+    module _ (r : Rest file s) where
+      pixels_rest : Rest file (behind last)
+      pixels_rest = rest_behind (rest_further r (subst (λ t. Rest s t) whole (rest_blank s)))
 
--- A field that is missing, whatever was to come.
-pub missing_told : {s : List ℕ} {at : ℕ} → FieldAt s at None → (go : ℕ → List ℕ → GreyHeader) → Tells s (on_number (drop at s) go) None
-missing_told (missing n) go = rw (n go) no_header_lem
+      pub pixels_within : length (behind last) ≤ length file
+      pixels_within = rest_length pixels_rest
 
-pub greatest_missing : {s : List ℕ} {width height at : ℕ} → FieldAt s at None → GreatestTold s width height at None
-greatest_missing f w h p q = missing_told f _
+      module _ (y : a ≡ true) {x : Bool} (g : x ≡ leb (width * height) (length (behind last))) where
+        abbrev at : ℕ
+        at = length file - length (behind last)
+
+        found : (w h : ℕ) → on_end s (λ e. header w h e) ≡ header w h (drop at file)
+        unfolding on_end begins
+        found w h = rw (whole, sym f ∙ y) (ap (header w h) (sym (rest_dropped pixels_rest)))
+
+        pub end_all : x ≡ true → length (behind last) < greatest_told → EndTold file width height s (Some (record { w = width; h = height; at = at }))
+        end_all t u w h p q =
+            let many : length file - at ≡ length (behind last) = omega (arith, pixels_within) in
+            let k : told w * told h ≤ length (behind last) = rw (← p, ← q) (leb-true _ _ (sym g ∙ t)) in
+            rw (found w h, p, q) (all_there {w = w} {h = h} {at = at} (omega arith) (rw many (told_product w h _ u k)))
+
+        pub end_short : x ≡ false → EndTold file width height s None
+        unfolding told
+        end_short t w h p q =
+            let k : length (behind last) < told w * told h = rw (← p, ← q) (leb-false _ _ (sym g ∙ t)) in
+            let m : told w * told h ≤ w * h = mul-le-mul {n₁ = told w} {m₁ = told h} {n₂ = w} {m₂ = h} (omega arith) (omega arith) in
+            rw (found w h) (too_short {w = w} {h = h} {at = at} (omega arith) (omega (arith, pixels_within)))
+
+both_true : (x : Bool) → x && true ≡ x
+both_true true = refl
+both_true false = refl
 
 -- The whole header.
-module _ (s : List ℕ) {a : Bool} (e : a ≡ is_p5 s) where
-  pub not_p5 : a ≡ false → Tells s (read_grey s) None
+pub p5 : (s : List ℕ) {x : Bool} → pointwise eqb (take 2 s) (80 ∷ 53 ∷ []) ≡ x → is_p5 s ≡ x
+unfolding is_p5
+p5 [] e = e
+p5 (a ∷ []) e = e
+p5 (a ∷ b ∷ s) e = ap (λ x. eqb a 80 && x) (sym (both_true (eqb b 53))) ∙ e
+
+abbrev on_greatest : ℕ → ℕ → ℕ → List ℕ → GreyHeader
+on_greatest w h greatest d = cond (eqb greatest greatest_pixel) (on_end d (λ e. header w h e)) no_header
+
+abbrev from_height : ℕ → List ℕ → GreyHeader
+from_height w b = on_number b (λ h c. on_number c (on_greatest w h))
+
+missing_told : {file s : List ℕ} → Missing s → (go : ℕ → List ℕ → GreyHeader) → Tells file (on_number s go) None
+missing_told n go = rw (n.reads go) no_header_lem
+
+module _ (s : List ℕ) where
+  pub not_p5 : is_p5 s ≡ false → Tells s (read_grey s) None
   unfolding read_grey on_magic
-  not_p5 n = rw (sym e ∙ n) no_header_lem
+  not_p5 n = rw n no_header_lem
 
-  module _ (y : a ≡ true) where
-    pub p5_within : 2 ≤ length s
-    unfolding is_p5
-    p5_within = byte_within (λ b. eqb b 53) refl s 1 (both_right (eqb (get_or s 0 0) 80) _ (sym e ∙ y))
-
-    abbrev from_height : ℕ → List ℕ → GreyHeader
-    from_height w b =
-        on_number b (λ h c. on_number c (λ greatest d. cond (eqb greatest greatest_pixel) (on_end d (λ e. header w h e)) no_header))
-
-    behind_p5 : {r : Option Picture} → Tells s (on_number (drop 2 s) from_height) r → Tells s (read_grey s) r
+  module _ (y : is_p5 s ≡ true) {sides : List ℕ} (d : sides ≡ drop 2 s) (split : Rest s sides) where
+    behind_p5 : {r : Option Picture} → Tells s (on_number sides from_height) r → Tells s (read_grey s) r
     unfolding read_grey on_magic
-    behind_p5 t = rw (sym e ∙ y) t
+    behind_p5 t = rw (y, ← d) t
 
-    pub no_width : FieldAt s 2 None → Tells s (read_grey s) None
-    no_width f = behind_p5 (missing_told f from_height)
+    pub no_width : Missing sides → Tells s (read_grey s) None
+    no_width n = behind_p5 (missing_told n from_height)
 
-    module _ {width behind : ℕ} (W : FieldThere s 2 width behind) where
-      behind_width : {r : Option Picture} → Tells s (from_height W.worth (drop behind s)) r → Tells s (read_grey s) r
-      behind_width t = behind_p5 (rw (W.reads from_height) t)
+    module _ {width : ℕ} {b : List ℕ} (W : ToldOf sides width b) where
+      pub no_height : Missing b → Tells s (read_grey s) None
+      no_height n = behind_p5 (rw (W.reads from_height) (missing_told n _))
 
-      pub no_height : FieldAt s behind None → Tells s (read_grey s) None
-      no_height f = behind_width (missing_told f _)
+      module _ {height : ℕ} {c : List ℕ} (H : ToldOf b height c) where
+        behind_height : {r : Option Picture} → Tells s (on_number c (on_greatest W.worth H.worth)) r → Tells s (read_grey s) r
+        behind_height t = behind_p5 (rw (W.reads from_height, H.reads (λ h c. on_number c (on_greatest W.worth h))) t)
 
-      pub sides_read : {height at : ℕ} {r : Option Picture} → FieldThere s behind height at → GreatestTold s width height at r → Tells s (read_grey s) r
-      sides_read H g =
-          behind_width
-          (rw (H.reads (λ h c. on_number c (λ greatest d. cond (eqb greatest greatest_pixel) (on_end d (λ e. header W.worth h e)) no_header)))
-          (g W.worth H.worth W.tells H.tells))
+        pub no_greatest : Missing c → Tells s (read_grey s) None
+        no_greatest n = behind_height (missing_told n _)
+
+        module _ {greatest : ℕ} {e : List ℕ} (G : ToldOf c greatest e) where
+          pub rest_of_file : Rest s e
+          rest_of_file = rest_further split (rest_further W.rest (rest_further H.rest G.rest))
+
+          pub greatest_wrong : ¬ (greatest ≡ greatest_pixel) → Tells s (read_grey s) None
+          unfolding told
+          greatest_wrong n =
+              let other : ¬ (G.worth ≡ greatest_pixel) = λ x. n (omega (arith, G.tells)) in
+              behind_height (rw (G.reads (on_greatest W.worth H.worth), ne_eqb G.worth greatest_pixel other) no_header_lem)
+
+          pub greatest_right : greatest ≡ greatest_pixel → {r : Option Picture} → EndTold s width height e r → Tells s (read_grey s) r
+          unfolding told
+          greatest_right n t =
+              let v : G.worth ≡ greatest_pixel = omega (arith, G.tells) in
+              behind_height
+              (rw (G.reads (on_greatest W.worth H.worth), eq-eqb G.worth greatest_pixel v) (t W.worth H.worth W.tells H.tells))

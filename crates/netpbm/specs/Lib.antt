@@ -1,3 +1,3 @@
 pub mod Told
-pub mod Places
+pub mod Rests
 pub mod Wrote

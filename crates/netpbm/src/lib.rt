@@ -1,28 +1,21 @@
 // Binary grey files: the header of a file read, and that of a picture written.
 #![tactic(auto)]
 
-ghost use Rattle.std.specs.Prelude.{◌≡◌, true, ◌+◌, ◌-◌, ◌*◌, ◌^◌, ◌≤◌, ◌<◌, leb, length, get_or, drop};
-ghost use Rattle.pictures.specs.Document.Netpbm.{line_end, blank, gap_byte, digit, after_comment, after_gap, is_p5};
+ghost use Rattle.std.specs.Prelude.{◌≡◌, true, ◌+◌, ◌-◌, ◌*◌, ◌^◌, ◌≤◌, ◌<◌, leb, length, get_or, MatchOption};
+ghost use Rattle.pictures.specs.Document.Netpbm.{line_end, blank, gap_byte, digit, after_comment, after_gap, number};
 ghost use Rattle.pictures.specs.Document.Netpbm.{last_blank, read_grey, told, decimal, grey_lines};
-ghost use Rattle.netpbm.specs.Places.{Moved, DigitsAt, FieldAt, EndTold, GreatestTold};
+ghost use Rattle.netpbm.specs.Rests.{Rest, ToldOf, Missing, EndTold};
 ghost use Rattle.netpbm.specs.Told.{Tells};
 ghost use Rattle.netpbm.specs.Wrote.{Wrote, width_line, side_lines};
 
 use pictures::Picture;
 use rules::Size;
 
-// Digits read: what they are worth, usize::MAX where it is more, and the place behind them.
-#[derive(Clone, Copy)]
-pub struct Digits {
-    pub value: usize,
-    pub end: usize,
-}
-
-// Past the end of the file it is 0, which no header has.
-fn byte_at(file: &[u8], at: usize) -> u8
-    ensures { result ≡ get_or file.now at 0 }
+// What begins some bytes; with none there it is 0, which no header has.
+fn first_of(rest: &[u8]) -> u8
+    ensures { result ≡ get_or rest.now 0 0 }
 {
-    file.get(at).copied().unwrap_or(0)
+    rest.first().copied().unwrap_or(0)
 }
 
 #[tactic(auto, unfolding(pictures::specs::Document::Netpbm::line_end))]
@@ -53,40 +46,36 @@ fn is_digit(b: u8) -> bool
     b.is_ascii_digit()
 }
 
-#[tactic(auto, unfolding(pictures::specs::Document::Netpbm::is_p5))]
-fn is_p5(file: &[u8]) -> bool
-    ensures { result ≡ is_p5 file.now }
-{
-    file.starts_with(b"P5")
-}
-
 // From inside a comment to the line end behind it.
-fn past_comment(file: &[u8], at: usize) -> usize
-    requires { at ≤ length file.now }
-    ensures { Moved file.now at result (after_comment (drop at file.now)) }
+fn past_comment(bytes: &[u8]) -> &[u8]
+    ensures { result.now ≡ after_comment bytes.now }
 {
-    for i in at..file.len() {
-        if is_line_end(file[i]) {
-            return i;
+    let mut rest = bytes;
+    while let [b, behind @ ..] = rest {
+        if is_line_end(*b) {
+            break;
         }
+        rest = behind;
     }
-    file.len()
+    rest
 }
 
-// Past all blanks and comments. A `while`, as a comment is passed in one step.
-fn past_gap(file: &[u8], at: usize) -> usize
-    requires { at ≤ length file.now }
-    ensures { Moved file.now at result (after_gap (drop at file.now)) }
+// Past all blanks and comments.
+fn past_gap(bytes: &[u8]) -> &[u8]
+    ensures { result.now ≡ after_gap bytes.now }
 {
-    let mut i = at;
-    while i < file.len() && in_gap(file[i]) {
-        i = if file[i] == b'#' {
-            past_comment(file, i + 1)
+    let mut rest = bytes;
+    while let [b, behind @ ..] = rest {
+        if !in_gap(*b) {
+            break;
+        }
+        rest = if *b == b'#' {
+            past_comment(behind)
         } else {
-            i + 1
+            behind
         };
     }
-    i
+    rest
 }
 
 // A value with one digit more, where that can be told.
@@ -106,48 +95,44 @@ fn digit_of(b: u8) -> usize
     (b - b'0') as usize
 }
 
-// By hand: `parse` has no answer for a number that is told as the greatest.
-fn read_digits(file: &[u8], at: usize) -> Digits
-    requires { at ≤ length file.now }
-    ensures { DigitsAt file.now at result }
+// What digits are worth, and what is behind them. By hand: `parse` has no answer for a number that is told as the greatest.
+fn read_digits(bytes: &[u8]) -> (usize, &[u8])
+    ensures { (result.0 ≡ told (number 0 bytes.now).value) × (result.1.now ≡ (number 0 bytes.now).behind) }
 {
+    let mut rest = bytes;
     let mut value = 0;
-    for i in at..file.len() {
-        if !is_digit(file[i]) {
-            return Digits { value, end: i };
+    while let [b, behind @ ..] = rest {
+        if !is_digit(*b) {
+            break;
         }
-        value = with_digit(value, digit_of(file[i]));
+        value = with_digit(value, digit_of(*b));
+        rest = behind;
     }
-    Digits {
-        value,
-        end: file.len(),
-    }
+    (value, rest)
 }
 
 // A gap and a number behind it.
-fn read_field(file: &[u8], at: usize) -> Option<Digits>
-    requires { at ≤ length file.now }
-    ensures { FieldAt file.now at result }
+fn read_number(rest: &[u8]) -> Option<(usize, &[u8])>
+    ensures { MatchOption result (Missing rest.now) (λ n. ToldOf rest.now n.0 n.1.now) }
 {
-    if !in_gap(byte_at(file, at)) {
+    if !in_gap(first_of(rest)) {
         return None;
     }
-    let from = past_gap(file, at);
-    if !is_digit(byte_at(file, from)) {
+    let digits = past_gap(rest);
+    if !is_digit(first_of(digits)) {
         return None;
     }
-    Some(read_digits(file, from))
+    Some(read_digits(digits))
 }
 
 // To the one blank behind the maxval: past a comment that stands there.
-fn last_blank(file: &[u8], at: usize) -> usize
-    requires { at ≤ length file.now }
-    ensures { Moved file.now at result (last_blank (drop at file.now)) }
+fn last_blank(rest: &[u8]) -> &[u8]
+    ensures { result.now ≡ last_blank rest.now }
 {
-    if byte_at(file, at) == b'#' {
-        past_comment(file, at)
+    if first_of(rest) == b'#' {
+        past_comment(rest)
     } else {
-        at
+        rest
     }
 }
 
@@ -159,42 +144,34 @@ fn are_there(width: usize, height: usize, bytes: usize) -> bool
 }
 
 // The end of a header whose numbers were read, and the pixels behind it.
-fn read_end(file: &[u8], w: usize, h: usize, at: usize) -> Option<Picture>
-    requires { at ≤ length file.now }
-    ensures { EndTold file.now w h at result }
+fn read_end(file: &[u8], w: usize, h: usize, rest: &[u8]) -> Option<Picture>
+    requires { Rest file.now rest.now }
+    ensures { EndTold file.now w h rest.now result }
 {
-    let last = last_blank(file, at);
-    if !is_blank(byte_at(file, last)) {
+    let [b, pixels @ ..] = last_blank(rest) else {
+        return None;
+    };
+    if !is_blank(*b) {
         return None;
     }
-    let pixels = last + 1;
-    if !are_there(w, h, file.len() - pixels) {
+    if !are_there(w, h, pixels.len()) {
         return None;
     }
-    Some(Picture { w, h, at: pixels })
-}
-
-// From the maxval on.
-fn read_greatest(file: &[u8], w: usize, h: usize, at: usize) -> Option<Picture>
-    requires { at ≤ length file.now }
-    ensures { GreatestTold file.now w h at result }
-{
-    let greatest = read_field(file, at)?;
-    if greatest.value != 255 {
-        return None;
-    }
-    read_end(file, w, h, greatest.end)
+    let at = file.len() - pixels.len();
+    Some(Picture { w, h, at })
 }
 
 pub fn read_grey(file: &[u8]) -> Option<Picture>
     ensures { Tells file.now (read_grey file.now) result }
 {
-    if !is_p5(file) {
+    let sides = file.strip_prefix(b"P5")?;
+    let (w, rest) = read_number(sides)?;
+    let (h, rest) = read_number(rest)?;
+    let (greatest, rest) = read_number(rest)?;
+    if greatest != 255 {
         return None;
     }
-    let width = read_field(file, 2)?;
-    let height = read_field(file, width.end)?;
-    read_greatest(file, width.value, height.value, height.end)
+    read_end(file, w, h, rest)
 }
 
 // Writes a number from a place on, as far as the slice reaches, and answers the place after it. By hand: what doesn't fit is left out and still counted.

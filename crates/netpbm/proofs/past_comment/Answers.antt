@@ -1,13 +1,12 @@
-use Rattle.netpbm.proofs.Laws.{comment_on, comment_ends, comment_out}
-use native.Mathlib.Omega.{arith}
-use borrow.Author.Rules.{rules}
+use mathlib.Core.Path.{◌∙◌}
+use Rattle.netpbm.proofs.Laws.{comment_on, comment_ends, comment_none}
 use Rattle.netpbm.proofs.past_comment.Goals as goal
 
+pub loop-rest-preserved : goal.loop-rest-preserved
+loop-rest-preserved c = comment_on _ c.in-len1-up.len_at_least c.is_line_end.ensures c.if-is_line_end.false ∙ c.loop-rest.invariant
+
+pub returns-in_default : goal.returns-in_default
+returns-in_default c = comment_none _ c.in_default.len_below ∙ c.loop-rest.invariant
+
 pub returns-then-is_line_end : goal.returns-then-is_line_end
-returns-then-is_line_end c = search (rules, comment_ends)
-
-pub loop-i-preserved : goal.loop-i-preserved
-loop-i-preserved c = search (rules, comment_on)
-
-pub returns : goal.returns
-returns c = comment_out c.loop-i.invariant (omega arith)
+returns-then-is_line_end c = comment_ends _ c.in-len1-up.len_at_least c.is_line_end.ensures c.if-is_line_end.true ∙ c.loop-rest.invariant

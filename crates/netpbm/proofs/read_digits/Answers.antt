@@ -1,16 +1,18 @@
 use Rattle.netpbm.proofs.Laws.{counting_begins, counting_on, counting_ends, counting_out}
-use borrow.Author.Rules.{rules}
-use native.Mathlib.Omega.{arith}
+use Rattle.netpbm.proofs.read_digits.Goals.{in_default, in-len1-up+then-not-is_digit}
 use Rattle.netpbm.proofs.read_digits.Goals as goal
 
-pub loop-i-init : goal.loop-i-init
-loop-i-init c = search (rules, counting_begins)
+pub loop-rest-init : goal.loop-rest-init
+loop-rest-init c = counting_begins
 
-pub returns-then-not-is_digit : goal.returns-then-not-is_digit
-returns-then-not-is_digit c = search (rules, counting_ends)
-
-pub loop-i-preserved : goal.loop-i-preserved
-loop-i-preserved c = search (rules, counting_on)
+pub loop-rest-preserved : goal.loop-rest-preserved
+loop-rest-preserved c =
+    counting_on c.loop-rest.invariant c.in-len1-up.len_at_least c.is_digit.ensures c.if-not-is_digit.false c.digit_of.ensures.0 c.with_digit-value.ensures
 
 pub returns : goal.returns
-returns c = counting_out c.loop-i.invariant (omega arith)
+returns c =
+    elim c.if-rest-lt1.branch [
+      | in_default w ↦ counting_out c.loop-rest.invariant w.in_default.len_below
+      | in-len1-up+then-not-is_digit w ↦
+          counting_ends c.loop-rest.invariant w.in-len1-up.len_at_least w.is_digit.ensures w.if-not-is_digit.true
+    ]

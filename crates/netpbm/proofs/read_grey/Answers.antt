@@ -1,23 +1,39 @@
-use Rattle.netpbm.proofs.Laws.{field_there, not_p5, p5_within, no_width, no_height, sides_read}
-use borrow.Author.Rules.{rules}
+use Rattle.netpbm.proofs.Laws.{p5, not_p5, rest_dropped_front, no_width, no_height, no_greatest, rest_of_file, greatest_wrong, greatest_right}
 use Rattle.netpbm.proofs.read_grey.Goals as goal
 
-pub returns-then-not-is_p5 : goal.returns-then-not-is_p5
-returns-then-not-is_p5 c = search (rules, not_p5)
+pub returns-in_err-sides : goal.returns-in_err-sides
+returns-in_err-sides c = rw c.from_residual.ensures (not_p5 _ (p5 _ c.in_err-sides.ensures.cases))
 
-pub read_field-requires : goal.read_field-requires
-read_field-requires c = search (rules, p5_within)
+pub returns-in_err-w : goal.returns-in_err-w
+returns-in_err-w c =
+    let sides = c.in_ok-sides.ensures.cases in
+    rw c.from_residual-in_err-w.ensures (no_width _ (p5 _ sides.0) sides.1 (rest_dropped_front 2 _ sides.1) c.in_err-w.ensures)
 
-pub returns-in_err-width : goal.returns-in_err-width
-returns-in_err-width c = rw c.from_residual.ensures (no_width _ c.is_p5.ensures c.if-not-is_p5.false c.in_err-width.ensures)
+pub returns-in_err-h : goal.returns-in_err-h
+returns-in_err-h c =
+    let sides = c.in_ok-sides.ensures.cases in
+    rw c.from_residual-in_err-h.ensures
+    (no_height _ (p5 _ sides.0) sides.1 (rest_dropped_front 2 _ sides.1) c.in_ok-w.ensures c.in_err-h.ensures)
 
-pub returns-in_err-height : goal.returns-in_err-height
-returns-in_err-height c =
-    let W = field_there c.in_ok-width.ensures in
-    rw c.from_residual-in_err-height.ensures (no_height _ c.is_p5.ensures c.if-not-is_p5.false W c.in_err-height.ensures)
+pub returns-in_err-greatest : goal.returns-in_err-greatest
+returns-in_err-greatest c =
+    let sides = c.in_ok-sides.ensures.cases in
+    rw c.from_residual-in_err-greatest.ensures
+    (no_greatest _ (p5 _ sides.0) sides.1 (rest_dropped_front 2 _ sides.1) c.in_ok-w.ensures c.in_ok-h.ensures c.in_err-greatest.ensures)
+
+pub returns-then-greatest-ne255 : goal.returns-then-greatest-ne255
+returns-then-greatest-ne255 c =
+    let sides = c.in_ok-sides.ensures.cases in
+    greatest_wrong _ (p5 _ sides.0) sides.1 (rest_dropped_front 2 _ sides.1) c.in_ok-w.ensures c.in_ok-h.ensures c.in_ok-greatest.ensures
+    c.if-greatest-ne255.true
+
+pub read_end-requires : goal.read_end-requires
+read_end-requires c =
+    let sides = c.in_ok-sides.ensures.cases in
+    rest_of_file _ (p5 _ sides.0) sides.1 (rest_dropped_front 2 _ sides.1) c.in_ok-w.ensures c.in_ok-h.ensures c.in_ok-greatest.ensures
 
 pub returns : goal.returns
 returns c =
-    let W = field_there c.in_ok-width.ensures in
-    let H = field_there c.in_ok-height.ensures in
-    sides_read _ c.is_p5.ensures c.if-not-is_p5.false W H c.read_greatest.ensures
+    let sides = c.in_ok-sides.ensures.cases in
+    greatest_right _ (p5 _ sides.0) sides.1 (rest_dropped_front 2 _ sides.1) c.in_ok-w.ensures c.in_ok-h.ensures c.in_ok-greatest.ensures
+    c.if-greatest-ne255.false c.read_end.ensures
