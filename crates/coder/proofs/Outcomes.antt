@@ -1,5 +1,5 @@
 -- What the coder answers: what the input is refused for, and the length against the room.
-use Rattle.std.specs.Prelude.{Ok, Err, is_err, ⊤}
+use Rattle.std.specs.Prelude.{Ok, Err, ⊤}
 use Rattle.std.specs.Prelude.{Result as Returned}
 use mathlib.Core.Path.{◌≡◌, refl, sym, ap, subst, ◌∙◌}
 use mathlib.Core.List.{List}
@@ -19,11 +19,11 @@ use Rattle.rules.proofs.Laws.Family.Sizes.{area_bound}
 use Rattle.rules.specs.declared.Size.{Size}
 use Rattle.rules.specs.declared.Refusal.{Refusal}
 use Rattle.rules.specs.declared.Refusal.TheVariants as refusal
-use Rattle.rules.specs.Document.Numbers.{Verdict, Accepted, Refused}
+use Rattle.rules.specs.Document.Numbers.{Accepted}
 use Rattle.rules.specs.Document.Notation.{zeros}
 use Rattle.rules.specs.Document.Pyramid.{legal_size, area, most_magnitude}
 use Rattle.rules.specs.Document.Layout.{record_of}
-use Rattle.rules.specs.Document.Calls.{Result, refused, accepted, unless, work_for, first_over, fitted, coding, Coded, code_out, code_answer, Coding}
+use Rattle.rules.specs.Document.Calls.{Result, refused, unless, work_for, first_over, fitted, coding, code_out, code_answer}
 use Rattle.rules.specs.Document.Answers.{as_coded}
 use Rattle.rules.proofs.Laws.Bytes.Output.{filled_sets}
 use Rattle.coder.specs.Writing.{Answered, judged_input, Given, Stored}
@@ -75,56 +75,31 @@ module _ (pyramid : List ℤ) (z : Size) where
 
   -- what is answered: n is the length of the workspace
   module _ (n : ℕ) where
-    pub accepted_answered : {out out' : List ℕ} {answer : Returned ℕ Refusal} → Ok tt ≡ judged_input pyramid z n
+    pub accepted_answered : (out out' : List ℕ) (answer : Returned ℕ Refusal) → Ok tt ≡ judged_input pyramid z n
         → Answered (fitted (record_of z pyramid) (length out)) out answer out' → Answered (coding pyramid z (length out) n) out answer out'
     unfolding ruled
-    accepted_answered {out} {out'} {answer} e h =
+    accepted_answered out out' answer e h =
         let x : Result (List ℕ) = fitted (record_of z pyramid) (length out) in
         subst (λ (y : Result (List ℕ)). Answered y out answer out') (ap (λ v. ruled v x) e ∙ sym (coding_ruled (length out) n)) h
 
-    pub refusal_answered : (out out' : List ℕ) (r : Refusal) → Err r ≡ judged_input pyramid z n
-        → Answered (coding pyramid z (length out) n) out (Err r) out'
-    unfolding ruled as_coded code_answer
-    refusal_answered out out' r e =
-        let x : Result (List ℕ) = fitted (record_of z pyramid) (length out) in
-        subst (λ (y : Result (List ℕ)). Answered y out (Err r) out') (ap (λ v. ruled v x) e ∙ sym (coding_ruled (length out) n))
-        (record { answers = refl; writes = tt })
-
-  -- code: what is refused leaves nothing in the output.
-  refused_blank : (x : Result (List ℕ)) (room : ℕ) (r : Refusal) → as_coded (Err r) ≡ code_answer x → code_out room x ≡ zeros room
-  unfolding as_coded code_answer code_out
-  refused_blank (refused _) room r e = refl
-  refused_blank (accepted _) room r e = let v : ◌≡◌ {A = Verdict} (Refused r) Accepted = ap (λ (a : Coded). a.verdict) e in clash (cc)
-
-  module _ {out out' work work' : List ℕ} (c : work' ≡ zeros (length work)) where
-    pub accepted_code : (answer : Returned ℕ Refusal) → is_err answer ≡ false → Answered (coding pyramid z (length out) (length work)) out answer out'
-        → Coding pyramid z out work (as_coded answer) out' work'
-    accepted_code (Ok n) i a = record { answers = a.answers; writes = a.writes; clears = c }
-    accepted_code (Err r) i a = clash (cc)
-
-    pub refused_code : {since : List ℕ} → out' ≡ zeros (length out) → (answer : Returned ℕ Refusal) → is_err answer ≡ true
-        → Answered (coding pyramid z (length out) (length work)) out answer since → Coding pyramid z out work (as_coded answer) out' work'
-    refused_code b (Ok n) i a = clash (cc)
-    refused_code b (Err r) i a = record { answers = a.answers; writes = b ∙ sym (refused_blank _ (length out) r a.answers); clears = c }
+    pub refusal_answered : (room : ℕ) (r : Refusal) → Err r ≡ judged_input pyramid z n → coding pyramid z room n ≡ refused r
+    unfolding ruled
+    refusal_answered room r e = coding_ruled room n ∙ ap (λ v. ruled v (fitted (record_of z pyramid) room)) (sym e)
 
   -- code_fitted: the length decides.
   module _ (out : List ℕ) {end : ℕ} {out' : List ℕ} (h : Stored (zeros (length out)) 0 (record_of z pyramid) end out') where
     room : length out' ≡ length out
     room = stored_room out h
 
-    pub fitted_refused : length out' < end → Answered (fitted (record_of z pyramid) (length out)) out (Err refusal.Room) out'
-    unfolding fitted unless as_coded code_answer
-    fitted_refused l =
-        let t : leb (length (record_of z pyramid)) (length out) ≡ false =
-        lt-leb (length (record_of z pyramid)) (length out) (omega (arith, h.place, room)) in
-        rw t (record { answers = refl; writes = tt })
+    pub fitted_refused : length out' < end → fitted (record_of z pyramid) (length out) ≡ refused refusal.Room
+    unfolding fitted unless
+    fitted_refused l = rw (lt-leb (length (record_of z pyramid)) (length out) (omega (arith, h.place, room)))
 
     pub fitted_accepted : end ≤ length out' → Answered (fitted (record_of z pyramid) (length out)) out (Ok end) out'
     unfolding fitted unless as_coded code_answer code_out
     fitted_accepted l =
         let m : length (record_of z pyramid) ≤ length out = omega (arith, h.place, room) in
-        rw (le-leb _ _ m)
-        (record {
-          answers = ap (λ n. record { verdict = Accepted; length = n }) (h.place ∙ zero-add (length (record_of z pyramid)));
-          writes = h.stores ∙ filled_sets (length out) (record_of z pyramid) m;
-        })
+        rw (le-leb _ _ m) (
+          ap (λ n. record { verdict = Accepted; length = n }) (h.place ∙ zero-add (length (record_of z pyramid))),
+          h.stores ∙ filled_sets (length out) (record_of z pyramid) m,
+        )

@@ -1,5 +1,5 @@
 -- The stages of writing a record, and what each function of the coder makes of them: its contracts.
-use Rattle.std.specs.Prelude.{◌≡◌, List, [], ◌∷◌, Bool, true, cond, ℕ, ◌+◌, ◌*◌, ◌^◌, ◌≤◌, ◌<◌, leb, eqb, length, get_or, ℤ, ⊤, IfOk, Ok, Err}
+use Rattle.std.specs.Prelude.{◌≡◌, List, [], ◌∷◌, Bool, true, cond, ℕ, ◌+◌, ◌*◌, ◌^◌, ◌≤◌, ◌<◌, leb, eqb, length, get_or, ℤ, ⊤, Ok, Err}
 use Rattle.std.specs.Prelude.{Result as Returned}
 use Rattle.std.proofs.lemmas.List.Edits.{sets}
 use Rattle.rules.specs.declared.Size.{Size}
@@ -11,7 +11,7 @@ use Rattle.rules.specs.Document.Notation.{flat}
 use Rattle.rules.specs.Document.Pyramid.{legal_size, area, levels, most_magnitude, magnitude, negative, most_planes}
 use Rattle.rules.specs.Document.Passes.{Course, State, after, PartName, coded}
 use Rattle.rules.specs.Document.Layout.{part_bytes, coded_parts}
-use Rattle.rules.specs.Document.Calls.{Result, work_for, first_over, code_out, code_answer}
+use Rattle.rules.specs.Document.Calls.{Result, refused, work_for, first_over, code_out, code_answer}
 use Rattle.rules.specs.Document.Answers.{as_coded}
 use Rattle.trees.specs.Family.{coefficient_of, trees}
 use Rattle.trees.specs.Sound.{TreeSound}
@@ -22,10 +22,10 @@ use Rattle.parts.specs.Standing.{state_of, Marks}
 use Rattle.record.specs.Write.{place_most}
 use Rattle.coder.specs.declared.Progress.{Progress}
 
--- The outcome x of a call before what was lent is cleared: what is answered, and what is left in the output where that is no refusal.
-pub record Answered (x : Result (List ℕ)) (out : List ℕ) (answer : Returned ℕ Refusal) (out' : List ℕ) : Type 0 where
-  pub answers : as_coded answer ≡ code_answer x
-  pub writes : IfOk answer (λ _. out' ≡ code_out (length out) x)
+-- The outcome x of a call before what was lent is cleared, by what is handed back: its bytes stand in the output, or it is refused.
+abbrev pub Answered : Result (List ℕ) → List ℕ → Returned ℕ Refusal → List ℕ → Type 0
+Answered x out (Ok n) out' = (as_coded (Ok n) ≡ code_answer x) × (out' ≡ code_out (length out) x)
+Answered x out (Err r) out' = x ≡ refused r
 
 -- What the input alone is refused for, in document 01's order: 1, 2, 3, 4.
 unfoldable pub judged_input : List ℤ → Size → ℕ → Returned ⊤ Refusal

@@ -22,7 +22,7 @@ use rules::{Level, Plane, Refusal, Size};
 
 const MOST_MAGNITUDE: u32 = 65535;
 
-// Between parts: how full the lists are, and the place of the next part.
+// Between parts: how full the lists are, and the place of the next part. Size, output and workspace stay parameters: each part lends them on one by one.
 #[derive(Clone, Copy)]
 struct Progress {
     counts: Counts,
@@ -180,6 +180,7 @@ fn code_or_refuse(
 }
 
 // Workspace: all 0 after every call. Refused: output all 0.
+#[tactic(auto, unfolding(rules::specs::Document::Answers::as_coded, rules::specs::Document::Calls::code_answer, rules::specs::Document::Calls::code_out))]
 pub fn code(pyramid: &[i32], z: Size, out: &mut [u8], work: &mut [u32]) -> Result<usize, Refusal>
     ensures { Coding pyramid.now z out.old work.old (as_coded result) out.new work.new }
 {

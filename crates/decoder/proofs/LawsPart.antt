@@ -2,7 +2,7 @@ use Rattle.std.specs.Prelude.{Ok}
 -- One part: what decoding it or walking over it makes of the walk, and that this is what the definition makes of the same lists.
 use mathlib.Core.Path.{◌≡◌, refl, sym, ◌∙◌}
 use mathlib.Core.List.{List}
-use mathlib.Core.Bool.{true, false}
+use mathlib.Core.Bool.{false}
 use Prim.Native.Nat.{ℕ, ◌+◌, ◌-◌, ◌≤◌}
 use native.Mathlib.Omega.{arith}
 use lib.ListN.{length, drop, length-take, length-drop, get_or-eq_default}
@@ -11,7 +11,6 @@ use Rattle.rules.specs.declared.Header.{Header}
 use Rattle.rules.specs.declared.Part.{Part}
 use Rattle.rules.specs.declared.Piece.TheVariants as part
 use Rattle.decoder.specs.declared.Walk.{Walk}
-use Rattle.rules.specs.Document.Pyramid.{legal_size, levels}
 use Rattle.rules.specs.Document.Passes.{PartName}
 use Rattle.rules.specs.Document.Layout.{bytes_for, body_of, bits_there, name_of}
 use Rattle.rules.specs.Promises.Vocabulary.{LegalHead, bits_from}
@@ -23,7 +22,6 @@ use Rattle.record.specs.Named.{named}
 use Rattle.record.specs.Walk.{next_of, next_stands, next_cut}
 use Rattle.stretches.specs.Workspace.{Words}
 use Rattle.parts.specs.Standing.{Quiet}
-use Rattle.rules.specs.Document.Calls.{level_places}
 use Rattle.reached.specs.Planes.{size_levels}
 use Rattle.decoder.specs.Walking.{Taking, Standing}
 
@@ -48,9 +46,6 @@ cut_quiet h s before place p t =
           bit_past (body_of s p) i
           (omega (arith, length-take (bytes_for p.bits) (drop p.body s), length-drop p.body s, (cut_there t).0));
     }
-
-pub level_within : (z : Size) (k : ℕ) → legal_size z ≡ true → k ≤ levels z → k ≤ level_places
-level_within z k l m = omega (arith, size_levels z l)
 
 pub words_more : (z : Size) (a b : ℕ) (work : List ℕ) → a ≤ b → Words z a work → Words z b work
 words_more z a b work l h = record { under = λ x i. omega (arith, h.under x i); proper = h.proper }
@@ -78,6 +73,7 @@ module _ (h : Header) (s : List ℕ) (w : Walk) (work : List ℕ) where
           within = within;
           quiet = quiet;
         };
+        level = omega (arith, l.named.up_to, size_levels h.size t.legal);
         six = t.six;
         few = t.few (p.level.0 - 1);
       }

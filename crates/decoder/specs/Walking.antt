@@ -125,6 +125,7 @@ Drawn s z p counts work r work' = PartDecoded (body_of s p) (record { at = bits_
 -- what a part asks for
 pub record Taking (s : List ℕ) (z : Size) (p : Part) (w : Walk) (work : List ℕ) : Type 0 where
   pub drawing : Drawing s z p w.counts work
+  pub level : p.level.0 ≤ level_places
   pub six : length w.reached ≡ level_places
   pub few : count_in w.skipped (p.level.0 - 1) < 2 ^ 32
 

@@ -2,11 +2,10 @@
 // the workspace; the pyramid is laid out at its end.
 #![tactic(auto)]
 
+ghost use Rattle.std.specs.Prelude.{length};
 ghost use Rattle.rules.specs.Document.Numbers.{read_parts};
 ghost use Rattle.rules.specs.Document.Calls.{decoding, Decoding, decoded_parts};
 ghost use Rattle.rules.specs.Document.Answers.{as_decoded};
-ghost use Rattle.std.specs.Prelude.{length};
-ghost use Rattle.record.specs.Walk.{next_of};
 ghost use Rattle.placing.specs.Placing.{Roomy};
 ghost use Rattle.decoder.specs.Walking.{Begun, Drawing, Drawn, Taking, Taken, decoded_part, met_part, Ended, drawn_cut, met_cut};
 ghost use Rattle.decoder.specs.Walking.{Standing, Turned, Walking, Walked};
@@ -24,6 +23,7 @@ use rules::{Header, LEVEL_PLACES, Part, Piece, Plane, Reach, Refusal, Size};
 #[derive(Clone, Copy)]
 pub struct Walk {
     pub cursor: Cursor,
+    // Two arrays beside each other, as rules::Reach has them, which the contract of `decode` answers with.
     pub reached: [Plane; LEVEL_PLACES],
     pub skipped: [usize; LEVEL_PLACES],
     pub counts: Counts,
@@ -192,6 +192,7 @@ fn decode_or_refuse(bytes: &[u8], out: &mut [i32], work: &mut [u32]) -> Result<R
 }
 
 // From any bytes to a pyramid or a refusal. Workspace: all 0 after every call. Refused: pyramid all 0.
+#[tactic(auto, unfolding(rules::specs::Document::Answers::as_decoded, rules::specs::Document::Calls::decode_answer, rules::specs::Document::Calls::decode_out))]
 pub fn decode(bytes: &[u8], out: &mut [i32], work: &mut [u32]) -> Result<Reach, Refusal>
     ensures { Decoding bytes.now out.old work.old (as_decoded result) out.new work.new }
 {

@@ -42,7 +42,7 @@ fn len(p: Part) -> usize
     p.end.saturating_sub(p.place)
 }
 
-// Copies a part behind what was written, and answers the length with it.
+// Copies a part behind what was written, and answers the length with it; `written` is no slice's length, as it counts on past the end of `out`.
 fn keep(bytes: &[u8], p: Part, out: &mut [u8], written: usize) -> usize
     requires { written + (p.end - p.place) < 2 ^ 64 }
     ensures { Copied bytes.now (Some p) out.old written result out.new }
@@ -51,7 +51,7 @@ fn keep(bytes: &[u8], p: Part, out: &mut [u8], written: usize) -> usize
     written + len(p)
 }
 
-// Two records with one header, joined name by name.
+// Two records with one header, joined name by name. What is ahead is no invariant of theirs: it speaks of the output too, which each step is lent.
 #[derive(Clone, Copy)]
 struct Pair<'a> {
     first: &'a [u8],

@@ -10,7 +10,7 @@ code_fitted-requires c = accepted_given _ _ _ (sym c.in_ok-judged.was ∙ c.judg
 pub returns-in_err-judged : goal.returns-in_err-judged
 returns-in_err-judged c =
     let p = err_from_is_err_and c.from_residual.result c.from_residual.ensures.1 in
-    rw (p.1, p.2) (refusal_answered _ _ _ _ _ _ (sym c.in_err-judged.was ∙ c.judged.ensures))
+    rw (p.1, p.2) (refusal_answered _ _ _ _ _ (sym c.in_err-judged.was ∙ c.judged.ensures))
 
 pub returns : goal.returns
-returns c = accepted_answered _ _ _ (sym c.in_ok-judged.was ∙ c.judged.ensures) c.code_fitted.ensures
+returns c = accepted_answered _ _ _ _ _ _ (sym c.in_ok-judged.was ∙ c.judged.ensures) c.code_fitted.ensures
