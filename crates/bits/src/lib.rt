@@ -5,7 +5,7 @@ ghost use Rattle.std.specs.Prelude.{◌≡◌, ◌+◌, ◌^◌, ◌<◌};
 ghost use Rattle.rules.specs.Document.Layout.{bit_at, pad_clear};
 ghost use Rattle.bits.specs.Bits.{bit_of, with_bit, set_bit};
 
-// How many bits lie before.
+// How many bits lie before. That no sum overflows is asked for, here and above: the definitions count on without end.
 #[derive(Clone, Copy)]
 pub struct BitPosition {
     pub at: usize,

@@ -29,7 +29,8 @@ struct Progress {
     place: usize,
 }
 
-// What the input alone is refused for: 1, 2, 3, 4 in this order.
+// What the input alone is refused for: 1, 2, 3, 4 in this order. grey's judged_out has another limit; a crate over both shape and coefficients, which know
+// nothing of each other, would hold this one function.
 #[tactic(auto, unfolding(crate::specs::Writing::judged_input))]
 fn judged(pyramid: &[i32], z: Size, work: usize) -> Result<(), Refusal>
     ensures { result ≡ judged_input pyramid.now z work }

@@ -33,7 +33,7 @@ pub fn coefficient_at(pyramid: &[i32], q: usize) -> i32
     pyramid.get(q).copied().unwrap_or(0)
 }
 
-// A coefficient as a word: magnitude x 2, and 1 more where it is negative. Sign and bit come in as numbers: neither can be foretold.
+// A coefficient as a word: magnitude x 2, and 1 more where it is negative. Sign and bit are added as numbers: neither can be foretold.
 // No type of its own with From: words stand as plain u32 in the workspace that C lends.
 fn word_with(negative: bool, magnitude: u32) -> u32
     requires { magnitude < 2 ^ 31 }
@@ -70,7 +70,7 @@ pub fn refined_word(w: u32, bit: bool, plane: Plane) -> u32
     w + (u32::from(bit) << n)
 }
 
-// The first index whose magnitude is over a limit; the pyramid's length if there is none.
+// The first index whose magnitude is over a limit; the pyramid's length if there is none, as the document's first_over has it, and no Option.
 pub fn first_over(pyramid: &[i32], most: u32) -> usize
     ensures { result ≡ first_over most pyramid.now }
 {

@@ -23,7 +23,7 @@ use rules::{Header, LEVEL_PLACES, Part, Piece, Plane, Reach, Refusal, Size};
 #[derive(Clone, Copy)]
 pub struct Walk {
     pub cursor: Cursor,
-    // Two arrays beside each other, as rules::Reach has them, which the contract of `decode` answers with.
+    // Two arrays, and no array of pairs, as decoding's answer tells them: the planes, then the counts.
     pub reached: [Plane; LEVEL_PLACES],
     pub skipped: [usize; LEVEL_PLACES],
     pub counts: Counts,

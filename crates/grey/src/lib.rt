@@ -29,7 +29,7 @@ fn tone_of(pixel: u8) -> u32
     BIAS + u32::from(pixel)
 }
 
-// The pixels as tones at the front of the workspace.
+// The pixels as tones at the front of the workspace. By index, here and below: of what iter_mut wrote a proof knows nothing.
 fn load_pixels(pixels: &[u8], work: &mut [u32])
     requires { length pixels.now ≤ length work.old }
     ensures { Loaded pixels.now work.old work.new }

@@ -43,6 +43,7 @@ fn len(p: Part) -> usize
 }
 
 // Copies a part behind what was written, and answers the length with it; `written` is no slice's length, as it counts on past the end of `out`.
+// Of server's keep this is the second half: there a part is first asked for.
 fn keep(bytes: &[u8], p: Part, out: &mut [u8], written: usize) -> usize
     requires { written + (p.end - p.place) < 2 ^ 64 }
     ensures { Copied bytes.now (Some p) out.old written result out.new }

@@ -17,7 +17,8 @@ use Rattle.trees.proofs.Measure.{four_same}
 use Rattle.stretches.specs.Seg.{seg, seg_at, seg_seg}
 use Rattle.stretches.specs.Cut.{maxima_from, maxima_in, stretch_of, largest_d, largest_l}
 use Rattle.stretches.specs.Workspace.{word_in, maximum_in}
-use Rattle.stretches.specs.Levels.{words_from, blocks_from, next_size, next_start, word_place_lem, maximum_place, put_own, put_inside, put_before, put_behind}
+use Rattle.stretches.specs.Levels.{words_from, blocks_from, lent_to, lent_first, lent_next, next_size, next_start}
+use Rattle.stretches.specs.Levels.{word_place_lem, maximum_place, put_own, put_inside, put_before, put_behind}
 use Rattle.largest.specs.Blocks.{word_measure, near, far, four, Apart, SomeD, SomeL}
 use Rattle.largest.specs.Filling.{measure_in}
 use Rattle.largest.specs.Steps.{Placed, OnlyMaxima, LevelD, LevelL}
@@ -58,6 +59,13 @@ module _ (z : Size) (Z : Legal z) where
 
   pub pair_finest : (k : ℕ) → 1 ≤ k → k < 2 → level_size z (k - 1) ≡ 0
   pair_finest k h l = let e : k - 1 ≡ 0 = omega arith in ap (level_size z) e ∙ size-zero
+
+  pub pair_long : (k : ℕ) → 1 ≤ k → k ≤ z.n → lent_to z k ≡ 4 * level_start z k + 4 * level_size z k + 4 * level_size z (k - 1)
+  pair_long k a b = by (dec_le 2 k)
+    where
+      by : Dec (2 ≤ k) → lent_to z k ≡ 4 * level_start z k + 4 * level_size z k + 4 * level_size z (k - 1)
+      by (yes h) = omega (arith, lent_next z k h, next_start z Z k h (omega arith))
+      by (no h) = omega (arith, lent_first z k (omega arith), pair_finest k a (omega arith))
 
   pub maximum_nowhere : (work : List ℕ) (k b : ℕ) → level_size z k ≡ 0 → maximum_in z work k b ≡ 0
   unfolding maximum_in maxima_in seg

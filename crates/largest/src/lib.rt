@@ -3,8 +3,6 @@
 
 ghost use Rattle.std.specs.Prelude.{◌≡◌, true, ◌+◌, ◌-◌, ◌*◌, ◌/◌, ◌^◌, ◌≤◌, ◌<◌, max, length};
 ghost use Rattle.rules.specs.Document.Pyramid.{legal_size, levels};
-ghost use Rattle.rules.specs.Document.Calls.{work_for};
-ghost use Rattle.rules.specs.Laws.Family.Sizes.{level_start, level_size};
 ghost use Rattle.largest.specs.Blocks.{word_measure, near, far, four, SomeD, SomeL};
 ghost use Rattle.largest.specs.Filling.{Fillable, Filled};
 ghost use Rattle.largest.specs.Steps.{Placed, LevelD, LevelL, FilledTo};
@@ -51,7 +49,7 @@ fn fill_blocks_d(s: &mut [u32], n: usize)
     for b in 0..n / 4 {
         let near = near_at(s, b);
         let far = far_at(s, n, b);
-        // Not near.max(far): where the two are the same the branch then goes the rarer way, measured as half as many again that were foreseen wrongly.
+        // Not near.max(far): that has half again as many mispredicted branches.
         stretches::set_maximum(s, n, b, far.max(near));
     }
 }
@@ -82,24 +80,15 @@ fn fill_blocks_l(s: &mut [u32], n: usize)
     }
 }
 
-// Where the stretch of level k ends, with that of the next finer level behind it if there is one.
-fn pair_to(z: Size, k: Level) -> usize
-    requires { (legal_size z ≡ true) × (1 ≤ k.0) × (k.0 ≤ z.n) }
-    ensures { (result ≡ 4 * level_start z k.0 + 4 * level_size z k.0 + 4 * level_size z (k.0 - 1)) × (result ≤ work_for z) × (result < 2 ^ 32) }
-{
-    if k.0 < 2 {
-        stretches::stretch_to(z, k)
-    } else {
-        stretches::stretch_to(z, Level(k.0 - 1))
-    }
-}
-
 fn fill_level_d(z: Size, k: Level, work: &mut [u32])
     requires { Placed z k.0 work.old }
     ensures { LevelD z k.0 work.old work.new }
 {
     let n = shape::level_size(z, k);
-    fill_blocks_d(&mut work[stretches::stretch_from(z, k)..pair_to(z, k)], n);
+    fill_blocks_d(
+        &mut work[stretches::stretch_from(z, k)..stretches::lent_to(z, k)],
+        n,
+    );
 }
 
 // What is asked, lent and filled differs from fill_level_d: one function for both would be told each of the three.

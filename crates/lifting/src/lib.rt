@@ -52,6 +52,7 @@ fn coefficient_of(t: u32) -> i32
 }
 
 // Rows and lines of the workspace are places, not slices: what is written overlaps what is still to be read (the contracts ForPair and ForJoinPair).
+
 // The row of highs of three rows. even_rows makes another tone and asks something else of its rows: a closure's clauses would outgrow the loops.
 fn high_line(work: &mut [u32], a: usize, b: usize, c: usize, to: usize, width: usize)
     requires { ForHighs work.old a b c to width }
@@ -101,7 +102,8 @@ fn mirror(work: &mut [u32], x: usize, width: usize)
     work[x + width] = work[x + (width - 2)];
 }
 
-// load_line, its way back, differs in both types and the tone: a closure's clauses would outgrow the loops here, too.
+// By index: of what iter_mut wrote a proof knows nothing. load_line, its way back, differs in both types and the tone, as load_block does from store_block: a
+// closure's clauses would outgrow the loops here, too.
 fn store_line(line: &[u32], out: &mut [i32])
     requires { (length out.old ≡ length line.now) × ((c : ℕ) → c < length line.now → get_or line.now c 0 ≤ 2 * bias) }
     ensures { Stored line.now out.new }

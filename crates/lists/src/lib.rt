@@ -38,7 +38,7 @@ pub struct Fill {
     pub moved: usize,
 }
 
-// An entry of LIS: a coefficient as type A, for its D, or as type B, for its L.
+// An entry of LIS: a coefficient as type A, for its D, or as type B, for its L. Its bound is asked for below: the definitions' entries have none.
 #[derive(Clone, Copy)]
 pub enum Set {
     TypeA(usize),

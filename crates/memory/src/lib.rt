@@ -38,6 +38,7 @@ impl Word for i32 {
 pub fn zero<T: Word>(s: &mut [T])
     ensures { s.new ≡ replicate (length s.old) T.ZERO }
 {
+    // A for: `fill` asks that a clone can't fail, which the bound doesn't say.
     for i in 0..s.len() {
         s[i] = T::ZERO;
     }
@@ -52,6 +53,7 @@ fn stretch(bytes: &[u8], start: usize, count: usize) -> &[u8]
     &bytes[from..to]
 }
 
+// Places and counts beside the slices, here and below: a part is copied from where its head says that it stands, and nothing past an end.
 // The `count` bytes of `from` at `start` are copied to `to`, from `at` on.
 pub fn copy(from: &[u8], start: usize, count: usize, to: &mut [u8], at: usize)
     ensures { to.new ≡ sets to.old at (take count (drop start from.now)) }

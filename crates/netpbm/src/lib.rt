@@ -11,7 +11,7 @@ ghost use Rattle.netpbm.specs.Wrote.{Wrote, width_line, side_lines};
 use pictures::Picture;
 use rules::Size;
 
-// What begins some bytes; with none there it is 0, which no header has.
+// What begins some bytes; with none there it is 0, which no header has: the definitions' get_or has it so, and no Option.
 fn first_of(rest: &[u8]) -> u8
     ensures { result ≡ get_or rest.now 0 0 }
 {

@@ -29,7 +29,11 @@ fn print_parts(rt: &impl Print, bytes: &[u8], h: Header) -> io::Result<()> {
 }
 
 fn print_refusal(rt: &impl Print, r: Refusal) -> io::Result<()> {
-    println!(rt; "refused {} {}", answers::number(Err(r)), answers::place(Err(r)))
+    println!(rt;
+        "refused {} {}",
+        answers::number(Err(r)),
+        answers::place(Err(r))
+    )
 }
 
 fn print_listing(rt: &impl Print, bytes: &[u8]) -> io::Result<()> {

@@ -20,7 +20,7 @@ use Rattle.rules.proofs.Laws.State.Weight.{after_own, after_next, after_other}
 use Rattle.rules.specs.Promises.Vocabulary.{Legal}
 use Rattle.stretches.specs.Seg.{seg, seg_same, seg_seg}
 use Rattle.stretches.specs.Cut.{set_room, lip_from, lis_from, maxima_from, values_in, maxima_in, stretch_of, maxima_at}
-use Rattle.stretches.specs.Levels.{stretch_room, next_start, level_before, stretch_at, stretch_length}
+use Rattle.stretches.specs.Levels.{stretch_room, next_start, level_before, stretch_at, stretch_length, lent_to, lent_next}
 use Rattle.lists.specs.Lists.{Marked, lip_at, entry, sets, sets_few, moved_length, held_ends, held_moved}
 use Rattle.lists.specs.Besides.{marked_lent, marks_kept}
 use Rattle.lists.specs.declared.Role.{Role}
@@ -31,8 +31,8 @@ use Rattle.testing.specs.Finding.{course}
 use Rattle.parts.specs.declared.Counts.{Counts}
 use Rattle.parts.specs.declared.Passed.{Passed}
 use Rattle.parts.specs.Standing.{unlisted, count_at, Places, fill_of, with_lists, lists_at, state_of, Ready, stretch_by, Marks}
-use Rattle.parts.specs.Workspace.{lent_to, lent_of, with_moved, Lent, run_of, course_in, PartRun}
-use Rattle.parts.proofs.Workspace.{lent_next, Untouched, untouched}
+use Rattle.parts.specs.Workspace.{lent_of, with_moved, Lent, run_of, course_in, PartRun}
+use Rattle.parts.proofs.Workspace.{Untouched, untouched}
 use Rattle.parts.proofs.States.{state_in, state_out, state_same, lists_agree, lists_more}
 use Rattle.parts.proofs.States.{own_same, own_other, counts_own, counts_other, counts_next, counts_lip}
 use Rattle.parts.proofs.Parts.{level_fits, away_next, lent_own, lent_lip, values_lent, lists_lent, pass_is, moved_none, moved_some}

@@ -30,7 +30,7 @@ use Rattle.trees.proofs.Lawful.{trees_lawful}
 use Rattle.trees.proofs.Sound.{tree_part_room, tree_moved_room}
 use Rattle.stretches.specs.Seg.{seg_at}
 use Rattle.stretches.specs.Cut.{set_room, lip_from, lis_from, maxima_from, values_in, maxima_in, stretch_of}
-use Rattle.stretches.specs.Levels.{size_some, stretch_room, next_start, stretch_length}
+use Rattle.stretches.specs.Levels.{size_some, stretch_room, next_start, stretch_length, lent_to, lent_next}
 use Rattle.stretches.specs.Workspace.{Words}
 use Rattle.lists.specs.declared.Stretch.{Stretch}
 use Rattle.lists.specs.declared.Fill.{Fill}
@@ -46,9 +46,9 @@ use Rattle.testing.specs.Growing.{Growth}
 use Rattle.passes.specs.Steps.{has_member, Queued, Fresh, lists_of, pass_of}
 use Rattle.parts.specs.declared.Counts.{Counts}
 use Rattle.parts.specs.Standing.{count_at, fill_of, lists_at, state_of, Ready, stretch_by, Marks}
-use Rattle.parts.specs.Workspace.{lent_to, lent_of, away_for, Lending, run_of, course_in}
+use Rattle.parts.specs.Workspace.{lent_of, away_for, Lending, run_of, course_in}
 use Rattle.parts.proofs.Nodes.{top_none}
-use Rattle.parts.proofs.Workspace.{lent_next, lent_fits, lent_inside, lent_length}
+use Rattle.parts.proofs.Workspace.{lent_fits, lent_inside, lent_length}
 use Rattle.parts.proofs.States.{state_in, lists_agree}
 use Rattle.parts.proofs.Growing.{sound_once, words_small}
 

@@ -16,22 +16,12 @@ use Rattle.rules.proofs.Laws.Family.Sizes.{legal}
 use Rattle.rules.specs.Promises.Vocabulary.{Legal}
 use Rattle.stretches.specs.Seg.{seg, seg_at, seg_seg, seg_length}
 use Rattle.stretches.specs.Cut.{maxima_from, stretch_of}
-use Rattle.stretches.specs.Levels.{stretch_room, next_start, put_own, put_before, put_behind}
+use Rattle.stretches.specs.Levels.{stretch_room, next_start, put_own, put_before, put_behind, lent_to, lent_first, lent_next}
 use Rattle.testing.specs.declared.Run.{Run}
 use Rattle.testing.specs.declared.Stand.{Stand}
 use Rattle.testing.specs.Exchange.{reads}
 use Rattle.passes.specs.Steps.{Fresh, Ran}
-use Rattle.parts.specs.Workspace.{lent_to, lent_of, Lending, Lent}
-
--- where it ends
-module _ (z : Size) (k : ℕ) where
-  pub lent_first : k < 2 → lent_to z k ≡ 4 * level_start z k + 4 * level_size z k
-  unfolding lent_to
-  lent_first h = rw (lt-leb 2 k h)
-
-  pub lent_next : 2 ≤ k → lent_to z k ≡ 4 * level_start z (k - 1) + 4 * level_size z (k - 1)
-  unfolding lent_to
-  lent_next h = rw (le-leb 2 k h)
+use Rattle.parts.specs.Workspace.{lent_of, Lending, Lent}
 
 module _ (z : Size) (Z : Legal z) (k : ℕ) (a : 1 ≤ k) (b : k ≤ levels z) where
   pub lent_fits : (4 * level_start z k + 4 * level_size z k ≤ lent_to z k) × (lent_to z k ≤ work_for z)

@@ -15,16 +15,14 @@ use Rattle.lists.specs.declared.Stretch.{Stretch}
 use Rattle.lists.specs.declared.Role.{Role}
 use Rattle.testing.specs.declared.Run.{Run}
 use Rattle.testing.specs.declared.Stand.{Stand}
+use Rattle.stretches.specs.Levels.{lent_to}
 use Rattle.parts.specs.declared.Counts.{Counts}
 use Rattle.parts.specs.declared.Passed.{Passed}
 use Rattle.testing.specs.Exchange.{Chan, chan, family_of, side, reads, Silent}
 use Rattle.passes.specs.Steps.{Fresh, Ran}
 use Rattle.parts.specs.Standing.{count_at, with_sets, state_of, Agree, Ready, Marks}
 
--- where the stretches end that are lent to the pass of level k: its own, and the next level's if there is one
-unfoldable pub lent_to : Size → ℕ → ℕ
-lent_to z k = cond (leb 2 k) (4 * level_start z (k - 1) + 4 * level_size z (k - 1)) (4 * level_start z k + 4 * level_size z k)
-
+-- what is lent to the pass of level k: its own stretch, and the next level's if there is one
 abbrev pub lent_of : Size → ℕ → List ℕ → List ℕ
 lent_of z k work = seg (4 * level_start z k) (lent_to z k - 4 * level_start z k) work
 

@@ -7,7 +7,7 @@ ghost use Rattle.rules.specs.Document.Pyramid.{legal_size, levels};
 ghost use Rattle.rules.specs.Document.Passes.{band_ll};
 ghost use Rattle.rules.specs.Document.Calls.{level_places, work_for};
 ghost use Rattle.parts.specs.Standing.{Places, fill_of, with_lists, Started, ReadyToCode, PartCoded, ReadyToDecode, Quiet, PartDecoded};
-ghost use Rattle.parts.specs.Workspace.{lent_to, stretch_for, with_moved, Counting, Cutting, Lending, Lent, run_of, Running, PartRun};
+ghost use Rattle.parts.specs.Workspace.{stretch_for, with_moved, Counting, Cutting, Lending, Lent, run_of, Running, PartRun};
 ghost use Rattle.parts.specs.Begin.{empty, row_of, band_at, InBand, Listing, Listed};
 
 use bits::BitPosition;
@@ -170,25 +170,13 @@ fn stretch_of(role: Role, z: Size, k: Level, counts: Counts) -> Stretch
     }
 }
 
-// Where the stretches end that are lent to a level's pass: its own and the next level's.
-fn lent_to(z: Size, k: Level) -> usize
-    requires { (legal_size z ≡ true) × (1 ≤ k.0) × (k.0 ≤ levels z) }
-    ensures { (result ≡ lent_to z k.0) × (result ≤ work_for z) × (result < 2 ^ 32) }
-{
-    if k.0 < 2 {
-        stretches::stretch_to(z, k)
-    } else {
-        stretches::stretch_to(z, Level(k.0 - 1))
-    }
-}
-
 // The level's stretch and the next level's, cut from the middle of the workspace and lent to the pass.
 fn run_level(run: Run, body: &[u8], work: &mut [u32], w: Stand, out: &mut [u8]) -> Stand
     requires { Lending run body.now work.old out.old w }
     ensures { Lent run body.now work.old out.old w work.new out.new result }
 {
     let from = stretches::stretch_from(run.z, run.level);
-    let to = lent_to(run.z, run.level);
+    let to = stretches::lent_to(run.z, run.level);
     passes::run_pass(run, body, &mut work[from..to], w, out)
 }
 

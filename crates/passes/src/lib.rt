@@ -117,7 +117,7 @@ fn visit_lis(run: Run, body: &[u8], s: &mut [u32], w: Stand, out: &mut [u8]) -> 
     ensures { Visited run body.now s.old out.old w s.new out.new result × (result.fill.left ≤ 0) }
 {
     let mut r = w;
-    // no range to go over: a set that is opened adds others to the end
+    // No range to go over: a set that is opened adds others to the end.
     while 0 < r.fill.left {
         r = visit_set(run, body, s, r, out);
     }

@@ -9,6 +9,7 @@ pub mod GreyFiles
 pub mod GreyMemory
 pub mod GreyRefusals
 pub mod GreyReturns
+pub mod Handed
 pub mod Grids
 pub mod Growth
 pub mod NearBlocks

@@ -1,7 +1,7 @@
 // Grey pictures: definitions and laws, in specs, and the types that the crates above share. There is no code here.
 #![tactic(auto)]
 
-// A picture in a file: its width and height, and the place where its pixels begin.
+// A picture in a file: its width and height, and the place where its pixels begin: no slice, as Tells of netpbm speaks of the place.
 #[derive(Clone, Copy)]
 pub struct Picture {
     pub w: usize,

@@ -109,7 +109,8 @@ fn word_at(pyramid: &[i32], q: usize) -> u32
     coefficients::word_of(coefficients::coefficient_at(pyramid, q))
 }
 
-// Apart from place_level and lay_level, as copy_row from lay_row: closures for their buffers, values and places would be longer than the loops.
+// The words of a level's blocks. Apart from place_level and lay_level, as copy_row from lay_row: closures for their buffers, values and places would be
+// longer than the loops.
 fn copy_level(pyramid: &[i32], z: Size, k: Level, work: &mut [u32])
     requires { Given pyramid.now z work.old × (1 ≤ k.0) × (k.0 ≤ z.n) × BlocksOf z k.0 work.old }
     ensures { LevelCopied pyramid.now z k.0 work.old work.new }

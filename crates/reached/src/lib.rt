@@ -30,7 +30,9 @@ pub fn is_usable(reached: [Plane; LEVEL_PLACES], plane: Plane, level: Level) -> 
     own.0 == plane.0 + 1 && coarser <= plane
 }
 
-// That a level has a place stands in three contracts: a type of such levels would ask more of callers, and Level is the definitions' own.
+// That a level has a place stands in three contracts: a type of such levels would ask more of callers, and Level is the definitions' own. Plane 0 for no
+// such level is the definitions' own, too.
+
 // A level has reached a plane.
 pub fn with_reached(
     mut reached: [Plane; LEVEL_PLACES],

@@ -9,7 +9,7 @@ pub mod write;
 
 use rules::{Level, Part, Plane};
 
-// A part's plane and level, ordered by the plane first.
+// A part's plane and level, ordered by the plane first. Elsewhere the two go side by side: 01 counts them apart, and contracts speak of each.
 #[derive(Clone, Copy, PartialEq, Eq, PartialOrd, Ord)]
 pub struct Name {
     pub plane: Plane,

@@ -84,6 +84,7 @@ fn legal_head(h: Header, before: Name, p: Part) -> bool
 }
 
 // Where a part's body ends stands in the contracts below: theorems speak of any Part of the definitions, so that the type can't say it.
+
 // The portion of the record that holds a part's body.
 #[tactic(auto, unfolding(rules::specs::Document::Layout::body_of))]
 pub fn body(bytes: &[u8], p: Part) -> &[u8]

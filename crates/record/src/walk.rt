@@ -14,7 +14,7 @@ pub struct Cursor {
 }
 
 impl Cursor {
-    // Before the first part: no part may come after plane 0 and level 0 of the header's planes.
+    // Before the first part, at a name that all parts come after: no Option, as the definitions' read_parts begins with it.
     pub fn first(h: Header) -> Cursor
         ensures { result ≡ first_of h }
     {

@@ -30,6 +30,7 @@ fn keep(
     requires { Copies bytes.now part written }
     ensures { Kept bytes.now part level plane out.old written result out.new }
 {
+    // By the numbers, as legal_ask and the definitions judge a request.
     if part.level.0 < level.0 || part.plane.0 < plane.0 {
         return written;
     }
@@ -94,7 +95,7 @@ fn serve_or_refuse(
     serve_parts(bytes, h, level, plane, out)
 }
 
-// A refusal leaves nothing of what was written before it.
+// A refusal leaves nothing of what was written before it. Each public routine ends so: what was lent differs in count and types from one to the next.
 pub fn serve(bytes: &[u8], level: Level, plane: Plane, out: &mut [u8]) -> Result<Extent, Refusal>
     ensures { Serving bytes.now level.0 plane.0 out.old (as_served result) out.new }
 {

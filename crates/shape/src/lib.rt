@@ -32,7 +32,9 @@ pub fn legal_size(z: Size) -> bool
     (1..=MOST_DECOMPOSITIONS).contains(&z.n) && legal_side(z.n, z.w) && legal_side(z.n, z.h)
 }
 
-// All below ask that a plain Size is legal: the crates above do too, and a type that carries the fact would be made and opened again at each of their calls.
+// All below ask that a plain Size is legal, and that a plain Level is one of its: the crates above do too, and a type that carries the facts would be made
+// and opened again at each of their calls.
+
 // Four for each coefficient: no part has more bits, and that many numbers of workspace are enough. Contracts cite the two rules by these names.
 pub fn most_bits(z: Size) -> usize
     requires { legal_size z ≡ true }

@@ -2,12 +2,14 @@
 --
 --   words_from z k     where the words of level k begin: that of its coefficient t is t places on
 --   blocks_from z k    where its maxima begin: that of block b is b places on
-use Rattle.std.specs.Prelude.{◌≡◌, refl, List, ◌++◌, length, take}
+--   lent_to z k        where its stretch and the next finer level's end, which lies right behind; level 1 has no next
+use Rattle.std.specs.Prelude.{◌≡◌, refl, List, ◌++◌, cond, leb, length, take}
 use Rattle.std.proofs.Common.{sym, ◌∙◌, subst, take_at, drop_at, length-take-le, get_or-take, get_or-drop}
 use Rattle.std.proofs.Math.Path.{ap}
 use Prim.Native.Nat.{ℕ, zero, suc, ◌+◌, ◌-◌, ◌*◌, ◌/◌, ◌≤◌, ◌<◌}
 use native.Mathlib.Omega.{arith}
 use Rattle.std.proofs.Math.Decide.{dec_le}
+use borrow.Author.Tests.{le-leb, lt-leb}
 use Rattle.std.proofs.Math.ListN.{get_or}
 use borrow.Rule.Slice.PartMut.{post_of, put_mid, take_put, drop_put}
 use Rattle.rules.specs.declared.Size.{Size}
@@ -28,6 +30,18 @@ words_from z k = 4 * level_start z k
 
 unfoldable pub blocks_from : Size → ℕ → ℕ
 blocks_from z k = 4 * level_start z k + maxima_from (level_size z k)
+
+unfoldable pub lent_to : Size → ℕ → ℕ
+lent_to z k = cond (leb 2 k) (4 * level_start z (k - 1) + 4 * level_size z (k - 1)) (4 * level_start z k + 4 * level_size z k)
+
+module _ (z : Size) (k : ℕ) where
+  pub lent_first : k < 2 → lent_to z k ≡ 4 * level_start z k + 4 * level_size z k
+  unfolding lent_to
+  lent_first h = rw (lt-leb 2 k h)
+
+  pub lent_next : 2 ≤ k → lent_to z k ≡ 4 * level_start z (k - 1) + 4 * level_size z (k - 1)
+  unfolding lent_to
+  lent_next h = rw (le-leb 2 k h)
 
 module _ (z : Size) (Z : Legal z) where
   pub level_ends : (k : ℕ) → 1 ≤ k → k ≤ levels z → level_end z k ≤ area z

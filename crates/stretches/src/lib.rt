@@ -5,6 +5,7 @@ ghost use Rattle.std.specs.Prelude.{◌≡◌, true, ◌+◌, ◌*◌, ◌^◌, 
 ghost use Rattle.rules.specs.Document.Pyramid.{legal_size, levels};
 ghost use Rattle.rules.specs.Document.Calls.{work_for};
 ghost use Rattle.rules.specs.Laws.Family.Sizes.{level_start, level_size};
+ghost use Rattle.stretches.specs.Levels.{lent_to};
 ghost use Rattle.stretches.specs.Cut.{maxima_from, values_in, maxima_in, ValueSet, SetOr, MaximumSet};
 
 use rules::{Level, Size};
@@ -24,6 +25,18 @@ pub fn stretch_to(z: Size, k: Level) -> usize
     ensures { (result ≡ 4 * level_start z k.0 + 4 * level_size z k.0) × (result ≤ work_for z) × (result < 2 ^ 32) }
 {
     4 * shape::level_end(z, k)
+}
+
+// Where a level's stretch and the next finer level's end, which lies right behind; level 1 has no next.
+pub fn lent_to(z: Size, k: Level) -> usize
+    requires { (legal_size z ≡ true) × (1 ≤ k.0) × (k.0 ≤ levels z) }
+    ensures { (result ≡ lent_to z k.0) × (4 * level_start z k.0 + 4 * level_size z k.0 ≤ result) × (result ≤ work_for z) × (result < 2 ^ 32) }
+{
+    if k.0 < 2 {
+        stretch_to(z, k)
+    } else {
+        stretch_to(z, Level(k.0 - 1))
+    }
 }
 
 // The i-th value of a stretch for n coefficients. Slices here may go on behind the stretch, so n stands beside them.

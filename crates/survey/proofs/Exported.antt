@@ -1,18 +1,21 @@
 -- What follows of the export `afs_survey`: an answer slice too short or long enough, determinacy and isolation, what decoding is to be lent; and what
 -- worked bytes give.
-use Rattle.std.specs.Prelude.{◌≡◌, refl, List, [], ◌∷◌, ◌++◌, map, ℕ, ◌-◌, ◌≤◌, ◌<◌, length, take}
-use Rattle.std.proofs.Common.{sym, ◌∙◌}
+use Rattle.std.specs.Prelude.{◌≡◌, refl, List, [], ◌∷◌, ◌++◌, map, ℕ, ◌-◌, ◌≤◌, ◌<◌, length, take, Result, Ok, Err}
+use Rattle.std.proofs.Common.{sym, ap, ◌∙◌, arith}
 use Rattle.std.proofs.Math.Bool.{true, false}
 use Rattle.std.proofs.Math.Dec.{leb}
 use borrow.Author.Tests.{le-leb, lt-leb, eq-eqb}
+use Rattle.rules.specs.declared.Refusal.{Refusal}
 use Rattle.rules.specs.Document.Notation.{zeros}
 use Rattle.rules.specs.Document.Numbers.{Accepted}
 use Rattle.rules.specs.Document.Pyramid.{area}
 use Rattle.rules.specs.Document.Numbers.{verdict_number, read_parts}
 use Rattle.rules.specs.Document.Calls.{work_for, on_header, unless, decoded_parts, decoding, filled, returned, reported}
 use Rattle.rules.specs.Promises.Cases.{thirty, without12, opens_example, opens_pyramid, opens_bytes, opens_record, opens_reading}
+use Rattle.rules.proofs.Promises.Handed.{refused_once, accepted_refused, refused_accepted}
 use Rattle.survey.proofs.AsServing.{survey_header}
-use Rattle.survey.specs.Surveyed.{survey_of, survey_numbers, survey_places, AfsSurvey}
+use Rattle.survey.specs.declared.Contents.{Contents}
+use Rattle.survey.specs.Surveyed.{Survey, as_survey, survey_of, survey_numbers, survey_places, AfsSurvey}
 
 module _ {s answer : List ℕ} {number : ℕ} {answer' : List ℕ} (x : AfsSurvey s answer number answer') where
   pub afs_survey_short : length answer < survey_places → (number ≡ 5) × (answer' ≡ zeros (length answer))
@@ -45,6 +48,14 @@ unfolding decoding on_header unless
 survey_lends s work e l =
     let z = (survey_of s).header.size in
     rw (survey_header s e, eq-eqb (area z) (area z) refl, le-leb (work_for z) work l)
+
+-- What the routine hands back is one, too: where two are the same survey, they are the same.
+pub as_survey_once : (x y : Result Contents Refusal) → as_survey x ≡ as_survey y → x ≡ y
+unfolding as_survey
+as_survey_once (Ok m) (Ok n) e = ap (λ (a : Survey). Ok (record { header = a.header; parts = a.parts; tail = a.tail })) e
+as_survey_once (Ok m) (Err q) e = absurd (omega (arith, accepted_refused (ap (λ a. a.verdict) e)))
+as_survey_once (Err r) (Ok n) e = absurd (omega (arith, refused_accepted (ap (λ a. a.verdict) e)))
+as_survey_once (Err r) (Err q) e = ap Err (refused_once (ap (λ a. a.verdict) e))
 
 -- The document's record: in full; part (1,2) lost; its first 29 bytes; its first 4. An all zero pyramid's. A version that is not 1.
 pub surveyed_cases : map (λ s. survey_numbers (survey_of s))

@@ -18,7 +18,8 @@ use rules::{Level, Plane, Size};
 // Which part is run. The tree numbers of the nodes whose offspring are in the level begin at `parents`, those of the nodes whose offspring's offspring
 // are at `elders`. At the beginning its LIS had so many sets, and the bits go on from a place. Those that
 // are there end at the place `until`: of a part that is cut, W1 has the tail decoded "as far as its bits go".
-// Body, stretch, stand and output go beside it one by one: the contracts of ask_set, test_each, refine_lsp and passes::run_pass name each.
+// Body, stretch, stand and output go beside it one by one: the contracts of ask_set, test_each, refine_lsp and passes::run_pass name each. Nor do
+// types here or in lists keep a bound on a plane, a count or a position: run_of and stretch_for of the definitions make runs of any numbers.
 #[derive(Clone, Copy)]
 pub struct Run {
     pub z: Size,
