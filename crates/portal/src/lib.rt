@@ -1,4 +1,5 @@
 // The calls exported to the portal's C host: thin, on plain numbers and slices, over the proved routines.
+// One a call, alike as they are: C links each by its name, and each has a contract of its own.
 #![tactic(auto)]
 
 ghost use Rattle.std.specs.Prelude.{◌≡◌, length};
