@@ -17,7 +17,7 @@ DESCRIPTION
     level (1 is the finest, N + 1 the coarsest). A smaller version is some of the parts; what
     arrives, whatever was left out or lost, is decoded as far as its parts go.
 
-    code(pyramid)                       a pyramid's record
+    code(pyramid)                       a pyramid's record, or a picture's: an array of uint8
     serve(record, level, plane)         the record of some of its parts
     join(first, second)                 the record of all parts of two
     decode(record)                      a pyramid of the parts that are there, and how far it got
@@ -26,17 +26,19 @@ DESCRIPTION
     read_picture(picture)               a picture's pyramid
     write_picture(pyramid, file)        a pyramid's picture
 
-    Arrays are rows by columns. A pyramid is of int32; on the way in any integer type will do. A
-    record is `bytes`; on the way in anything that holds a row of bytes will do, a numpy array of
-    uint8 too. What can be changed is copied before a call, so arrays needn't be contiguous, nothing
-    that is handed in is ever written to, and threads may call at once.
+    Arrays are rows by columns. A picture is of uint8. A pyramid is of int32; on the way in any
+    other integer type will do, and uint8 within a `Pyramid`. numpy takes pyramids and pictures as
+    arrays. A record is `bytes`; on the way in anything that holds a row of bytes will do, a numpy
+    array of uint8 too. What can be changed is copied before a call, so arrays needn't be
+    contiguous, nothing that is handed in is ever written to, and threads may call at once.
 
     The calls are those of libafshtruni, in which every function is proved to meet its contract, to
     end and never to go wrong; this package, numpy and Python are not proved. A record has no
     checksum: what `decode` tells may be false of one in which a byte was changed.
 
 ERRORS
-    Refusal (a ValueError)  the library refused: `number`, `name` and `place`, as in afshtruni(3)
+    Refusal (a ValueError)  the library refused: `number`, `name` and `place`, as in afshtruni(3),
+                            and `why`, in the words of afs(1)
     TypeError, ValueError   an argument that the library can't be given: no array, an array of
                             another type, another number of dimensions
     OSError                 the library, or a file, can't be read or written

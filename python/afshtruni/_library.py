@@ -9,13 +9,13 @@ from __future__ import annotations
 import ctypes
 import os
 from functools import lru_cache
-from typing import Any, List, Mapping, Tuple, Union
+from typing import Any, Callable, List, Mapping, Tuple, Union
 
 import numpy as np
 from numpy.typing import NDArray
 
 from . import _place
-from ._answers import ACCEPTED, ANSWER_LENGTH, NUMBER, PLACE
+from ._answers import ACCEPTED, ANSWER_LENGTH, NAMES, NUMBER, PLACE
 from ._refusal import Refusal
 
 VARIABLE = "AFSHTRUNI_LIBRARY"
@@ -78,9 +78,11 @@ def ask(name: str, *arguments: Argument) -> Answer:
     return [int(number) for number in answer]
 
 
-def call(name: str, *arguments: Argument) -> Answer:
-    """The same, but raises `Refusal` where the answer is one."""
+def call(name: str, *arguments: Argument, why: Callable[[int, int], str]) -> Answer:
+    """The same, but raises `Refusal` where the answer is one; `why` has the words for it, by its
+    number and place."""
     answer = ask(name, *arguments)
-    if answer[NUMBER] != ACCEPTED:
-        raise Refusal(answer[NUMBER], answer[PLACE])
+    number, place = answer[NUMBER], answer[PLACE]
+    if number != ACCEPTED:
+        raise Refusal(number, place, why(number, place) if number in NAMES else None)
     return answer

@@ -9,11 +9,15 @@ from typing import Any, Optional, Union
 import numpy as np
 from numpy.typing import NDArray
 
-from ._answers import GREY_READ, GREY_WRITTEN
+from ._answers import GREY_READ, GREY_WRITTEN, NAMES
+from ._grey_words import why_not_grey
+from ._layout import Header
 from ._lending import MOST_NUMBERS, BytesLike, number, octets, pixels
 from ._library import call
-from ._records import taken_apart, workspace
+from ._limits import GREATEST_PRINTED
+from ._pyramids import taken_apart, workspace
 from ._values import Picture, Pyramid
+from ._words import TOO_SHORT, why_halvings, why_range, why_size
 
 _MOST_DECOMPOSITIONS = 5
 _LONGEST_HEADER = 15
@@ -49,15 +53,32 @@ def read_picture(
     Refuses with 1 SIZE or 13 GREY.
     """
     file = _grey_file(picture)
-    size = call("afs_grey_size", file)
+    size = call("afs_grey_size", file, why=lambda *_: why_not_grey(file.tobytes()))
     width, height = size[GREY_READ["WIDTH"]], size[GREY_READ["HEIGHT"]]
     if decompositions is None:
         decompositions = _most_decompositions(width, height)
     halvings = number("decompositions", decompositions)
     # A picture has no more pixels than its file has bytes, unless a side is 0.
     out = np.empty((height, width) if 0 < width * height <= MOST_NUMBERS else (0, 0), np.int32)
-    call("afs_grey_in", file, halvings, out, workspace(out.size))
+    sizes = Header(width, height, halvings, 0)
+    call(
+        "afs_grey_in", file, halvings, out, workspace(out.size),
+        why=lambda *_: why_size(sizes, " of the picture"),
+    )
     return Pyramid(out, halvings)
+
+
+def _why_not_printed(
+    whole: NDArray[np.int32], total: int, halved: int, name: str, index: int
+) -> str:
+    height, width = whole.shape
+    if name == "SIZE" and 0 < total <= halved:
+        return why_halvings(halved, total)
+    if name == "SIZE":
+        return why_size(Header(width, height, total, 0))
+    if name == "RANGE":
+        return why_range(whole[: height >> halved, : width >> halved], index, GREATEST_PRINTED)
+    return TOO_SHORT
 
 
 def write_picture(
@@ -84,7 +105,11 @@ def write_picture(
     height, width = (side >> halved if left else 0 for side in whole.shape)
     block = np.ascontiguousarray(whole[:height, :width])
     out = np.empty(block.size + _LONGEST_HEADER, np.uint8)
-    answer = call("afs_grey_out", block, width, height, left, out, workspace(block.size))
+
+    def why(refusal: int, index: int) -> str:
+        return _why_not_printed(whole, total, halved, NAMES[refusal], index)
+
+    answer = call("afs_grey_out", block, width, height, left, out, workspace(block.size), why=why)
     written = out[: answer[GREY_WRITTEN["LENGTH"]]]
     if file is not None:
         Path(file).write_bytes(written.tobytes())

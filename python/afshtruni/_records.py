@@ -2,24 +2,21 @@
 
 from __future__ import annotations
 
-from typing import Any, Iterator, List, Optional, Tuple, Union
+from typing import Any, Callable, List, Optional, Tuple, Union
 
 import numpy as np
 from numpy.typing import NDArray
 
-from ._answers import ACCEPTED, CODED, DECODED, JOINED, LEVEL_PLACES, NUMBER, PLACE, SERVED
+from ._answers import ACCEPTED, CODED, DECODED, JOINED, LEVEL_PLACES, NAMES, NUMBER, PLACE, SERVED
 from ._answers import SURVEYED
-from ._lending import BytesLike, coefficients, number, octets
+from ._layout import Header, header_of, parts_until
+from ._lending import BytesLike, number, octets
 from ._library import Answer, ask, call
+from ._limits import GREATEST_CODED
+from ._pictures import read_picture
+from ._pyramids import is_picture, taken_apart, workspace
 from ._values import Decoded, Part, Pyramid, Survey
-
-_WORK_PER_COEFFICIENT = 4
-_HEADER_NUMBERS = 5  # version, width, height, decompositions, planes
-
-
-def workspace(count: int) -> NDArray[np.uint32]:
-    """What coding and decoding need for so many coefficients, and reading and writing pictures."""
-    return np.empty(_WORK_PER_COEFFICIENT * count, np.uint32)
+from ._words import why_clash, why_mixed, why_not_asked, why_not_read, why_range, why_size
 
 
 def _room_for_record(count: int) -> NDArray[np.uint8]:
@@ -27,33 +24,29 @@ def _room_for_record(count: int) -> NDArray[np.uint8]:
     return np.empty(6 * count + 640, np.uint8)
 
 
-def taken_apart(
-    pyramid: Union[Pyramid, NDArray[Any]], decompositions: Optional[int]
-) -> Tuple[NDArray[np.int32], int]:
-    """The coefficients to lend, and N."""
-    if isinstance(pyramid, Pyramid):
-        if decompositions is not None:
-            raise TypeError("decompositions must not be given with a Pyramid, which has its own")
-        return taken_apart(pyramid.coefficients, pyramid.decompositions)
-    lent = coefficients(pyramid)
-    if decompositions is None:
-        raise TypeError("decompositions must be given with an array of coefficients")
-    return lent, number("decompositions", decompositions)
-
-
 def code(pyramid: Union[Pyramid, NDArray[Any]], decompositions: Optional[int] = None) -> bytes:
-    """Makes the record of a pyramid: all of it, at full detail.
+    """Makes the record of a pyramid, or of a picture: all of it, at full detail.
 
-    pyramid         what `read_picture` or `decode` gave, or an array of any integer type, rows by
-                    columns: 4 to 512 each, multiples of 2^(N+1), and no magnitude over 65535
-    decompositions  N, 1 to 5, where `pyramid` is an array
+    pyramid         what `read_picture` or `decode` gave, or an array, rows by columns: 4 to 512
+                    each, multiples of 2^(N+1). One of uint8 is a picture, as in `read_picture`;
+                    of any other integer type it is coefficients, and no magnitude is over 65535
+    decompositions  N, 1 to 5, where `pyramid` is an array; without it a picture gets as many as
+                    its sides allow
 
     Refuses with 1 SIZE or 4 RANGE.
     """
+    if not isinstance(pyramid, Pyramid) and is_picture(pyramid):
+        return code(read_picture(pyramid, decompositions))
     lent, halvings = taken_apart(pyramid, decompositions)
     height, width = lent.shape
     out = _room_for_record(lent.size)
-    answer = call("afs_code", lent, width, height, halvings, out, workspace(lent.size))
+
+    def why(refusal: int, index: int) -> str:
+        if NAMES[refusal] == "RANGE":
+            return why_range(lent, index, GREATEST_CODED)
+        return why_size(Header(width, height, halvings, 0))
+
+    answer = call("afs_code", lent, width, height, halvings, out, workspace(lent.size), why=why)
     return out[: answer[CODED["LENGTH"]]].tobytes()
 
 
@@ -68,8 +61,16 @@ def serve(record: BytesLike, level: int = 1, plane: int = 0) -> bytes:
     6 HEAD, 7 VERSION, 8 PART, 9 PAD, 11 ASK or 12 LONGFORM.
     """
     lent = octets("record", record)
+    asked = number("level", level), number("plane", plane)
+
+    def why(refusal: int, place: int) -> str:
+        held = lent.tobytes()
+        if NAMES[refusal] == "ASK":
+            return why_not_asked(*asked, header_of(held)[0])
+        return why_not_read(held, refusal, place)
+
     out = np.empty(lent.size, np.uint8)
-    answer = call("afs_serve", lent, number("level", level), number("plane", plane), out)
+    answer = call("afs_serve", lent, *asked, out, why=why)
     return out[: answer[SERVED["LENGTH"]]].tobytes()
 
 
@@ -81,9 +82,24 @@ def join(first: BytesLike, second: BytesLike) -> bytes:
     first.
     """
     lent = octets("first", first), octets("second", second)
+
+    def why(refusal: int, place: int) -> str:
+        one, other = (record.tobytes() for record in lent)
+        if NAMES[refusal] == "MIXED":
+            return why_mixed(one, other)
+        if NAMES[refusal] == "CLASH":
+            return why_clash(one, place)
+        if ask("afs_survey", lent[0])[NUMBER] != ACCEPTED:
+            return f"first: {why_not_read(one, refusal, place)}"
+        return f"second: {why_not_read(other, refusal, place)}"
+
     out = np.empty(lent[0].size + lent[1].size, np.uint8)
-    answer = call("afs_join", *lent, out)
+    answer = call("afs_join", *lent, out, why=why)
     return out[: answer[JOINED["LENGTH"]]].tobytes()
+
+
+def _why_not(lent: NDArray[np.uint8]) -> Callable[[int, int], str]:
+    return lambda refusal, place: why_not_read(lent.tobytes(), refusal, place)
 
 
 def _surveyed(answer: Answer) -> Survey:
@@ -95,7 +111,8 @@ def survey(record: BytesLike) -> Survey:
 
     Bodies aren't decoded. Refuses with 1 SIZE, 6 HEAD, 7 VERSION, 8 PART, 9 PAD or 12 LONGFORM.
     """
-    return _surveyed(call("afs_survey", octets("record", record)))
+    lent = octets("record", record)
+    return _surveyed(call("afs_survey", lent, why=_why_not(lent)))
 
 
 def _size_to_lend(lent: NDArray[np.uint8]) -> Survey:
@@ -130,7 +147,7 @@ def decode(record: BytesLike) -> Decoded:
     lent = octets("record", record)
     told = _size_to_lend(lent)
     out = np.empty((told.height, told.width), np.int32)
-    answer = call("afs_decode", lent, out, workspace(out.size))
+    answer = call("afs_decode", lent, out, workspace(out.size), why=_why_not(lent))
     return Decoded(
         coefficients=out,
         decompositions=told.decompositions,
@@ -141,35 +158,10 @@ def decode(record: BytesLike) -> Decoded:
     )
 
 
-def _number_at(record: bytes, offset: int) -> Tuple[int, int]:
-    """A number of seven-bit groups, and the offset behind it."""
-    value = shift = 0
-    while True:
-        byte = record[offset]
-        offset += 1
-        value |= (byte & 0x7F) << shift
-        shift += 7
-        if byte < 0x80:
-            return value, offset
-
-
-def _walk(record: bytes, parts_there: int) -> Iterator[Part]:
-    offset = 0
-    for _ in range(_HEADER_NUMBERS):
-        _, offset = _number_at(record, offset)
-    for _ in range(parts_there):
-        begins = offset
-        plane, offset = _number_at(record, offset)
-        level, offset = _number_at(record, offset)
-        bits, offset = _number_at(record, offset)
-        offset += (bits + 7) // 8
-        yield Part(plane, level, bits, begins, offset - begins)
-
-
 def parts(record: BytesLike) -> List[Part]:
     """Lists the parts of a record that are there whole, in their order.
 
     Each has `plane`, `level`, `bits`, `offset` and `length`. Refuses as `survey` does.
     """
     held = octets("record", record).tobytes()
-    return list(_walk(held, survey(held).parts))
+    return list(parts_until(held, len(held) - survey(held).tail))

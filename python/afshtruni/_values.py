@@ -3,7 +3,7 @@
 from __future__ import annotations
 
 from dataclasses import dataclass
-from typing import NamedTuple, Sequence, Tuple
+from typing import Any, NamedTuple, Optional, Sequence, Tuple
 
 import numpy as np
 from numpy.typing import NDArray
@@ -18,9 +18,18 @@ def farthest_pixel(reached: Sequence[int], halvings: int) -> int:
     return min((1 << coarsest) - 1 + added, _FARTHEST)
 
 
+def _as_array(held: NDArray[Any], dtype: Any, copy: Optional[bool]) -> NDArray[Any]:
+    """What numpy asks for; before its version 2 it doesn't tell whether to copy."""
+    if copy is None:
+        return np.asarray(held, dtype)
+    if copy is False and dtype is not None and np.dtype(dtype) != held.dtype:
+        raise ValueError(f"numbers of {held.dtype} can't be seen as {np.dtype(dtype)} uncopied")
+    return np.array(held, dtype, copy=copy)
+
+
 @dataclass(frozen=True, eq=False)
 class Pyramid:
-    """The coefficients of a picture's wavelet transform.
+    """The coefficients of a picture's wavelet transform; numpy takes it as the array of them.
 
     coefficients    whole numbers, rows by columns, the coarse ones in the top left corner
     decompositions  N, how many times the picture was halved for them, 1 to 5
@@ -28,6 +37,9 @@ class Pyramid:
 
     coefficients: NDArray[np.int32]
     decompositions: int
+
+    def __array__(self, dtype: Any = None, copy: Optional[bool] = None) -> NDArray[Any]:
+        return _as_array(self.coefficients, dtype, copy)
 
 
 @dataclass(frozen=True, eq=False)
@@ -87,7 +99,10 @@ class Part(NamedTuple):
 
 class Picture(NamedTuple):
     """A grey picture: pixels, rows by columns, and how many of them were set to 0 or 255, as they
-    had come out under 0 or over 255."""
+    had come out under 0 or over 255. numpy takes it as the array of its pixels."""
 
     pixels: NDArray[np.uint8]
     clipped: int
+
+    def __array__(self, dtype: Any = None, copy: Optional[bool] = None) -> NDArray[Any]:
+        return _as_array(self.pixels, dtype, copy)

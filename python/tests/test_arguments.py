@@ -5,7 +5,7 @@ from __future__ import annotations
 import array
 import mmap
 from pathlib import Path
-from typing import Any
+from typing import Any, Optional
 
 import numpy as np
 import pytest
@@ -54,9 +54,44 @@ def test_pyramids_that_are_taken(given: "np.ndarray[Any, Any]") -> None:
 
 
 def test_unsigned_pyramids_are_taken() -> None:
-    for kind in (np.uint8, np.uint16, np.uint32, np.uint64):
+    for kind in (np.uint16, np.uint32, np.uint64):
         given = np.full((4, 4), 200, kind)
         assert np.array_equal(afshtruni.decode(afshtruni.code(given, 1)).coefficients, given)
+    told = afshtruni.Pyramid(np.full((4, 4), 200, np.uint8), 1)  # type: ignore[arg-type]
+    assert np.array_equal(afshtruni.decode(afshtruni.code(told)), told)
+
+
+@pytest.mark.parametrize("decompositions", [None, 1, 3, 5])
+def test_an_array_of_bytes_is_a_picture(decompositions: Optional[int]) -> None:
+    pixels = np.random.default_rng(3).integers(0, 256, (64, 128)).astype(np.uint8)
+    pyramid = afshtruni.read_picture(pixels, decompositions)
+    record = afshtruni.code(pixels, decompositions)
+    assert record == afshtruni.code(pyramid)
+    assert np.array_equal(afshtruni.write_picture(afshtruni.decode(record)), pixels)
+
+
+def test_an_array_of_bytes_is_no_pyramid_to_print() -> None:
+    with pytest.raises(TypeError, match="an array of uint8 is a picture"):
+        afshtruni.write_picture(np.zeros((8, 8), np.uint8), decompositions=1)
+
+
+def test_numpy_takes_what_comes_back() -> None:
+    decoded = afshtruni.decode(CODED)
+    assert np.asarray(decoded) is decoded.coefficients
+    assert np.asarray(decoded, np.float64).dtype == np.float64
+    copied = np.array(decoded)
+    assert copied.dtype == np.int32 and not np.shares_memory(copied, decoded.coefficients)
+    picture = afshtruni.write_picture(decoded)
+    assert np.asarray(picture) is picture.pixels
+    assert np.abs(np.subtract(picture, picture.pixels)).max() == 0
+
+
+def test_numpy_may_ask_for_a_copy_or_for_none() -> None:
+    decoded = afshtruni.decode(CODED)
+    assert decoded.__array__(copy=False) is decoded.coefficients
+    assert not np.shares_memory(decoded.__array__(copy=True), decoded.coefficients)
+    with pytest.raises(ValueError, match="int32 can't be seen as float64 uncopied"):
+        decoded.__array__(np.float64, copy=False)
 
 
 @pytest.mark.parametrize(
