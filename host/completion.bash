@@ -4,7 +4,7 @@ _afs() {
     COMPREPLY=()
     for ((i = 1; i < COMP_CWORD; i++)); do
         case ${COMP_WORDS[i]} in
-        code | serve | join | decode | parts | explain | seal | verify | certificate) command=${COMP_WORDS[i]} && break ;;
+        code | serve | join | decode | parts | explain | seal | verify | certificate | help) command=${COMP_WORDS[i]} && break ;;
         esac
     done
     case $before in
@@ -18,7 +18,7 @@ _afs() {
     esac
     case $command:$word in
     :-*) mapfile -t COMPREPLY < <(compgen -W '--help --version' -- "$word") ;;
-    :*) mapfile -t COMPREPLY < <(compgen -W 'code serve join decode parts explain seal verify certificate' -- "$word") ;;
+    : | :[!-]* | help:*) mapfile -t COMPREPLY < <(compgen -W 'code serve join decode parts explain seal verify certificate help' -- "$word") ;;
     code:-*) mapfile -t COMPREPLY < <(compgen -W '--decompositions --output --force --quiet --help' -- "$word") ;;
     serve:-*) mapfile -t COMPREPLY < <(compgen -W '--level --plane --error --output --force --quiet --help' -- "$word") ;;
     join:-*) mapfile -t COMPREPLY < <(compgen -W '--output --force --quiet --help' -- "$word") ;;

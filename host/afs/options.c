@@ -4,75 +4,12 @@
 #include "help.h"
 #include "messages.h"
 #include "output.h"
+#include "text.h"
+#include "words.h"
 
 #include <errno.h>
-#include <inttypes.h>
 #include <stdlib.h>
 #include <string.h>
-
-static const char *const commands[COMMANDS] = {[CODE] = "code", [SERVE] = "serve", [JOIN] = "join", [DECODE] = "decode", [PARTS] = "parts",
-                                               [EXPLAIN] = "explain", [SEAL] = "seal", [VERIFY] = "verify", [CERTIFICATE] = "certificate"};
-static const char commands_there[] = "code, serve, join, decode, parts, explain, seal, verify and certificate are there";
-
-enum { EVERY = (1 << COMMANDS) - 1 };
-
-typedef enum {
-    DECOMPOSITIONS,
-    LEVEL,
-    PLANE,
-    GREY,
-    HALVE,
-    MOST,
-    WHOLE,
-    CHECK,
-    JSON,
-    OF,
-    TITLE,
-    NOTE,
-    DEVICE,
-    SCALE,
-    OUTPUT,
-    FORCE,
-    QUIET,
-    HELP,
-    VERSION_OPTION,
-    OPTIONS
-} Option;
-
-static const struct {
-    char letter; /* or 0 */
-    const char *word;
-    const char *argument; /* what is to follow, or NULL */
-    unsigned commands;    /* bits of those that it is for */
-    const char *is_for;   /* the same in words */
-} options[OPTIONS] = {
-    [DECOMPOSITIONS] = {'n', "decompositions", "a number", 1 << CODE, "code"},
-    [LEVEL] = {'r', "level", "a level", 1 << SERVE | 1 << DECODE | 1 << CERTIFICATE, "serve, decode and certificate"},
-    [PLANE] = {'p', "plane", "a plane", 1 << SERVE | 1 << DECODE, "serve and decode"},
-    [GREY] = {'g', "grey", NULL, 1 << DECODE, "decode"},
-    [HALVE] = {'s', "halve", "a number", 1 << DECODE, "decode"},
-    [MOST] = {'e', "error", "a number", 1 << SERVE, "serve"},
-    [WHOLE] = {0, "whole", NULL, 1 << DECODE | 1 << VERIFY, "decode and verify"},
-    [CHECK] = {0, "check", NULL, 1 << DECODE, "decode"},
-    [JSON] = {0, "json", NULL, 1 << DECODE | 1 << PARTS | 1 << EXPLAIN, "parts, explain and decode --check"},
-    [OF] = {0, "of", "a name", 1 << VERIFY, "verify"},
-    [TITLE] = {0, "title", "a text", 1 << CERTIFICATE, "certificate"},
-    [NOTE] = {0, "note", "a text", 1 << CERTIFICATE, "certificate"},
-    [DEVICE] = {0, "device", "a text", 1 << CERTIFICATE, "certificate"},
-    [SCALE] = {0, "scale", "a name", 1 << CERTIFICATE, "certificate"},
-    [OUTPUT] = {'o', "output", "a file", EVERY, NULL},
-    [FORCE] = {'f', "force", NULL, EVERY, NULL},
-    [QUIET] = {'q', "quiet", NULL, EVERY, NULL},
-    [HELP] = {'h', "help", NULL, EVERY, NULL},
-    [VERSION_OPTION] = {0, "version", NULL, EVERY, NULL},
-};
-
-/* The words of the command line that are no options, to the front of it, and which options there were. */
-typedef struct {
-    char **operands;
-    size_t count, before_dashes; /* how many of them stand before -- */
-    bool given[OPTIONS], as_word[OPTIONS];
-} Words;
 
 static uint64_t number_from(const char *name, unsigned least, unsigned most, const char *text) {
     char *end;
@@ -83,15 +20,17 @@ static uint64_t number_from(const char *name, unsigned least, unsigned most, con
     return number;
 }
 
-static _Noreturn void print_and_exit(const char *text) {
+static _Noreturn void print_and_exit(Text *text) {
+    Bytes printed = end_text(text);
     Output output = output_to(NULL, true, false, NULL);
-    put_out(&output, text, strlen(text));
+    put_out(&output, printed.at, printed.length);
+    free(printed.at);
     finish_output(&output);
     exit(STATUS_DONE);
 }
 
 static const Scale *scale_from(const char *name) {
-    const Scale *scale = scale_named(name);
+    const Scale *scale = scale_named(name != NULL ? name : "grey");
     if (scale == NULL)
         misused("SCALE is %s, not '%s'", scale_names, name);
     return scale;
@@ -102,148 +41,43 @@ static const char *some(const char *text) {
     return text != NULL && text[0] != '\0' ? text : NULL;
 }
 
-static void take_text(Option option, const char *text, Request *request) {
-    switch (option) {
-    case OF:
-        request->of = text;
-        break;
-    case TITLE:
-        request->title = some(text);
-        break;
-    case NOTE:
-        request->note = some(text);
-        break;
-    case DEVICE:
-        request->device = some(text);
-        break;
-    case OUTPUT:
-        request->out = text;
-        break;
-    default:
-        break;
-    }
-}
-
-static void take_option(Option option, const char *argument, Request *request) {
-    switch (option) {
-    case DECOMPOSITIONS:
-        request->decompositions = number_from("N", 1, 5, argument);
-        break;
-    case LEVEL:
-        request->level = number_from("LEVEL", 1, 6, argument);
-        break;
-    case PLANE:
-        request->plane = number_from("PLANE", 0, 17, argument);
-        break;
-    case HALVE:
-        request->halvings = number_from("S", 0, 4, argument);
-        break;
-    case MOST:
-        request->most = number_from("E", 0, 255, argument);
-        break;
-    case SCALE:
-        request->scale = scale_from(argument);
-        break;
-    case HELP:
-        print_and_exit(help);
-    case VERSION_OPTION:
-        print_and_exit("afs " VERSION "\n");
-    default:
-        take_text(option, argument, request);
-    }
-}
-
-/* Its argument is what is attached to it, or the next word. */
-static void meet_option(Option option, const char *typed, int length, const char *attached, char ***next, Words *words, Request *request) {
-    const char *argument = options[option].argument == NULL ? NULL : attached != NULL ? attached : **next;
-    if (options[option].argument != NULL && argument == NULL)
-        misused("%.*s needs %s", length, typed, options[option].argument);
-    if (argument != NULL && attached == NULL)
-        (*next)++;
-    words->given[option] = true;
-    words->as_word[option] = typed[1] == '-';
-    take_option(option, argument, request);
-}
-
-static void meet_word(const char *word, char ***next, Words *words, Request *request) {
-    size_t length = strcspn(word, "=");
-    const char *attached = word[length] == '=' ? word + length + 1 : NULL;
-    for (Option option = 0; option < OPTIONS; option++)
-        if (strlen(options[option].word) == length - 2 && strncmp(options[option].word, word + 2, length - 2) == 0 &&
-            (attached == NULL || options[option].argument != NULL)) {
-            meet_option(option, word, (int)length, attached, next, words, request);
-            return;
-        }
-    misused("no option %s", word);
-}
-
-/* How many bytes the character at the front of a text has, with all that goes on as in UTF-8. */
-static int length_typed(const char *text) {
-    int length = 1;
-    while (((unsigned char)text[length] & 0xC0) == 0x80)
-        length++;
-    return length;
-}
-
-/* One letter after another, until one takes the rest as its argument. */
-static void meet_letters(const char *letters, char ***next, Words *words, Request *request) {
-    for (; *letters != '\0'; letters++) {
-        Option option = 0;
-        while (option < OPTIONS && options[option].letter != *letters)
-            option++;
-        if (option == OPTIONS)
-            misused("no option -%.*s", length_typed(letters), letters);
-        const char typed[] = {'-', *letters, '\0'};
-        meet_option(option, typed, 2, letters[1] == '\0' ? NULL : letters + 1, next, words, request);
-        if (options[option].argument != NULL)
-            return;
-    }
-}
-
-/* '-1' is a number that isn't legal rather than an option. */
-static bool is_operand(const char *word) {
-    return word[0] != '-' || word[1] == '\0' || (word[1] >= '0' && word[1] <= '9');
-}
-
-/* Options stand anywhere, whatever POSIXLY_CORRECT says: operands are never taken for them. */
-static void read_words(char **argv, Words *words, Request *request) {
-    bool after_dashes = false;
-    words->operands = argv;
-    for (char **next = argv + (argv[0] != NULL); *next != NULL;) {
-        char *word = *next++;
-        if (!after_dashes && strcmp(word, "--") == 0)
-            after_dashes = true;
-        else if (after_dashes || is_operand(word))
-            words->operands[words->count++] = word;
-        else if (word[1] == '-')
-            meet_word(word, &next, words, request);
-        else
-            meet_letters(word + 1, &next, words, request);
-        if (!after_dashes)
-            words->before_dashes = words->count;
-    }
-}
-
 static Command command_named(const char *name) {
     for (Command command = 0; command < COMMANDS; command++)
         if (strcmp(commands[command], name) == 0)
             return command;
-    misused("no command '%s': %s", name, commands_there);
+    misused("no command '%s': %s are there", name, commands_in_words(EVERY).text);
+}
+
+/* Of the command that is named behind 'help', or before --help; of all where none is. */
+static _Noreturn void print_help_and_exit(const Words *words) {
+    bool has_word = words->count > 0 && strcmp(words->operands[0], "help") == 0;
+    if (words->count > 1u + has_word && has_word)
+        misused("too many arguments: '%s'", words->operands[2]);
+    const char *name = words->count > has_word ? words->operands[has_word] : NULL;
+    Text text;
+    begin_text(&text);
+    print_help(text.stream, name == NULL ? EVERY : 1u << command_named(name));
+    print_and_exit(&text);
+}
+
+static _Noreturn void print_version_and_exit(void) {
+    Text text;
+    begin_text(&text);
+    fputs("afs " VERSION "\n", text.stream);
+    print_and_exit(&text);
 }
 
 static void judge_options(const Words *words, const Request *request) {
+    static const char of_json[] = "parts, explain and decode --check";
     for (Option option = 0; option < OPTIONS; option++)
-        if (words->given[option] && !(options[option].commands >> request->command & 1)) {
-            const char letter[] = {options[option].letter, '\0'};
-            bool as_word = words->as_word[option];
-            misused("%s%s is for %s", as_word ? "--" : "-", as_word ? options[option].word : letter, options[option].is_for);
-        }
+        if (words->given[option] && !(options[option].commands >> request->command & 1))
+            misused("%s is for %s", as_typed(words, option).text, option == JSON ? of_json : commands_in_words(options[option].commands).text);
     if (request->json && request->command == DECODE && !request->check)
-        misused("--json is for %s", options[JSON].is_for);
+        misused("--json is for %s", of_json);
     if (words->given[HALVE] && !request->grey)
-        misused("%s is for pictures: -g, or -o NAME.pgm, stands beside it", words->as_word[HALVE] ? "--halve" : "-s");
+        misused("%s is for pictures: -g, or -o NAME.pgm, stands beside it", as_typed(words, HALVE).text);
     if (request->has_most && (words->given[LEVEL] || words->given[PLANE]))
-        misused("beside %s there is no place for -r or -p", words->as_word[MOST] ? "--error" : "-e");
+        misused("beside %s there is no place for -r or -p", as_typed(words, MOST).text);
     if (request->out != NULL && request->check && !request->json)
         misused("--check writes nothing, so there is no place for -o");
 }
@@ -270,7 +104,7 @@ static size_t read_numbers(const Words *words, Request *request) {
     if (words->count == 3)
         misused("before a pyramid stand W, H and N, and before a picture nothing");
     if (words->given[DECOMPOSITIONS])
-        misused("%s is for pictures; of a pyramid N stands behind W and H", words->as_word[DECOMPOSITIONS] ? "--decompositions" : "-n");
+        misused("%s is for pictures; of a pyramid N stands behind W and H", as_typed(words, DECOMPOSITIONS).text);
     for (size_t i = 0; i < 3; i++)
         *numbers[i] = number_from(names[i], i < 2 ? 4 : 1, i < 2 ? 512 : 5, words->operands[1 + i]);
     return 4;
@@ -319,29 +153,54 @@ static void expect(const Words *words, Request *request) {
         request->halvings = request->level - 1;
 }
 
-static void choose_form(Request *request) {
+static void take_numbers(const Words *words, Request *request) {
+    const char *const *arguments = words->arguments;
+    if (words->given[DECOMPOSITIONS])
+        request->decompositions = number_from("N", 1, 5, arguments[DECOMPOSITIONS]);
+    if (words->given[LEVEL])
+        request->level = number_from("LEVEL", 1, 6, arguments[LEVEL]);
+    if (words->given[PLANE])
+        request->plane = number_from("PLANE", 0, 17, arguments[PLANE]);
+    if (words->given[HALVE])
+        request->halvings = number_from("S", 0, 4, arguments[HALVE]);
+    if (words->given[MOST])
+        request->most = number_from("E", 0, 255, arguments[MOST]);
+}
+
+static void take_texts(const Words *words, Request *request) {
+    request->of = words->arguments[OF];
+    request->title = some(words->arguments[TITLE]);
+    request->note = some(words->arguments[NOTE]);
+    request->device = some(words->arguments[DEVICE]);
+    request->scale = scale_from(words->arguments[SCALE]);
+    request->out = words->arguments[OUTPUT];
     request->form = ends_in(request->out, ".pdf") ? AS_PDF : ends_in(request->out, ".png") ? AS_PNG : AS_HTML;
-    if (request->scale == NULL)
-        request->scale = scale_named("grey");
+}
+
+static void take_switches(const Words *words, Request *request) {
+    request->force = words->given[FORCE];
+    request->quiet = words->given[QUIET];
+    request->whole = words->given[WHOLE];
+    request->check = words->given[CHECK];
+    request->json = words->given[JSON];
+    request->has_most = words->given[MOST];
+    request->has_decompositions = words->given[DECOMPOSITIONS];
+    request->grey = words->given[GREY] || (request->command == DECODE && ends_in(request->out, ".pgm"));
 }
 
 Request request_from(char **argv) {
-    Words words = {.count = 0};
-    Request request = {.command = CODE};
-    read_words(argv, &words, &request);
+    Words words = words_of(argv);
+    if (words.given[HELP] || (words.count > 0 && strcmp(words.operands[0], "help") == 0))
+        print_help_and_exit(&words);
+    if (words.given[VERSION_OPTION])
+        print_version_and_exit();
     if (words.count == 0)
-        misused("no command: %s", commands_there);
-    request.command = command_named(words.operands[0]);
-    request.force = words.given[FORCE];
-    request.quiet = words.given[QUIET];
-    request.whole = words.given[WHOLE];
-    request.check = words.given[CHECK];
-    request.json = words.given[JSON];
-    request.has_most = words.given[MOST];
-    request.has_decompositions = words.given[DECOMPOSITIONS];
-    request.grey = words.given[GREY] || (request.command == DECODE && ends_in(request.out, ".pgm"));
+        misused("no command: %s are there", commands_in_words(EVERY).text);
+    Request request = {.command = command_named(words.operands[0])};
+    take_numbers(&words, &request);
+    take_texts(&words, &request);
+    take_switches(&words, &request);
     expect(&words, &request);
-    choose_form(&request);
     judge_options(&words, &request);
     read_operands(&words, &request);
     return request;

@@ -2,14 +2,13 @@
 #ifndef AFS_OPTIONS_H
 #define AFS_OPTIONS_H
 
+#include "choices.h"
 #include "converting.h"
 #include "scales.h"
 
 #include <stdbool.h>
 #include <stddef.h>
 #include <stdint.h>
-
-typedef enum { CODE, SERVE, JOIN, DECODE, PARTS, EXPLAIN, SEAL, VERIFY, CERTIFICATE, COMMANDS } Command;
 
 typedef struct {
     Command command;
