@@ -9,6 +9,7 @@
 #include "nearness.h"
 #include "notes.h"
 #include "output.h"
+#include "paths.h"
 #include "pictures.h"
 #include "progress.h"
 #include "refusals.h"
@@ -176,12 +177,13 @@ static int verify(const Turn *turn) {
     Reading reading = read_file(turn->name, turn->input);
     Text text;
     begin_text(&text);
-    int status = tell_verdict(text.stream, turn->matcher, seal_for(turn->matcher, turn->request->of, &reading), &reading, turn->request);
+    Verdict verdict = verdict_on(turn->matcher, turn->request, &reading);
+    tell_verdict(text.stream, turn->matcher, &verdict, turn->request->quiet);
     put_text(turn->output, &text);
     if (reading.outcome.number != AFS_ACCEPTED)
         tell_refusal(turn, &reading.outcome);
     free_reading(&reading);
-    return status;
+    return verdict.status;
 }
 
 static int call_and_finish(const Turn *turn) {
@@ -215,8 +217,15 @@ static void read_all_seals(const Request *request, Seals *seals) {
 
 static Matcher match_seals(const Request *request, const Seals *seals) {
     Matcher matcher = matcher_of(seals);
-    if (request->of != NULL && seal_named(&matcher, request->of) == NULL)
+    if (request->of == NULL)
+        return matcher;
+    char *path = plain_path(request->of);
+    Namesakes namesakes = namesakes_of(&matcher, path);
+    free(path);
+    if (namesakes.count == 0)
         fail("%s: no record is sealed as %s", name_of_input(request->seals), request->of);
+    if (namesakes.count > 1)
+        fail("%s: %zu records are sealed as %s; the folder before it tells which", name_of_input(request->seals), namesakes.count, request->of);
     return matcher;
 }
 

@@ -1,5 +1,7 @@
 #include "matching.h"
 
+#include "paths.h"
+
 #include <stdlib.h>
 #include <string.h>
 
@@ -11,13 +13,16 @@ typedef struct KnownPart {
     const Seal *seal;
 } KnownPart;
 
-static const char *last_name(const char *name) {
-    const char *slash = strrchr(name, '/');
-    return slash == NULL ? name : slash + 1;
-}
+typedef struct NamedSeal {
+    const Seal *seal;
+    char *path; /* its name, plain */
+} NamedSeal;
 
-static int compare_last_names(const void *one, const void *other) {
-    return strcmp(last_name((*(const Seal *const *)one)->name), last_name((*(const Seal *const *)other)->name));
+/* Those of one path in the order of their names. */
+static int compare_names(const void *one, const void *other) {
+    const NamedSeal *of_one = one, *of_other = other;
+    int order = compare_from_end(of_one->path, of_other->path);
+    return order != 0 ? order : of_one->seal < of_other->seal ? -1 : of_one->seal > of_other->seal;
 }
 
 static int compare_digests(const void *one, const void *other) {
@@ -32,43 +37,46 @@ static int compare_known(const void *one, const void *other) {
 }
 
 Matcher matcher_of(const Seals *seals) {
-    Matcher matcher = {.seals = seals, .by_last_name = memory_for(seals->count, sizeof *matcher.by_last_name)};
-    for (size_t i = 0; i < seals->count; i++)
-        matcher.by_last_name[i] = &seals->of[i];
-    qsort(matcher.by_last_name, seals->count, sizeof *matcher.by_last_name, compare_last_names);
+    Matcher matcher = {.seals = seals, .by_name = memory_for(seals->count, sizeof *matcher.by_name), .count = seals->count};
+    for (size_t i = 0; i < matcher.count; i++)
+        matcher.by_name[i] = (NamedSeal){&seals->of[i], plain_path(seals->of[i].name)};
+    qsort(matcher.by_name, matcher.count, sizeof *matcher.by_name, compare_names);
     return matcher;
 }
 
 void free_matcher(Matcher *matcher) {
-    free(matcher->by_last_name);
+    for (size_t i = 0; i < matcher->count; i++)
+        free(matcher->by_name[i].path);
+    free(matcher->by_name);
     free(matcher->by_digest);
 }
 
-static const Seal *seal_with_name(const Seals *seals, const char *name) {
-    size_t from = 0, to = seals->count;
+static size_t first_not_before(const Matcher *matcher, const char *path) {
+    size_t from = 0, to = matcher->count;
     while (from < to) {
         size_t middle = from + (to - from) / 2;
-        int order = strcmp(seals->of[middle].name, name);
-        if (order == 0)
-            return &seals->of[middle];
-        if (order < 0)
+        if (compare_from_end(matcher->by_name[middle].path, path) < 0)
             from = middle + 1;
         else
             to = middle;
     }
-    return NULL;
+    return from;
 }
 
-const Seal *seal_named(const Matcher *matcher, const char *name) {
-    const Seal *exact = seal_with_name(matcher->seals, name);
-    if (exact != NULL || matcher->seals->count == 0)
-        return exact;
-    const Seal wanted = {.name = (char *)name}, *key = &wanted;
-    const Seal **first = matcher->by_last_name, **end = first + matcher->seals->count;
-    const Seal **found = bsearch(&key, first, matcher->seals->count, sizeof *first, compare_last_names);
-    bool is_only = found != NULL && (found == first || compare_last_names(found - 1, &key) != 0) &&
-                   (found + 1 == end || compare_last_names(found + 1, &key) != 0);
-    return is_only ? *found : NULL;
+/* In their order those that agree longest stand together, beside the place that the path would have; the shortest first. */
+Namesakes namesakes_of(const Matcher *matcher, const char *path) {
+    const NamedSeal *names = matcher->by_name;
+    size_t from = first_not_before(matcher, path), to = from, end = matcher->count;
+    size_t before = from > 0 ? same_at_end(names[from - 1].path, path) : 0, behind = to < end ? same_at_end(names[to].path, path) : 0;
+    size_t most = before > behind ? before : behind;
+    if (most == 0)
+        return (Namesakes){NULL, 0};
+    while (from > 0 && same_at_end(names[from - 1].path, path) == most)
+        from--;
+    while (to < end && same_at_end(names[to].path, path) == most)
+        to++;
+    bool is_told = to - from == 1 || count_components(names[from].path) == most;
+    return (Namesakes){is_told ? names[from].seal : NULL, is_told ? 1 : to - from};
 }
 
 bool has_same(const Seal *seal, const SealedPart *part) {

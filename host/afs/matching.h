@@ -6,7 +6,8 @@
 
 typedef struct {
     const Seals *seals;          /* sorted by name */
-    const Seal **by_last_name;   /* by what stands behind the last slash of their names */
+    struct NamedSeal *by_name;   /* by their names as paths, the last components first */
+    size_t count;                /* of those there were when it was made */
     struct KnownPart *by_digest; /* all their parts, made when first wanted */
     size_t parts;
 } Matcher;
@@ -14,8 +15,13 @@ typedef struct {
 Matcher matcher_of(const Seals *seals);
 void free_matcher(Matcher *matcher);
 
-/* The one with this name, or else the only one whose last name is this one's; or NULL. */
-const Seal *seal_named(const Matcher *matcher, const char *name);
+/* Which sealed records a path may stand for: those that agree with it in most components, from the last one on. */
+typedef struct {
+    const Seal *seal; /* the only one, or the one that agrees in all that its name has; else NULL */
+    size_t count;     /* how many there are; 1 where one of them is told */
+} Namesakes;
+
+Namesakes namesakes_of(const Matcher *matcher, const char *plain_path);
 
 /* The one that has most parts just like these, the longest among them; or NULL. */
 const Seal *seal_like(Matcher *matcher, const Seal *found);

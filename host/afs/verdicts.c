@@ -1,22 +1,67 @@
 #include "verdicts.h"
 
 #include "messages.h"
+#include "paths.h"
 
 #include <inttypes.h>
+#include <stdlib.h>
 #include <string.h>
 
-const Seal *seal_for(Matcher *matcher, const char *asked, const Reading *reading) {
+static bool is_another(const Verdict *verdict) {
+    return verdict->wanted != NULL && verdict->wanted != verdict->comparison.seal;
+}
+
+bool is_as_sealed(const Verdict *verdict) {
+    return verdict->comparison.seal != NULL && !verdict->comparison.is_changed && verdict->namesakes == 0 && !is_another(verdict);
+}
+
+/* By the file's name, unless one is asked for or there is one alone. */
+static Namesakes candidates_for(const Matcher *matcher, const char *asked, const Reading *reading) {
     if (matcher->seals->count == 1 && asked == NULL)
-        return &matcher->seals->of[0];
-    const Seal *named = seal_named(matcher, asked != NULL ? asked : reading->name);
-    return named != NULL || !reading->has_header ? named : seal_like(matcher, &reading->found);
+        return (Namesakes){&matcher->seals->of[0], 1};
+    char *path = asked != NULL ? plain_path(asked) : full_path(reading->name);
+    Namesakes namesakes = namesakes_of(matcher, path);
+    free(path);
+    return namesakes;
+}
+
+static Comparison compare_with_like(Matcher *matcher, const Reading *reading) {
+    const Seal *like = reading->has_header ? seal_like(matcher, &reading->found) : NULL;
+    return like == NULL ? (Comparison){.reading = reading} : compare_with(like, reading);
+}
+
+static int status_of(const Verdict *verdict, bool wants_whole) {
+    if (!is_as_sealed(verdict))
+        return STATUS_CHANGED;
+    if (verdict->comparison.has_tail)
+        return STATUS_UNCHECKED;
+    return wants_whole && !verdict->comparison.is_whole ? STATUS_LACKS : STATUS_DONE;
+}
+
+Verdict verdict_on(Matcher *matcher, const Request *request, const Reading *reading) {
+    Namesakes candidates = candidates_for(matcher, request->of, reading);
+    Verdict verdict = {.wanted = candidates.seal, .namesakes = candidates.count > 1 ? candidates.count : 0};
+    if (verdict.wanted == NULL) {
+        verdict.comparison = compare_with_like(matcher, reading);
+    } else {
+        verdict.comparison = compare_with(verdict.wanted, reading);
+        Comparison like = verdict.comparison.is_changed ? compare_with_like(matcher, reading) : verdict.comparison;
+        if (like.seal != NULL && !like.is_changed)
+            verdict.comparison = like;
+    }
+    verdict.status = status_of(&verdict, request->whole);
+    return verdict;
 }
 
 /* The file's name, and the sealed record's where that isn't the same. */
-static void begin_line(FILE *out, const Comparison *comparison) {
-    fprintf(out, "%s: ", comparison->reading->name);
-    if (strcmp(comparison->seal->name, comparison->reading->name) != 0)
-        fprintf(out, "of %s: ", comparison->seal->name);
+static void begin_line(FILE *out, const Verdict *verdict) {
+    const char *name = verdict->comparison.reading->name, *of = is_another(verdict) ? verdict->wanted->name : verdict->comparison.seal->name;
+    char *path = plain_path(name), *of_seal = plain_path(of);
+    fprintf(out, "%s: ", name);
+    if (strcmp(path, of_seal) != 0)
+        fprintf(out, "of %s: ", of);
+    free(path);
+    free(of_seal);
 }
 
 static void tell_range(FILE *out, const char *word, uint32_t from, uint32_t to) {
@@ -51,35 +96,82 @@ static void tell_selection(FILE *out, const Comparison *comparison) {
     tell_range(out, ", plane", least.plane, most.plane);
 }
 
-static void tell_header(FILE *out, const Comparison *comparison) {
-    Header is = comparison->reading->found.header, was = comparison->seal->header;
-    if (!comparison->reading->has_header || memcmp(&is, &was, sizeof is) == 0)
+static void tell_unchanged(FILE *out, const Comparison *comparison) {
+    if (comparison->is_whole)
+        fputs("whole", out);
+    else
+        tell_selection(out, comparison);
+    if (comparison->has_tail)
+        fputs("; the tail isn't checked", out);
+}
+
+static void tell_header(FILE *out, const Verdict *verdict) {
+    Header is = verdict->comparison.reading->found.header, was = verdict->comparison.seal->header;
+    if (!verdict->comparison.reading->has_header || memcmp(&is, &was, sizeof is) == 0)
         return;
-    begin_line(out, comparison);
+    begin_line(out, verdict);
     fprintf(out, "the header changed: it tells %" PRIu32 " %" PRIu32 " %" PRIu32 " %" PRIu32, is.width, is.height, is.decompositions, is.planes);
     fprintf(out, ", and %" PRIu32 " %" PRIu32 " %" PRIu32 " %" PRIu32 " was sealed\n", was.width, was.height, was.decompositions, was.planes);
 }
 
-static void tell_other_parts(FILE *out, Matcher *matcher, const Comparison *comparison) {
-    const Seal *found = &comparison->reading->found;
-    for (size_t i = 0; i < found->count; i++) {
-        const SealedPart *part = &found->parts[i];
-        Standing standing = standing_in_seal(comparison, part);
-        if (standing == AS_SEALED)
-            continue;
-        const Seal *other = other_with(matcher, comparison->seal, part);
-        begin_line(out, comparison);
-        fprintf(out, "part (%" PRIu32 ", %" PRIu32 ") %s", part->part.plane, part->part.level,
-                standing == IS_FOREIGN || other != NULL ? "isn't of this record" : "changed");
-        fprintf(out, "%s%s\n", other != NULL ? ", but of " : "", other != NULL ? other->name : "");
-    }
+/* What became of a part that is there: it is as it was sealed, or it changed, or it isn't of this record, but maybe of another that is sealed. */
+typedef struct {
+    enum { UNCHANGED, CHANGED, NOT_OF_THIS } fate;
+    const Seal *other;
+} Origin;
+
+static Origin origin_of(Matcher *matcher, const Comparison *comparison, const SealedPart *part) {
+    Standing standing = standing_in_seal(comparison, part);
+    if (standing == AS_SEALED)
+        return (Origin){UNCHANGED, NULL};
+    const Seal *other = other_with(matcher, comparison->seal, part);
+    return (Origin){standing == IS_FOREIGN || other != NULL ? NOT_OF_THIS : CHANGED, other};
 }
 
-static void tell_end(FILE *out, const Comparison *comparison) {
-    const Reading *reading = comparison->reading;
+static bool is_same_origin(Origin one, Origin other) {
+    return one.fate == other.fate && one.other == other.other;
+}
+
+/* One line for all parts from the first on that have its origin. */
+static void tell_origin(FILE *out, const Verdict *verdict, const Origin *origins, size_t first) {
+    const Seal *found = &verdict->comparison.reading->found;
+    Text names;
+    size_t count = 0;
+    begin_text(&names);
+    for (size_t i = first; i < found->count; i++)
+        if (is_same_origin(origins[i], origins[first]))
+            fprintf(names.stream, "%s(%" PRIu32 ", %" PRIu32 ")", count++ == 0 ? " " : ", ", found->parts[i].part.plane, found->parts[i].part.level);
+    Bytes listed = end_text(&names);
+    begin_line(out, verdict);
+    fprintf(out, "part%s%.*s ", count == 1 ? "" : "s", (int)listed.length, (const char *)listed.at);
+    free(listed.at);
+    if (origins[first].fate == CHANGED)
+        fputs("changed", out);
+    else
+        fputs(count == 1 ? "isn't of this record" : "aren't of this record", out);
+    fprintf(out, "%s%s\n", origins[first].other != NULL ? ", but of " : "", origins[first].other != NULL ? origins[first].other->name : "");
+}
+
+static void tell_other_parts(FILE *out, Matcher *matcher, const Verdict *verdict) {
+    const Seal *found = &verdict->comparison.reading->found;
+    Origin *origins = memory_for(found->count, sizeof *origins);
+    for (size_t i = 0; i < found->count; i++)
+        origins[i] = origin_of(matcher, &verdict->comparison, &found->parts[i]);
+    for (size_t i = 0; i < found->count; i++) {
+        size_t first = 0;
+        while (!is_same_origin(origins[first], origins[i]))
+            first++;
+        if (first == i && origins[i].fate != UNCHANGED)
+            tell_origin(out, verdict, origins, i);
+    }
+    free(origins);
+}
+
+static void tell_end(FILE *out, const Verdict *verdict) {
+    const Reading *reading = verdict->comparison.reading;
     if (reading->behind == reading->file.length && reading->outcome.number == AFS_ACCEPTED)
         return;
-    begin_line(out, comparison);
+    begin_line(out, verdict);
     if (reading->outcome.number != AFS_ACCEPTED)
         fprintf(out, "from byte %zu on it can't be read\n", reading->behind);
     else
@@ -87,14 +179,15 @@ static void tell_end(FILE *out, const Comparison *comparison) {
 }
 
 /* What isn't found anywhere in a file that was changed. */
-static void tell_missing(FILE *out, const Comparison *comparison) {
+static void tell_missing(FILE *out, const Verdict *verdict) {
+    const Seal *seal = verdict->comparison.seal;
     const char *before = "missing: part ";
-    for (size_t i = 0; i < comparison->seal->count; i++) {
-        const SealedPart *sealed = &comparison->seal->parts[i];
-        if (standing_of(comparison, sealed) != IS_MISSING)
+    for (size_t i = 0; i < seal->count; i++) {
+        const SealedPart *sealed = &seal->parts[i];
+        if (standing_of(&verdict->comparison, sealed) != IS_MISSING)
             continue;
         if (before[0] == 'm')
-            begin_line(out, comparison);
+            begin_line(out, verdict);
         fprintf(out, "%s(%" PRIu32 ", %" PRIu32 ")", before, sealed->part.plane, sealed->part.level);
         before = ", ";
     }
@@ -102,36 +195,44 @@ static void tell_missing(FILE *out, const Comparison *comparison) {
         fputc('\n', out);
 }
 
-static int tell_changed(FILE *out, Matcher *matcher, const Comparison *comparison) {
-    tell_header(out, comparison);
-    tell_other_parts(out, matcher, comparison);
-    tell_end(out, comparison);
-    tell_missing(out, comparison);
-    return STATUS_CHANGED;
+static void tell_changed(FILE *out, Matcher *matcher, const Verdict *verdict) {
+    tell_header(out, verdict);
+    tell_other_parts(out, matcher, verdict);
+    tell_end(out, verdict);
+    tell_missing(out, verdict);
 }
 
-static int status_of(const Comparison *comparison, bool wants_whole) {
-    if (comparison->has_tail)
-        return STATUS_UNCHECKED;
-    return wants_whole && !comparison->is_whole ? STATUS_LACKS : STATUS_DONE;
-}
-
-int tell_verdict(FILE *out, Matcher *matcher, const Seal *seal, const Reading *reading, const Request *request) {
-    if (seal == NULL) {
-        fprintf(out, "%s: isn't of any sealed record\n", reading->name);
-        return STATUS_CHANGED;
-    }
-    Comparison comparison = compare_with(seal, reading);
-    if (comparison.is_changed)
-        return tell_changed(out, matcher, &comparison);
-    int status = status_of(&comparison, request->whole);
-    if (request->quiet && status == STATUS_DONE)
-        return status;
-    begin_line(out, &comparison);
-    if (comparison.is_whole)
-        fputs("whole", out);
+/* Which record it is, where it isn't the one that it is to be, or its name doesn't tell that. */
+static void tell_which(FILE *out, const Verdict *verdict) {
+    if (is_another(verdict))
+        begin_line(out, verdict);
     else
-        tell_selection(out, &comparison);
-    fputs(comparison.has_tail ? "; the tail isn't checked\n" : "\n", out);
-    return status;
+        fprintf(out, "%s: ", verdict->comparison.reading->name);
+    if (!verdict->comparison.is_changed) {
+        fprintf(out, "is %s, ", verdict->comparison.seal->name);
+        tell_unchanged(out, &verdict->comparison);
+        fputs(verdict->namesakes > 0 ? "; " : "", out);
+    }
+    if (verdict->namesakes > 0)
+        fprintf(out, "by its name it may be any of %zu sealed records: --of tells which", verdict->namesakes);
+    fputc('\n', out);
+}
+
+void tell_verdict(FILE *out, Matcher *matcher, const Verdict *verdict, bool quiet) {
+    const Comparison *comparison = &verdict->comparison;
+    if (quiet && verdict->status == STATUS_DONE)
+        return;
+    if (comparison->seal == NULL) {
+        fprintf(out, "%s: isn't of any sealed record\n", comparison->reading->name);
+        return;
+    }
+    if (is_another(verdict) || verdict->namesakes > 0)
+        tell_which(out, verdict);
+    if (comparison->is_changed)
+        tell_changed(out, matcher, verdict);
+    else if (is_as_sealed(verdict)) {
+        begin_line(out, verdict);
+        tell_unchanged(out, comparison);
+        fputc('\n', out);
+    }
 }

@@ -7,12 +7,22 @@
 
 #include <stdio.h>
 
-/* Which sealed record a file is compared with: the one that is asked for, NULL if none is; the one of its name; or the one that it is most like. NULL if
-   none is like it. */
-const Seal *seal_for(Matcher *matcher, const char *asked, const Reading *reading);
+/* A file is to be the sealed record that is asked for, or else the one of its name. Where its name isn't sealed, where it may stand for several, or where the
+   file is unchanged of another one, it is held against the one that it is most like. */
+typedef struct {
+    const Seal *wanted;    /* the record that it is to be, NULL if nobody says so */
+    size_t namesakes;      /* how many it may be by its name, where that doesn't tell it; else 0 */
+    Comparison comparison; /* its seal is NULL where the file isn't of any sealed record */
+    int status;
+} Verdict;
 
-/* Lines about the file; of one that is as it was sealed only where it isn't to be quiet. The status, which is 0 for a selection unless the whole record is
-   wanted. */
-int tell_verdict(FILE *out, Matcher *matcher, const Seal *seal, const Reading *reading, const Request *request);
+/* The status is 0 for a selection unless the whole record is wanted. */
+Verdict verdict_on(Matcher *matcher, const Request *request, const Reading *reading);
+
+/* Whether every part that is there is as it was sealed, of the record that it is to be. */
+bool is_as_sealed(const Verdict *verdict);
+
+/* Lines about the file, with its name before each; of one that is as it was sealed none where it is to be quiet. */
+void tell_verdict(FILE *out, Matcher *matcher, const Verdict *verdict, bool quiet);
 
 #endif

@@ -1,4 +1,5 @@
-"""sealed.py make RECORD FOLDER TOOL FLIPS DAMAGED SELECTIONS: files made of a record: single bits turned over; runs of bytes dropped, swapped or zeroed;
+"""sealed.py mix RECORD OTHER OUT: the record with the finest level of another one of its size.
+sealed.py make RECORD FOLDER TOOL FLIPS DAMAGED SELECTIONS: files made of a record: single bits turned over; runs of bytes dropped, swapped or zeroed;
 parts left out, cut off, or joined from two selections by the tool. As many of each as is said; of the flips all where that is all.
 sealed.py read RECORD FOLDER TOLD: compares what 'afs verify' told of them with what is worked out here from their bytes."""
 import os
@@ -75,6 +76,13 @@ def make(record, folder, tool, *counts):
                 out.write(made)
 
 
+def mix(record, other, out):
+    with open(other, "rb") as file:
+        parts, foreign = Sealed(record).parts, Sealed(file.read()).parts
+    with open(out, "wb") as file:
+        file.write(Sealed(record).header + b"".join(foreign[name] if name[1] == 1 else part for name, part in parts.items()))
+
+
 def span(word, numbers):
     low, high = min(numbers), max(numbers)
     return f"{word} {low}" if low == high else f"{word}s {low} to {high}"
@@ -143,4 +151,4 @@ def read(record, folder, told):
 if __name__ == "__main__":
     with open(sys.argv[2], "rb") as file:
         whole = file.read()
-    {"make": make, "read": read}[sys.argv[1]](whole, *sys.argv[3:])
+    {"make": make, "mix": mix, "read": read}[sys.argv[1]](whole, *sys.argv[3:])
