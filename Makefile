@@ -1,5 +1,5 @@
 # make help   what can be made
-.PHONY: help needs run test bench soak install uninstall deb clean fmt
+.PHONY: help needs run test bench soak install uninstall deb wheel clean fmt
 
 help:
 	@echo 'make run         from nothing: proves and builds the library, builds the tool, and does the main job with it on the sample that ships'
@@ -7,6 +7,7 @@ help:
 	@echo 'make install     tool, library, header, pkg-config files, man pages, completion, Python package: PREFIX=/usr/local, DESTDIR before it;'
 	@echo '                 make uninstall removes them'
 	@echo 'make deb         Debian packages in build/deb: afshtruni, libafshtruni by its soname, libafshtruni-dev, python3-afshtruni; on x86-64 only'
+	@echo 'make wheel       the wheel of the Python package in build/wheel, for pip to install; it carries the library of this machine'
 	@echo 'make needs       lists the packages that these need, and which are there; installs nothing'
 	@echo 'make bench       times of the calls beside the reference, plain C and OpenJPEG: docs/BENCHMARKS.md; on x86-64 only'
 	@echo 'make soak        ten million records, most of them damaged, decoded by the archive and by the reference, all memory lent compared; a line'
@@ -39,6 +40,11 @@ install uninstall:
 deb:
 	@package/make_debs build build/deb
 	@echo 'The packages are build/deb/*.deb.'
+
+wheel:
+	@$(MAKE) --no-print-directory -s -C host library
+	@python/make_wheel build build/wheel
+	@echo 'The wheel is there: pip install --no-index --no-deps build/wheel/*.whl'
 
 clean:
 	@rm -rf build target reference/target python/*/__pycache__ crates/*/out

@@ -43,17 +43,20 @@ ERRORS
                             another type, another number of dimensions
     OSError                 the library, or a file, can't be read or written
     NotImplementedError     the library is older than the call
+    Note (a warning)        what `afs` notes beside a picture
 
 ENVIRONMENT
     AFSHTRUNI_LIBRARY  the file of the shared library, where it isn't the one that this package was
                        installed with, or that of the source tree, build/libafshtruni.so
 
 SEE ALSO
-    afs(1), afshtruni(3)
+    afshtruni.numcodecs, a codec for zarr; afshtruni.imageio, a format for imageio; afs(1),
+    afshtruni(3)
 """
 
 from __future__ import annotations
 
+from ._notes import Note
 from ._pictures import read_picture, write_picture
 from ._place import VERSION as __version__
 from ._records import code, decode, join, parts, serve, survey
@@ -62,6 +65,7 @@ from ._values import Decoded, Part, Picture, Pyramid, Survey
 
 __all__ = [
     "Decoded",
+    "Note",
     "Part",
     "Picture",
     "Pyramid",

@@ -11,6 +11,7 @@ _MOST_BYTES = 4
 _GROUP = 7
 _MORE = 1 << _GROUP
 _VERSION = 1
+_BITS_PER_COEFFICIENT = 4
 
 
 class Header(NamedTuple):
@@ -30,6 +31,11 @@ class Header(NamedTuple):
     def most_parts(self) -> int:
         """One for each plane and level."""
         return self.planes * self.coarsest
+
+    @property
+    def most_bits(self) -> int:
+        """That a part may have."""
+        return _BITS_PER_COEFFICIENT * self.width * self.height
 
 
 class Form(Enum):

@@ -62,6 +62,11 @@ class Decoded(Pyramid):
     tail: int
 
     @property
+    def is_whole(self) -> bool:
+        """Whether every part was used, and nothing stands behind them."""
+        return not any(self.reached) and self.tail == 0
+
+    @property
     def pixel_bound(self) -> int:
         """How many grey values a pixel printed of this may be from the recorded one, at most.
 

@@ -135,9 +135,8 @@ def _why_part(record: bytes, place: int, header: Header) -> str:
         return f"{at} has plane {plane}; legal is 0 to {header.planes - 1}"
     if not 1 <= level <= header.coarsest:
         return f"{at} has level {level}; legal is 1 to {header.coarsest}"
-    most = 4 * header.width * header.height
     return _why_order(plane, level, place, _part_before(record, place)) or (
-        f"{at} (plane {plane}, level {level}) has {bits} bits; legal is at most {most}"
+        f"{at} (plane {plane}, level {level}) has {bits} bits; legal is at most {header.most_bits}"
     )
 
 

@@ -15,7 +15,7 @@ import afshtruni
 from conftest import TREE
 
 
-def _run(program: str, **variables: str) -> "subprocess.CompletedProcess[str]":
+def run_python(program: str, **variables: str) -> "subprocess.CompletedProcess[str]":
     package = str(Path(afshtruni.__file__).resolve().parents[1])
     return subprocess.run(
         [sys.executable, "-c", program],
@@ -25,7 +25,7 @@ def _run(program: str, **variables: str) -> "subprocess.CompletedProcess[str]":
 
 
 def test_no_library_is_told() -> None:
-    ended = _run(
+    ended = run_python(
         "import afshtruni; afshtruni.survey(b'')", AFSHTRUNI_LIBRARY="/nowhere/libafshtruni.so"
     )
     assert ended.returncode == 1
@@ -35,12 +35,24 @@ def test_no_library_is_told() -> None:
 
 
 def test_a_library_without_the_call_is_told() -> None:
-    ended = _run("import afshtruni; afshtruni.survey(b'')", AFSHTRUNI_LIBRARY="libc.so.6")
+    ended = run_python("import afshtruni; afshtruni.survey(b'')", AFSHTRUNI_LIBRARY="libc.so.6")
     assert ended.stderr.endswith("NotImplementedError: this libafshtruni has no afs_survey()\n")
 
 
+def test_the_library_is_the_one_of_the_package() -> None:
+    """Where it is packed with it, as in a wheel, it lies beside the modules."""
+    package = Path(afshtruni.__file__).resolve().parent
+    packed = sorted(package.glob("libafshtruni.so.*"))
+    if not packed:
+        pytest.skip("the library isn't packed with the package")
+    ended = run_python(
+        "import afshtruni, afshtruni._library as l; afshtruni.code; print(l._library()._name)",
+    )
+    assert (ended.stdout, ended.stderr) == (f"{packed[0]}\n", "")
+
+
 def test_importing_needs_no_library() -> None:
-    ended = _run("import afshtruni", AFSHTRUNI_LIBRARY="/nowhere/libafshtruni.so")
+    ended = run_python("import afshtruni", AFSHTRUNI_LIBRARY="/nowhere/libafshtruni.so")
     assert (ended.returncode, ended.stderr) == (0, "")
 
 
@@ -80,7 +92,7 @@ def test_example(tmp_path: Path) -> None:
     pytest.importorskip("matplotlib")
     figure = tmp_path / "waterfall.png"
     script = TREE / "python" / "example" / "waterfall.py"
-    ended = _run(f"import runpy, sys; sys.argv[1:] = [{str(figure)!r}]; "
+    ended = run_python(f"import runpy, sys; sys.argv[1:] = [{str(figure)!r}]; "
                  f"runpy.run_path({str(script)!r}, run_name='__main__')", MPLBACKEND="Agg")
     assert (ended.returncode, ended.stderr) == (0, "")
     assert figure.read_bytes().startswith(b"\x89PNG")

@@ -14,8 +14,10 @@ import afshtruni
 def test_type_hints() -> None:
     pytest.importorskip("mypy")
     package = Path(afshtruni.__file__).resolve().parent
+    # numcodecs and imageio tell no types.
+    options = ["--strict", "--ignore-missing-imports", "--allow-subclassing-any"]
     checked = subprocess.run(
-        [sys.executable, "-m", "mypy", "--strict", "--cache-dir=/dev/null", str(package)],
+        [sys.executable, "-m", "mypy", *options, "--cache-dir=/dev/null", str(package)],
         capture_output=True, text=True, check=False,
     )
     assert (checked.returncode, checked.stderr) == (0, ""), checked.stdout
