@@ -45,6 +45,8 @@ static Outcome call(const Request *request, Bytes input) {
         return request->grey ? print_picture(input, request->halvings) : decode(input);
     case CERTIFICATE:
         return print_picture(input, request->halvings);
+    case EXPLAIN:
+        return print_picture(input, 0);
     default:
         return decode(input);
     }
@@ -111,15 +113,18 @@ static int finish_decoded(const Turn *turn, const Outcome *outcome) {
     const Request *request = turn->request;
     Holding holding = holding_of(turn->input, outcome);
     bool is_short = lacks(request, &holding), is_too_short = is_short && request->whole;
+    bool is_wrong = request->grey && is_no_picture(turn->input, &holding, outcome, request->halvings);
     if (is_short)
         note_decoded(request, turn->name, &holding);
     if (outcome->clipped > 0)
         note_clipped(request, turn->name, outcome->clipped);
+    if (is_wrong)
+        note_no_picture(request, turn->name);
     if (request->json)
         tell(turn, outcome);
     else if (!request->check && !is_too_short)
         put_out(turn->output, outcome->bytes.at, outcome->bytes.length);
-    return is_too_short ? STATUS_LACKS : STATUS_DONE;
+    return is_too_short || is_wrong ? STATUS_LACKS : STATUS_DONE;
 }
 
 /* A seal has no place for bytes that are no whole part. */

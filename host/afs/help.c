@@ -90,9 +90,9 @@ static const char of_changes[] = "\n"
 static const char of_statuses[] = "\n"
                                   "Exit status: 0 done; 1 refused: 'refused NUMBER NAME at PLACE: FILE: ..' is\n"
                                   "printed on standard error; 2 wrong usage, or a file that can't be read or\n"
-                                  "written; 3 with --whole, something lacks; from verify 4 where all is as it was\n"
-                                  "sealed but a tail, which can't be checked, 5 where something isn't. Of many\n"
-                                  "files the greatest counts.\n";
+                                  "written; 3 with --whole, something lacks, or a picture's record was changed;\n"
+                                  "from verify 4 where all is as it was sealed but a tail, which can't be checked,\n"
+                                  "5 where something isn't. Of many files the greatest counts.\n";
 
 /* Line by line, all but the first behind so many blanks. */
 static void print_indented(FILE *out, const char *lines, int column) {

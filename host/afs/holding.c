@@ -43,6 +43,10 @@ bool is_cut_used(const Holding *holding) {
     return true;
 }
 
+bool is_tail_used(const Holding *holding) {
+    return is_cut_used(holding) && holding->there_of_cut > 0;
+}
+
 uint32_t count_parts(const Holding *holding, bool (*counts)(const Holding *, uint32_t, uint32_t)) {
     uint32_t count = 0;
     for (uint32_t level = 1; level <= holding->levels; level++)

@@ -29,8 +29,10 @@ bool is_there(const Holding *holding, uint32_t plane, uint32_t level);
 /* Usable planes run without a gap from the top down to the reached one. */
 bool is_used(const Holding *holding, uint32_t plane, uint32_t level);
 
-/* Whether the part that the tail is of was decoded, as far as its bits go: it lies just below what its level reached, and all that it builds on is used. */
+/* Whether the part that the tail is of can be decoded, as far as its bits go: it lies just below what its level reached, and all that it builds on is used;
+   and whether any of its bits is there. */
 bool is_cut_used(const Holding *holding);
+bool is_tail_used(const Holding *holding);
 
 uint32_t count_parts(const Holding *holding, bool (*counts)(const Holding *, uint32_t plane, uint32_t level));
 

@@ -1,5 +1,7 @@
 #include "nearness.h"
 
+#include "pictures.h"
+
 #include <stdlib.h>
 
 enum { FARTHEST = 255 };
@@ -16,6 +18,16 @@ uint64_t farthest_pixel(const Holding *holding, uint32_t halvings) {
     for (uint32_t level = halvings + 1; level <= holding->levels; level++)
         sum += added_by(holding, level);
     return sum < FARTHEST ? sum : FARTHEST;
+}
+
+bool is_no_picture(Bytes record, const Holding *holding, const Outcome *printed, uint64_t halvings) {
+    if (farthest_pixel(holding, 0) > 0)
+        return false;
+    if (halvings == 0)
+        return printed->clipped > 0;
+    Outcome itself = print_picture(record, 0);
+    free(itself.bytes.at);
+    return itself.clipped > 0;
 }
 
 /* Serves for a plane, and decodes what is served. */

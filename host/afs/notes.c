@@ -69,6 +69,11 @@ void note_clipped(const Request *request, const char *name, uint64_t clipped) {
         complain("%s: pixels under 0 or over 255, set to the nearer end: %" PRIu64, name, clipped);
 }
 
+void note_no_picture(const Request *request, const char *name) {
+    if (!request->quiet && !request->json)
+        complain("%s: was changed, or made of no picture: all of it is there, and of a picture no pixel comes out under 0 or over 255", name);
+}
+
 void note_served(const Request *request, const char *name, const Outcome *served) {
     if (request->quiet)
         return;

@@ -7,8 +7,9 @@
 /* What lacks of a record accepted by decode(), beside what was to be expected. */
 void note_decoded(const Request *request, const char *name, const Holding *holding);
 
-/* Pixels of a printed picture that were under 0 or over 255. */
+/* Pixels of a printed picture that were under 0 or over 255; and that the record was changed, or made of no picture, where that is so. */
 void note_clipped(const Request *request, const char *name, uint64_t clipped);
+void note_no_picture(const Request *request, const char *name);
 
 /* Of a record accepted by serve(): with -e a line for the plane and how far a pixel may be, one for the parts that were asked for and aren't there, and one
    for a tail that was left out. */

@@ -100,7 +100,7 @@ static void answer_what_lacks(FILE *out, const Sheet *sheet) {
         fputs(" Behind the last part the file has <span id=\"tail\">", out);
         print_grouped(out, holding->tail);
         fprintf(out, "</span> byte%s more, no whole part, ", holding->tail == 1 ? "" : "s");
-        if (is_cut_used(holding) && holding->there_of_cut > 0)
+        if (is_tail_used(holding))
             fprintf(out, "used as far as its bits go: coefficients of level %" PRIu32 " are rounded at plane %" PRIu32 " or %" PRIu32 ".", holding->cut.level,
                     holding->cut.plane + 1, holding->cut.plane);
         else

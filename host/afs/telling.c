@@ -83,7 +83,8 @@ static void tell_distance(FILE *out, const Holding *holding, uint32_t level) {
     else if (plane < holding->header.planes)
         fprintf(out, "reached plane %" PRIu64 ": less than 2^%" PRIu64 " = %" PRIu64 " away\n", plane, plane, UINT64_C(1) << plane);
     else
-        fprintf(out, "reached no plane: less than 2^%" PRIu64 " = %" PRIu64 " away, and all are decoded as 0\n", plane, UINT64_C(1) << plane);
+        fprintf(out, "reached no plane: less than 2^%" PRIu64 " = %" PRIu64 " away, and all are decoded as 0%s\n", plane, UINT64_C(1) << plane,
+                is_tail_used(holding) && holding->cut.level == level ? " but those that the tail tells" : "");
 }
 
 static void tell_distances(FILE *out, const Holding *holding) {
@@ -109,6 +110,15 @@ static void tell_farthest_pixel(FILE *out, const Holding *holding) {
                 farthest_pixel(holding, halvings));
     if (holding->header.decompositions > 1)
         fputc('\n', out);
+}
+
+/* The bound is 0 there, and says nothing of such a record. */
+static void tell_clipped(FILE *out, Bytes record, const Holding *holding, const Outcome *printed) {
+    if (is_no_picture(record, holding, printed, 0))
+        fprintf(out,
+                "\nThis record was changed, or made of no picture: all of it is there, and %" PRIu64 " %s out under 0 or over 255,\n"
+                "as of no picture.\n",
+                printed->clipped, printed->clipped == 1 ? "pixel comes" : "pixels come");
 }
 
 void tell_missing_planes(FILE *out, const Holding *holding, uint32_t level) {
@@ -165,18 +175,19 @@ static void tell_tail(FILE *out, const Holding *holding) {
     fprintf(out, "It is the beginning of the part of level %" PRIu32 ", plane %" PRIu32 ", ", holding->cut.level, holding->cut.plane);
     if (!is_cut_used(holding))
         fputs("and was not used, as a part that it builds on is missing.\n", out);
-    else if (holding->there_of_cut == 0)
+    else if (!is_tail_used(holding))
         fputs("and was not used, as none of its bits is there.\n", out);
     else
         tell_cut_used(out, holding);
 }
 
-void explain(FILE *out, Bytes record, const Outcome *decoded) {
-    Holding holding = holding_of(record, decoded);
+void explain(FILE *out, Bytes record, const Outcome *printed) {
+    Holding holding = holding_of(record, printed);
     tell_what_shows(out, holding.header);
     tell_parts(out, &holding);
     tell_distances(out, &holding);
     tell_farthest_pixel(out, &holding);
+    tell_clipped(out, record, &holding, printed);
     tell_missing(out, &holding);
     tell_tail(out, &holding);
 }

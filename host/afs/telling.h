@@ -9,8 +9,8 @@
 /* The header, each part and the tail, a line each; for a record accepted by serve(). */
 void list_parts(FILE *out, Bytes record, const Outcome *served);
 
-/* The assessor's questions about a record, answered in sentences; for a record accepted by decode(). */
-void explain(FILE *out, Bytes record, const Outcome *decoded);
+/* The assessor's questions about a record, answered in sentences; for a record that print_picture() made a picture of. */
+void explain(FILE *out, Bytes record, const Outcome *printed);
 
 /* Whether a level lacks any, and which, downward, neighbours as one stretch. */
 bool lacks_planes(const Holding *holding, uint32_t level);
