@@ -11,6 +11,10 @@ SYNOPSIS
     picture = afshtruni.write_picture(arrived, "arrived.pgm")
     picture.pixels, picture.clipped                   # an array of uint8; how many were clipped
 
+    seals   = afshtruni.seal({"job.record": record})  # when it is written, to be signed
+    verdict = afshtruni.verify(seals, small)          # before it is used
+    bool(verdict), verdict.status, verdict.lines      # what `afs verify` says
+
 DESCRIPTION
     A grey picture, or any pyramid of integer wavelet coefficients, is coded once as a record: a
     header, then parts. Each part has a plane (bit planes, counted down to 0, the finest) and a
@@ -18,11 +22,14 @@ DESCRIPTION
     arrives, whatever was left out or lost, is decoded as far as its parts go.
 
     code(pyramid)                       a pyramid's record, or a picture's: an array of uint8
-    serve(record, level, plane)         the record of some of its parts
+    serve(record, level, plane, error)  the record of some of its parts
     join(first, second)                 the record of all parts of two
     decode(record)                      a pyramid of the parts that are there, and how far it got
     survey(record)                      what a record holds, without decoding it
     parts(record)                       its parts, one by one
+    explain(record)                     what it holds and lacks, in words
+    seal(records)                       the SHA-256 of every part, as a text that can be signed
+    verify(seals, record, name)         whether what arrived is as it was sealed
     read_picture(picture)               a picture's pyramid
     write_picture(pyramid, file)        a pyramid's picture
 
@@ -34,7 +41,7 @@ DESCRIPTION
 
     The calls are those of libafshtruni, in which every function is proved to meet its contract, to
     end and never to go wrong; this package, numpy and Python are not proved. A record has no
-    checksum: what `decode` tells may be false of one in which a byte was changed.
+    checksum: what `decode` tells may be false of one in which a byte was changed. A seal shows it.
 
 ERRORS
     Refusal (a ValueError)  the library refused: `number`, `name` and `place`, as in afshtruni(3),
@@ -56,11 +63,13 @@ SEE ALSO
 
 from __future__ import annotations
 
+from ._explaining import explain
 from ._notes import Note
 from ._pictures import read_picture, write_picture
 from ._place import VERSION as __version__
 from ._records import code, decode, join, parts, serve, survey
 from ._refusal import Refusal
+from ._sealing import Verdict, seal, verify
 from ._values import Decoded, Part, Picture, Pyramid, Survey
 
 __all__ = [
@@ -71,13 +80,17 @@ __all__ = [
     "Pyramid",
     "Refusal",
     "Survey",
+    "Verdict",
     "__version__",
     "code",
     "decode",
+    "explain",
     "join",
     "parts",
     "read_picture",
+    "seal",
     "serve",
     "survey",
+    "verify",
     "write_picture",
 ]

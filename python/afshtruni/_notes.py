@@ -3,6 +3,10 @@
 from __future__ import annotations
 
 IF_PICTURE = "if it was made of a picture, a printed pixel is at most"
+OF_NO_PICTURE = (
+    "was changed, or made of no picture: all of it is there, and of a picture no pixel comes out"
+    " under 0 or over 255"
+)
 
 
 class Note(UserWarning):
@@ -10,6 +14,6 @@ class Note(UserWarning):
     recorded one, or that its record was changed or made of no picture."""
 
 
-def note_of_bound(bound: int) -> Note:
+def told_bound(bound: int) -> str:
     """Of a picture that may be away from the recorded one."""
-    return Note(f"{IF_PICTURE} {bound} grey values from the recorded one")
+    return f"{IF_PICTURE} {bound} grey values from the recorded one"

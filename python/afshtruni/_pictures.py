@@ -3,8 +3,9 @@
 from __future__ import annotations
 
 import os
+import warnings
 from pathlib import Path
-from typing import Any, Optional, Union
+from typing import Any, Optional, Tuple, Union
 
 import numpy as np
 from numpy.typing import NDArray
@@ -15,8 +16,9 @@ from ._layout import Header
 from ._lending import MOST_NUMBERS, BytesLike, number, octets, pixels
 from ._library import call
 from ._limits import GREATEST_PRINTED
+from ._notes import OF_NO_PICTURE, Note
 from ._pyramids import taken_apart, workspace
-from ._values import Picture, Pyramid
+from ._values import Decoded, Picture, Pyramid
 from ._words import TOO_SHORT, why_halvings, why_range, why_size
 
 _MOST_DECOMPOSITIONS = 5
@@ -81,24 +83,10 @@ def _why_not_printed(
     return TOO_SHORT
 
 
-def write_picture(
-    pyramid: Union[Pyramid, NDArray[Any]],
-    file: Optional[FileName] = None,
-    *,
-    decompositions: Optional[int] = None,
-    halvings: int = 0,
-) -> Picture:
-    """Makes the grey picture of a pyramid, and writes it to a file where one is named.
-
-    pyramid         what `decode` or `read_picture` gave, or an array of any integer type, rows by
-                    columns, with no magnitude over 131071
-    file            the name of the binary grey file (P5, maxval 255) to write, if any
-    decompositions  N, 1 to 5, where `pyramid` is an array
-    halvings        how many times the picture is to be halved, less than N
-
-    The result has `pixels`, an array of uint8, and `clipped`, how many of them had come out under 0
-    or over 255. Refuses with 1 SIZE or 4 RANGE.
-    """
+def printed(
+    pyramid: Union[Pyramid, NDArray[Any]], decompositions: Optional[int] = None, halvings: int = 0
+) -> Tuple[Picture, NDArray[np.uint8]]:
+    """The picture of a pyramid, without a note, and its grey file."""
     whole, total = taken_apart(pyramid, decompositions)
     halved = number("halvings", halvings)
     left = max(total - halved, 0)
@@ -110,8 +98,42 @@ def write_picture(
         return _why_not_printed(whole, total, halved, NAMES[refusal], index)
 
     answer = call("afs_grey_out", block, width, height, left, out, workspace(block.size), why=why)
-    written = out[: answer[GREY_WRITTEN["LENGTH"]]]
+    file = out[: answer[GREY_WRITTEN["LENGTH"]]]
+    rows = file[file.size - block.size :].reshape(height, width).copy()
+    return Picture(rows, answer[GREY_WRITTEN["CLIPPED"]]), file
+
+
+def is_of_no_picture(pyramid: object, picture: Picture, halvings: int) -> bool:
+    """Whether a record was changed, or made of no picture: all of it is there, and pixels come out
+    under 0 or over 255. Halved ones may have such pixels, so the picture itself is looked at."""
+    if not isinstance(pyramid, Decoded) or pyramid.pixel_bound > 0:
+        return False
+    return (picture if halvings == 0 else printed(pyramid)[0]).clipped > 0
+
+
+def write_picture(
+    pyramid: Union[Pyramid, NDArray[Any]],
+    file: Optional[FileName] = None,
+    *,
+    decompositions: Optional[int] = None,
+    halvings: int = 0,
+) -> Picture:
+    """Makes the grey picture of a pyramid, and writes it to a file where one is named.
+
+    pyramid         what `decode` or `read_picture` gave, or an array of any integer type but uint8,
+                    rows by columns, with no magnitude over 131071
+    file            the name of the binary grey file (P5, maxval 255) to write, if any
+    decompositions  N, 1 to 5, where `pyramid` is an array
+    halvings        how many times the picture is to be halved, less than N
+
+    The result has `pixels`, an array of uint8, and `clipped`, how many of them had come out under 0
+    or over 255. Where that shows that the record was changed, or made of no picture, `note` says
+    so, and a warning, `Note`. Refuses with 1 SIZE or 4 RANGE.
+    """
+    picture, written = printed(pyramid, decompositions, halvings)
     if file is not None:
         Path(file).write_bytes(written.tobytes())
-    printed = written[written.size - block.size :].reshape(height, width).copy()
-    return Picture(printed, answer[GREY_WRITTEN["CLIPPED"]])
+    if is_of_no_picture(pyramid, picture, halvings):
+        picture = picture._replace(note=OF_NO_PICTURE)
+        warnings.warn(Note(f"the record {OF_NO_PICTURE}"), stacklevel=2)
+    return picture

@@ -13,9 +13,10 @@ from ._layout import Header, header_of, parts_until
 from ._lending import BytesLike, number, octets
 from ._library import Answer, ask, call
 from ._limits import GREATEST_CODED
+from ._notes import told_bound
 from ._pictures import read_picture
 from ._pyramids import is_picture, taken_apart, workspace
-from ._values import Decoded, Part, Pyramid, Survey
+from ._values import FARTHEST, Decoded, Part, Pyramid, Survey
 from ._words import why_clash, why_mixed, why_not_asked, why_not_read, why_range, why_size
 
 
@@ -50,16 +51,25 @@ def code(pyramid: Union[Pyramid, NDArray[Any]], decompositions: Optional[int] = 
     return out[: answer[CODED["LENGTH"]]].tobytes()
 
 
-def serve(record: BytesLike, level: int = 1, plane: int = 0) -> bytes:
-    """Cuts a smaller record out of a record, without decoding it.
+def serve(
+    record: BytesLike, level: int = 1, plane: int = 0, *, error: Optional[int] = None
+) -> bytes:
+    """Cuts a smaller record out of a record.
 
     record  bytes, or anything that holds a row of them
     level   the finest level that is kept, 1 to N + 1; 1 keeps all
     plane   the lowest plane that is kept, 0 to the number of planes; 0 keeps all
+    error   instead of both: how many grey values a pixel that is printed of it may be from the
+            recorded one, 0 to 255, if the record was made of a picture. All levels are kept, and
+            the highest plane that will do
 
-    A part that the record's end cuts off is left out; `survey` tells of it. Refuses with 1 SIZE,
-    6 HEAD, 7 VERSION, 8 PART, 9 PAD, 11 ASK or 12 LONGFORM.
+    A part that the record's end cuts off is left out; `survey` tells of it. Without `error` nothing
+    is decoded. Refuses with 1 SIZE, 6 HEAD, 7 VERSION, 8 PART, 9 PAD, 11 ASK or 12 LONGFORM; with
+    `error` also with 10 FIT, and raises ValueError where so many parts are missing that nothing
+    will do.
     """
+    if error is not None:
+        return _serve_within(record, level, plane, error)
     lent = octets("record", record)
     asked = number("level", level), number("plane", plane)
 
@@ -72,6 +82,22 @@ def serve(record: BytesLike, level: int = 1, plane: int = 0) -> bytes:
     out = np.empty(lent.size, np.uint8)
     answer = call("afs_serve", lent, *asked, out, why=why)
     return out[: answer[SERVED["LENGTH"]]].tobytes()
+
+
+def _serve_within(record: BytesLike, level: int, plane: int, error: int) -> bytes:
+    if (level, plane) != (1, 0):
+        raise TypeError("error must not be given with level or plane")
+    most = number("error", error)
+    if most > FARTHEST:
+        raise ValueError(f"error must be 0 to {FARTHEST}, not {most}")
+    held = octets("record", record).tobytes()
+    bound = FARTHEST
+    for lowest in range(decode(held).planes, -1, -1):
+        served = serve(held, 1, lowest)
+        bound = decode(served).pixel_bound
+        if bound <= most:
+            return served
+    raise ValueError(f"{told_bound(bound)}, and nothing nearer can be served, as parts are missing")
 
 
 def join(first: BytesLike, second: BytesLike) -> bytes:

@@ -8,14 +8,22 @@ from typing import Any, NamedTuple, Optional, Sequence, Tuple
 import numpy as np
 from numpy.typing import NDArray
 
-_FARTHEST = 255
+FARTHEST = 255
+
+
+def added_by(reached: Sequence[int], level: int) -> int:
+    """What a level adds to the bound of the law pixel_near, by the reached planes of levels 1 to
+    N + 1."""
+    plane = reached[level - 1]
+    if level == len(reached):
+        return (1 << plane) - 1
+    return 3 << plane if plane > 0 else 0
 
 
 def farthest_pixel(reached: Sequence[int], halvings: int) -> int:
-    """The bound of the law pixel_near, by the reached planes of levels 1 to N + 1."""
-    *finer, coarsest = reached
-    added = sum(3 << plane for plane in finer[halvings:] if plane > 0)
-    return min((1 << coarsest) - 1 + added, _FARTHEST)
+    """That bound: of the picture halved so many times the levels over these count."""
+    levels = range(halvings + 1, len(reached) + 1)
+    return min(sum(added_by(reached, level) for level in levels), FARTHEST)
 
 
 def _as_array(held: NDArray[Any], dtype: Any, copy: Optional[bool]) -> NDArray[Any]:
@@ -103,11 +111,17 @@ class Part(NamedTuple):
 
 
 class Picture(NamedTuple):
-    """A grey picture: pixels, rows by columns, and how many of them were set to 0 or 255, as they
-    had come out under 0 or over 255. numpy takes it as the array of its pixels."""
+    """A grey picture; numpy takes it as the array of its pixels.
+
+    pixels   rows by columns
+    clipped  how many of them were set to 0 or 255, as they had come out under 0 or over 255
+    note     what contradicts the bound that was told, else None: all of a record is there, and of a
+             picture no pixel comes out so, so the record was changed, or made of no picture
+    """
 
     pixels: NDArray[np.uint8]
     clipped: int
+    note: Optional[str] = None
 
     def __array__(self, dtype: Any = None, copy: Optional[bool] = None) -> NDArray[Any]:
         return _as_array(self.pixels, dtype, copy)

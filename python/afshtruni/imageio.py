@@ -23,8 +23,8 @@ from imageio import formats
 from imageio.core import Format
 from numpy.typing import NDArray
 
-from ._notes import note_of_bound
-from ._pictures import read_picture, write_picture
+from ._notes import OF_NO_PICTURE, Note, told_bound
+from ._pictures import is_of_no_picture, printed, read_picture
 from ._records import code, decode
 from ._values import Decoded, Picture
 
@@ -70,12 +70,14 @@ class RecordFormat(Format):
 
         def _open(self, halvings: int = 0) -> None:
             decoded = decode(self.request.get_file().read())
-            picture = write_picture(decoded, halvings=halvings)
+            picture, _ = printed(decoded, halvings=halvings)
             self._pixels = picture.pixels
             self._meta = _told(decoded, picture, halvings)
-            bound = self._meta["pixel_bound"]
-            if bound > 0:
-                warnings.warn(note_of_bound(bound), stacklevel=_LEVELS_TO_CALLER)
+            if self._meta["pixel_bound"] > 0:
+                said = told_bound(self._meta["pixel_bound"])
+                warnings.warn(Note(said), stacklevel=_LEVELS_TO_CALLER)
+            if is_of_no_picture(decoded, picture, halvings):
+                warnings.warn(Note(f"the record {OF_NO_PICTURE}"), stacklevel=_LEVELS_TO_CALLER)
 
         def _close(self) -> None:
             pass

@@ -27,7 +27,7 @@ from numcodecs.compat import ensure_bytes, ensure_ndarray, ndarray_copy
 from numcodecs.registry import register_codec
 from numpy.typing import NDArray
 
-from ._pictures import write_picture
+from ._pictures import printed
 from ._records import code, decode
 
 __all__ = ["Afshtruni"]
@@ -62,7 +62,7 @@ class Afshtruni(Codec):
     def decode(self, buf: Any, out: Any = None) -> Any:
         """The chunk of a record, row by row. Raises ValueError where it isn't whole."""
         decoded = decode(ensure_bytes(buf))
-        picture = write_picture(decoded)
+        picture, _ = printed(decoded)
         if picture.clipped > 0 or not decoded.is_whole:
             raise ValueError("the chunk isn't the whole record of a picture")
         return ndarray_copy(picture.pixels.reshape(-1), out)

@@ -81,7 +81,7 @@ def test_numpy_takes_what_comes_back() -> None:
     assert np.asarray(decoded, np.float64).dtype == np.float64
     copied = np.array(decoded)
     assert copied.dtype == np.int32 and not np.shares_memory(copied, decoded.coefficients)
-    picture = afshtruni.write_picture(decoded)
+    picture = afshtruni.write_picture(PYRAMID, decompositions=1)
     assert np.asarray(picture) is picture.pixels
     assert np.abs(np.subtract(picture, picture.pixels)).max() == 0
 
