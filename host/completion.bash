@@ -14,7 +14,7 @@ _afs() {
     --scale) mapfile -t COMPREPLY < <(compgen -W 'grey viridis magma' -- "$word") && return ;;
     -r | --level) mapfile -t COMPREPLY < <(compgen -W '1 2 3 4 5 6' -- "$word") && return ;;
     -p | --plane) mapfile -t COMPREPLY < <(compgen -W '{0..17}' -- "$word") && return ;;
-    -o | --output) compopt -o filenames && mapfile -t COMPREPLY < <(compgen -f -- "$word") && return ;;
+    -o | --output | --seals) compopt -o filenames && mapfile -t COMPREPLY < <(compgen -f -- "$word") && return ;;
     esac
     case $command:$word in
     :-*) mapfile -t COMPREPLY < <(compgen -W '--help --version' -- "$word") ;;
@@ -29,7 +29,7 @@ _afs() {
     seal:-*) mapfile -t COMPREPLY < <(compgen -W '--output --force --quiet --help' -- "$word") ;;
     verify:-*) mapfile -t COMPREPLY < <(compgen -W '--of --whole --output --force --quiet --help' -- "$word") ;;
     certificate:-*)
-        mapfile -t COMPREPLY < <(compgen -W '--level --scale --title --note --device --output --force --quiet --help' -- "$word")
+        mapfile -t COMPREPLY < <(compgen -W '--seals --of --level --plane --error --scale --title --note --device --output --force --quiet --help' -- "$word")
         ;;
     *) compopt -o filenames && mapfile -t COMPREPLY < <(compgen -f -- "$word") ;;
     esac

@@ -18,6 +18,7 @@ typedef enum {
     WHOLE,
     CHECK,
     JSON,
+    SEALS,
     OF,
     TITLE,
     NOTE,

@@ -1,5 +1,6 @@
 #include "commands.h"
 
+#include "asking.h"
 #include "calls.h"
 #include "certificate.h"
 #include "holding.h"
@@ -44,7 +45,7 @@ static Outcome call(const Request *request, Bytes input) {
     case DECODE:
         return request->grey ? print_picture(input, request->halvings) : decode(input);
     case CERTIFICATE:
-        return print_picture(input, request->halvings);
+        return print_picture(input, halvings_to_draw(request, input));
     case EXPLAIN:
         return print_picture(input, 0);
     default:
@@ -113,7 +114,7 @@ static int finish_decoded(const Turn *turn, const Outcome *outcome) {
     const Request *request = turn->request;
     Holding holding = holding_of(turn->input, outcome);
     bool is_short = lacks(request, &holding), is_too_short = is_short && request->whole;
-    bool is_wrong = request->grey && is_no_picture(turn->input, &holding, outcome, request->halvings);
+    bool is_wrong = request->grey && pixels_outside(turn->input, &holding, outcome, request->halvings) > 0;
     if (is_short)
         note_decoded(request, turn->name, &holding);
     if (outcome->clipped > 0)
@@ -138,10 +139,11 @@ static int finish_sealed(const Turn *turn, const Outcome *outcome) {
 }
 
 static int finish_certificate(const Turn *turn, const Outcome *outcome) {
-    Bytes sheet = certificate_of(turn->request, turn->path, turn->input, outcome);
+    int status;
+    Bytes sheet = certificate_of(turn->request, turn->matcher, turn->path, turn->input, outcome, &status);
     put_out(turn->output, sheet.at, sheet.length);
     free(sheet.at);
-    return STATUS_DONE;
+    return status;
 }
 
 static int finish_turn(const Turn *turn, const Outcome *outcome) {
@@ -270,7 +272,7 @@ int run(const Request *request) {
         return run_join(request);
     Output output = output_for(request);
     Seals seals = {NULL, 0, 0};
-    if (request->command == VERIFY)
+    if (request->seals != NULL)
         read_all_seals(request, &seals);
     Matcher matcher = match_seals(request, &seals);
     int status = take_turns((Turn){.request = request, .output = &output, .seals = &seals, .matcher = &matcher});

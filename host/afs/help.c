@@ -25,8 +25,9 @@ static const Entry usages[] = {
     {1 << EXPLAIN, NULL, "afs explain [--json] [FILE..]"},
     {1 << SEAL, NULL, "afs seal [FILE..]"},
     {1 << VERIFY, NULL, "afs verify [--of NAME] [--whole] SEALS [FILE..]"},
-    {1 << CERTIFICATE, NULL, "afs certificate [-r LEVEL] [--scale SCALE] [--title TEXT] [--note TEXT]\n"
-                             "    [--device TEXT] [FILE]"},
+    {1 << CERTIFICATE, NULL, "afs certificate [--seals SEALS [--of NAME]] [-r LEVEL] [-p PLANE]\n"
+                             "    [--scale SCALE] [--title TEXT] [--note TEXT] [--device TEXT] [FILE]"},
+    {1 << CERTIFICATE, NULL, "afs certificate -e E .. [FILE]"},
 };
 
 static const Entry summaries[] = {
@@ -55,13 +56,17 @@ static const Entry option_entries[] = {
     {1 << DECODE, "  -s, --halve S", "the picture halved S times (0)"},
     {1 << SERVE, "  -r, --level LEVEL", "only this level and coarser ones (1, all levels)"},
     {1 << DECODE, "  -r, --level LEVEL", "what was to be expected: only what falls short of\nit is noted"},
-    {1 << CERTIFICATE, "  -r, --level LEVEL", "the level that it draws"},
+    {1 << CERTIFICATE, "  -r, --level LEVEL", "what was asked for, and what it draws\n(the finest level that is there)"},
     {1 << SERVE, "  -p, --plane PLANE", "only this plane and higher ones (0, all planes)"},
     {1 << DECODE, "  -p, --plane PLANE", "what was to be expected, as with -r"},
-    {1 << SERVE, "  -e, --error E", "serve as little as keeps every printed pixel within E grey\nvalues of the recorded one"},
+    {1 << CERTIFICATE, "  -p, --plane PLANE", "what was asked for"},
+    {1 << SERVE, "  -e, --error E", "as little as keeps every printed pixel within E\ngrey values of the recorded one"},
+    {1 << CERTIFICATE, "  -e, --error E", "what was asked for, instead of -r and -p"},
     {1 << DECODE, "      --whole", "only if nothing lacks of what was to be expected"},
     {1 << VERIFY, "      --whole", "anything but the whole record gives status 3"},
+    {1 << CERTIFICATE, "      --seals SEALS", "hold the record against its seal: what is found stands\non the sheet"},
     {1 << VERIFY, "      --of NAME", "the sealed record that each file is to be of"},
+    {1 << CERTIFICATE, "      --of NAME", "the sealed record that it is to be of"},
     {1 << CERTIFICATE, "      --scale SCALE", "grey, viridis or magma (grey)"},
     {1 << CERTIFICATE, "      --title TEXT, --note TEXT, --device TEXT", "as given"},
     {1 << DECODE, "      --check", "decode, but write nothing"},

@@ -20,14 +20,25 @@ uint64_t farthest_pixel(const Holding *holding, uint32_t halvings) {
     return sum < FARTHEST ? sum : FARTHEST;
 }
 
-bool is_no_picture(Bytes record, const Holding *holding, const Outcome *printed, uint64_t halvings) {
+uint64_t pixels_outside(Bytes record, const Holding *holding, const Outcome *printed, uint64_t halvings) {
     if (farthest_pixel(holding, 0) > 0)
-        return false;
+        return 0;
     if (halvings == 0)
-        return printed->clipped > 0;
+        return printed->clipped;
     Outcome itself = print_picture(record, 0);
     free(itself.bytes.at);
-    return itself.clipped > 0;
+    return itself.clipped;
+}
+
+uint64_t plane_within(Header header, uint64_t most) {
+    uint64_t reached[AFS_LEVEL_PLACES], plane = header.planes + UINT64_C(1);
+    Holding holding = {.header = header, .levels = coarsest(header), .reached = reached};
+    do {
+        plane--;
+        for (uint32_t level = 1; level <= holding.levels; level++)
+            reached[level - 1] = plane;
+    } while (plane > 0 && farthest_pixel(&holding, 0) > most);
+    return plane;
 }
 
 /* Serves for a plane, and decodes what is served. */

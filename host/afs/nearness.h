@@ -10,9 +10,12 @@ uint64_t added_by(const Holding *holding, uint32_t level);
 /* For the picture halved so many times; never over 255. */
 uint64_t farthest_pixel(const Holding *holding, uint32_t halvings);
 
-/* Whether it was changed, or made of no picture: all of the record is there, and pixels come out under 0 or over 255, as of no picture. Halved pictures may
-   have such pixels, so the picture itself is looked at. `printed` is what print_picture() made, halved so many times. */
-bool is_no_picture(Bytes record, const Holding *holding, const Outcome *printed, uint64_t halvings);
+/* How many pixels come out under 0 or over 255 though all of the record is there. Of a picture none do: where some do, the record was changed, or made of no
+   picture. Halved pictures may have such pixels, so the picture itself is looked at. `printed` is what print_picture() made, halved so many times. */
+uint64_t pixels_outside(Bytes record, const Holding *holding, const Outcome *printed, uint64_t halvings);
+
+/* The highest plane for which what is served of a whole record keeps every pixel within so many grey values; 0 if there is none. */
+uint64_t plane_within(Header header, uint64_t most);
 
 /* Serves all levels for the highest plane for which no pixel is farther than asked for, by the reached planes of what is served; for plane 0 if there is
    none. */

@@ -78,6 +78,8 @@ static void judge_options(const Words *words, const Request *request) {
         misused("%s is for pictures: -g, or -o NAME.pgm, stands beside it", as_typed(words, HALVE).text);
     if (request->has_most && (words->given[LEVEL] || words->given[PLANE]))
         misused("beside %s there is no place for -r or -p", as_typed(words, MOST).text);
+    if (request->command == CERTIFICATE && request->of != NULL && request->seals == NULL)
+        misused("--of names a sealed record: --seals stands beside it");
     if (request->out != NULL && request->check && !request->json)
         misused("--check writes nothing, so there is no place for -o");
 }
@@ -136,6 +138,8 @@ static void read_operands(const Words *words, Request *request) {
         request->files = standard_input;
         request->count = 1;
     }
+    if (request->command == CERTIFICATE && request->seals != NULL && !is_named(request->seals) && !is_named(request->files[0]))
+        misused("only one of record and seals can be standard input");
 }
 
 static bool ends_in(const char *path, const char *ending) {
@@ -147,10 +151,9 @@ static bool ends_in(const char *path, const char *ending) {
 static void expect(const Words *words, Request *request) {
     request->asks = words->given[LEVEL] || words->given[PLANE];
     request->has_expectation = request->asks || request->halvings > 0;
-    if (!words->given[LEVEL])
+    request->has_level = words->given[LEVEL];
+    if (!request->has_level)
         request->level = request->halvings + 1;
-    if (request->command == CERTIFICATE)
-        request->halvings = request->level - 1;
 }
 
 static void take_numbers(const Words *words, Request *request) {
@@ -168,6 +171,7 @@ static void take_numbers(const Words *words, Request *request) {
 }
 
 static void take_texts(const Words *words, Request *request) {
+    request->seals = words->arguments[SEALS];
     request->of = words->arguments[OF];
     request->title = some(words->arguments[TITLE]);
     request->note = some(words->arguments[NOTE]);

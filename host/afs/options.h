@@ -17,14 +17,15 @@ typedef struct {
     bool has_decompositions;                /* with -n */
     uint64_t level, plane;
     bool asks;            /* -r or -p was given */
+    bool has_level;       /* -r was given: a certificate draws this level */
     bool has_expectation; /* decode: it is known what was to be expected */
     bool grey;            /* decode: a grey file is to be written */
-    uint64_t halvings;    /* so many times halved; of a certificate too */
-    bool has_most;        /* serve: as much as keeps every pixel */
+    uint64_t halvings;    /* so many times halved */
+    bool has_most;        /* serve, certificate: as much as keeps every pixel */
     uint64_t most;        /* within so many grey values */
     bool force, quiet, whole, check, json;
-    const char *seals;  /* verify: their file */
-    const char *of;     /* verify: the name of the sealed record, NULL if it is to be found */
+    const char *seals;  /* verify, certificate: their file, or NULL */
+    const char *of;     /* of these: the name of the sealed record, NULL if it is to be found */
     const char *title, *note, *device; /* certificate: NULL if not given */
     const Scale *scale;
     SheetForm form;

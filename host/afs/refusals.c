@@ -188,8 +188,6 @@ static Sentence why_ask(const Request *request, Header header) {
 
 static Sentence why_not_this_size(const Request *request, Header header) {
     Sizes sizes = {header.width, header.height, header.decompositions, header.planes, " in the header"};
-    if (is_legal(sizes) && request->command == CERTIFICATE)
-        return say("level %" PRIu64 " was asked for; a picture can be drawn for levels 1 to %" PRIu32, request->level, header.decompositions);
     if (is_legal(sizes))
         return say("%" PRIu64 " halvings were asked for; of this picture 0 to %" PRIu32 " can be", request->halvings, header.decompositions - 1);
     return why_size(sizes);

@@ -36,7 +36,9 @@ static void write_head(FILE *out, const Sheet *sheet) {
 }
 
 static void write_heading(FILE *out, const Sheet *sheet) {
-    fputs("<header>\n<p class=\"kind\">Certificate of a layered record</p>\n<h1>", out);
+    fputs("<header>\n", out);
+    write_alarm(out, sheet);
+    fprintf(out, "<p class=\"kind\">%s of a layered record</p>\n<h1>", makes_claims(sheet) ? "Certificate" : "Sheet");
     print_title(out, sheet);
     fputs("</h1>\n", out);
     if (sheet->note != NULL) {
@@ -44,6 +46,7 @@ static void write_heading(FILE *out, const Sheet *sheet) {
         print_escaped_lines(out, sheet->note);
         fputs("</p>\n", out);
     }
+    write_held(out, sheet);
     fputs("</header>\n", out);
 }
 
@@ -98,6 +101,21 @@ static void write_digest_fact(FILE *out, const char *what, const char *id, const
     fputs("</code></td></tr>\n", out);
 }
 
+static void write_seal_facts(FILE *out, const Held *held) {
+    const Seal *seal = held->verdict->comparison.seal;
+    if (seal != NULL) {
+        Digest digest = digest_of_seal(seal);
+        write_text_fact(out, "Sealed as", seal->name);
+        write_digest_fact(out, "Its seal", "seal", &digest);
+    }
+    write_text_fact(out, "Seals", held->seals);
+    if (held->signatures[0] != '\0') {
+        fputs("<tr><th scope=\"row\">Signature</th><td>", out);
+        print_escaped(out, held->signatures);
+        fputs(", beside the seals; not judged here</td></tr>\n", out);
+    }
+}
+
 static void write_facts(FILE *out, const Sheet *sheet) {
     Header header = sheet->holding.header;
     fputs("<div class=\"facts\">\n<table>\n", out);
@@ -111,21 +129,30 @@ static void write_facts(FILE *out, const Sheet *sheet) {
     fprintf(out, " bytes</td></tr>\n<tr><th scope=\"row\">Recorded</th><td>%" PRIu32 " &times; %" PRIu32 " coefficients in %" PRIu32 " levels, %" PRIu32
                  " plane%s</td></tr>\n",
             header.width, header.height, coarsest(header), header.planes, header.planes == 1 ? "" : "s");
-    write_digest_fact(out, "Seal", "seal", &sheet->seal);
+    if (sheet->held != NULL)
+        write_seal_facts(out, sheet->held);
     write_digest_fact(out, "SHA-256 of the file", "sha256", &sheet->of_file);
     fputs("<tr><th scope=\"row\">Made by</th><td>afs " VERSION "</td></tr>\n</table>\n</div>\n", out);
 }
 
-static void write_foot(FILE *out) {
-    fputs("<footer>\n<p>The seal is the digest on the line <code>seal</code> that <code>afs seal</code> writes of this file: the SHA-256 of its\n"
-          "header&rsquo;s numbers and of the digests of its whole parts.</p>\n"
-          "<p>What is said of coefficients and pixels holds for a record that Afshtruni&rsquo;s coder wrote, whatever whole parts were left out or lost\n"
-          "since, and wherever it was cut off; not where a byte was changed, or lost inside of a part, or where records of two jobs were joined. A record\n"
-          "does not show who wrote it, or whether it was made of a picture. The theorems named here are proved of the calls that <code>afs</code> is made\n"
-          "over (docs/PROMISES.md of Afshtruni). Trusted, not proved: the prover and back end of the Rattle kit, the C compiler, the linker, and the tool,\n"
-          "which made this sheet.</p>\n"
-          "</footer>\n",
-          out);
+static void write_foot(FILE *out, const Sheet *sheet) {
+    fputs("<footer>\n<p>", out);
+    if (sheet->held != NULL && sheet->held->verdict->comparison.seal != NULL)
+        fputs("The seal is the digest on the line <code>seal</code> of the record that is named, in the seals that are: the SHA-256 of its\n"
+              "header&rsquo;s numbers and of the digests of all its parts. Who signed them, and whether the signature is good, is to be seen with what made it\n"
+              "(man afs).",
+              out);
+    else
+        fputs("Whether a byte was changed, a seal shows: <code>afs seal</code> where a record is made, <code>afs certificate --seals</code> here.", out);
+    fputs("</p>\n<p>", out);
+    if (makes_claims(sheet))
+        fputs("What is said of coefficients and pixels holds for a record that Afshtruni&rsquo;s coder wrote, whatever whole parts were left out or lost\n"
+              "since, and wherever it was cut off; not where a byte was changed, or lost inside of a part, or where records of two jobs were joined. A record\n"
+              "does not show who wrote it, or whether it was made of a picture. The theorems named here are proved of the calls that <code>afs</code> is made\n"
+              "over (docs/PROMISES.md of Afshtruni). ",
+              out);
+    fputs("Trusted, not proved: the prover and back end of the Rattle kit, the C compiler, the linker, and the tool,\nwhich made this sheet.</p>\n", out);
+    fputs("</footer>\n", out);
 }
 
 void write_sheet(FILE *out, const Sheet *sheet) {
@@ -138,6 +165,6 @@ void write_sheet(FILE *out, const Sheet *sheet) {
     fputs("</section>\n", out);
     write_answers(out, sheet);
     write_grid(out, sheet);
-    write_foot(out);
+    write_foot(out, sheet);
     fputs("</main>\n</body>\n</html>\n", out);
 }

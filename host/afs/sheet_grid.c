@@ -7,9 +7,20 @@ static bool is_drawn(const Sheet *sheet, uint32_t level) {
     return level > sheet->halvings;
 }
 
+/* Whether a part of a file that isn't as it was sealed is another than the sealed one. */
+static bool is_other(const Sheet *sheet, uint32_t plane, uint32_t level) {
+    const Comparison *comparison = sheet->held == NULL ? NULL : &sheet->held->verdict->comparison;
+    if (comparison == NULL || comparison->seal == NULL)
+        return false;
+    const SealedPart *found = part_of(&comparison->reading->found, plane, level);
+    return found != NULL && standing_in_seal(comparison, found) != AS_SEALED;
+}
+
 static const char *cell_of(const Sheet *sheet, uint32_t plane, uint32_t level) {
     if (!is_there(&sheet->holding, plane, level))
-        return "<td class=\"missing\">&ndash;</td>";
+        return was_asked_for(&sheet->asked, plane, level) ? "<td class=\"missing\">&ndash;</td>" : "<td class=\"left\">&middot;</td>";
+    if (is_other(sheet, plane, level))
+        return "<td class=\"changed\">&#10005;</td>";
     if (is_drawn(sheet, level) && is_used(&sheet->holding, plane, level))
         return "<td class=\"used\">&#9679;</td>";
     return "<td class=\"there\">&#9675;</td>";
@@ -71,14 +82,49 @@ static uint32_t count_in_use(const Sheet *sheet) {
     return count;
 }
 
-void write_grid(FILE *out, const Sheet *sheet) {
-    uint32_t all = parts_of_whole(&sheet->holding), there = count_parts(&sheet->holding, is_there);
-    fprintf(out, "<section class=\"parts\">\n<h2>Parts of the record: <span id=\"there\">%" PRIu32 "</span> of %" PRIu32 " there, <span id=\"used\">%" PRIu32
-                 "</span> used, <span id=\"missing\">%" PRIu32 "</span> missing</h2>\n",
-            there, all, count_in_use(sheet), all - there);
-    write_cells(out, sheet);
-    write_distances(out, sheet);
+static uint32_t count_other(const Sheet *sheet) {
+    uint32_t count = 0;
+    for (uint32_t level = 1; level <= sheet->holding.levels; level++)
+        for (uint32_t plane = 0; plane < sheet->holding.header.planes; plane++)
+            count += is_there(&sheet->holding, plane, level) && is_other(sheet, plane, level);
+    return count;
+}
+
+static void write_count(FILE *out, const char *id, uint32_t count, const char *what) {
+    fprintf(out, ", <span id=\"%s\">%" PRIu32 "</span> %s", id, count, what);
+}
+
+static void write_counts(FILE *out, const Sheet *sheet) {
+    const Holding *holding = &sheet->holding;
+    uint32_t left_out = count_left_out(&sheet->asked, holding), other = count_other(sheet);
+    fprintf(out, "<h2>Parts of the record: <span id=\"there\">%" PRIu32 "</span> of %" PRIu32 " there", count_parts(holding, is_there),
+            parts_of_whole(holding));
+    write_count(out, "used", count_in_use(sheet), "used");
+    if (other > 0)
+        write_count(out, "other", other, "not as sealed");
+    if (left_out > 0)
+        write_count(out, "unasked", left_out, "left out by request");
+    write_count(out, "missing", count_lacking(&sheet->asked, holding), "missing");
+    fputs("</h2>\n", out);
+}
+
+static void write_key(FILE *out, const Sheet *sheet) {
     fputs("<p class=\"key\"><b><span class=\"used\">&#9679;</span>there and used</b> <b><span class=\"there\">&#9675;</span>there, not used: ", out);
     fputs(sheet->halvings > 0 ? "not drawn at this size, or " : "", out);
-    fputs("a part that it builds on is missing</b> <b><span class=\"missing\">&ndash;</span>missing</b></p>\n</section>\n", out);
+    fputs("a part that it builds on is missing</b>", out);
+    if (count_other(sheet) > 0)
+        fputs(" <b><span class=\"changed\">&#10005;</span>there, not as sealed</b>", out);
+    if (count_left_out(&sheet->asked, &sheet->holding) > 0)
+        fputs(" <b><span class=\"left\">&middot;</span>left out by request</b>", out);
+    fputs(" <b><span class=\"missing\">&ndash;</span>missing</b></p>\n", out);
+}
+
+void write_grid(FILE *out, const Sheet *sheet) {
+    fputs("<section class=\"parts\">\n", out);
+    write_counts(out, sheet);
+    write_cells(out, sheet);
+    if (makes_claims(sheet))
+        write_distances(out, sheet);
+    write_key(out, sheet);
+    fputs("</section>\n", out);
 }

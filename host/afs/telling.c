@@ -38,19 +38,12 @@ static void tell_skipped(FILE *out, const Holding *holding) {
     }
 }
 
-/* Says for what request serving a whole record would keep as many, if there is one. Nobody can tell whether that was so. */
+/* Nobody can tell whether it was so. */
 static void tell_request(FILE *out, const Holding *holding) {
-    uint32_t least_plane = holding->header.planes, least_level = holding->levels;
-    for (uint32_t level = holding->levels; level > 0; level--)
-        for (uint32_t plane = 0; plane < holding->header.planes; plane++)
-            if (is_there(holding, plane, level)) {
-                least_level = level < least_level ? level : least_level;
-                least_plane = plane < least_plane ? plane : least_plane;
-            }
-    uint32_t asked = (holding->header.planes - least_plane) * (holding->levels - least_level + 1);
-    if (count_parts(holding, is_there) == asked)
-        fprintf(out, "They are as many as 'afs serve -r %" PRIu32 " -p %" PRIu32 "' would keep of a whole record; the others may as well have been lost.\n",
-                least_level, least_plane);
+    Asked served;
+    if (is_as_served(holding, &served))
+        fprintf(out, "They are as many as 'afs serve -r %" PRIu64 " -p %" PRIu64 "' would keep of a whole record; the others may as well have been lost.\n",
+                served.level, served.plane);
 }
 
 /* Before any figure, what the figures can't show. */
@@ -113,22 +106,27 @@ static void tell_farthest_pixel(FILE *out, const Holding *holding) {
 }
 
 /* The bound is 0 there, and says nothing of such a record. */
-static void tell_clipped(FILE *out, Bytes record, const Holding *holding, const Outcome *printed) {
-    if (is_no_picture(record, holding, printed, 0))
+static void tell_outside(FILE *out, Bytes record, const Holding *holding, const Outcome *printed) {
+    uint64_t outside = pixels_outside(record, holding, printed, 0);
+    if (outside > 0)
         fprintf(out,
                 "\nThis record was changed, or made of no picture: all of it is there, and %" PRIu64 " %s out under 0 or over 255,\n"
                 "as of no picture.\n",
-                printed->clipped, printed->clipped == 1 ? "pixel comes" : "pixels come");
+                outside, outside == 1 ? "pixel comes" : "pixels come");
 }
 
-void tell_missing_planes(FILE *out, const Holding *holding, uint32_t level) {
+static bool is_lacking(const Holding *holding, uint32_t plane, uint32_t level, const Asked *asked) {
+    return was_asked_for(asked, plane, level) && !is_there(holding, plane, level);
+}
+
+void tell_missing_planes(FILE *out, const Holding *holding, uint32_t level, const Asked *asked) {
     const char *before = "";
     for (uint32_t plane = holding->header.planes; plane-- > 0;) {
-        if (is_there(holding, plane, level))
+        if (!is_lacking(holding, plane, level, asked))
             continue;
         fprintf(out, "%s%" PRIu32, before, plane);
         uint32_t first = plane;
-        while (plane > 0 && !is_there(holding, plane - 1, level))
+        while (plane > 0 && is_lacking(holding, plane - 1, level, asked))
             plane--;
         if (plane < first)
             fprintf(out, " to %" PRIu32, plane);
@@ -136,21 +134,24 @@ void tell_missing_planes(FILE *out, const Holding *holding, uint32_t level) {
     }
 }
 
-bool lacks_planes(const Holding *holding, uint32_t level) {
-    uint32_t all_planes = (UINT32_C(1) << holding->header.planes) - 1;
-    return holding->there[level - 1] != all_planes;
+bool lacks_planes(const Holding *holding, uint32_t level, const Asked *asked) {
+    for (uint32_t plane = 0; plane < holding->header.planes; plane++)
+        if (is_lacking(holding, plane, level, asked))
+            return true;
+    return false;
 }
 
 static void tell_missing(FILE *out, const Holding *holding) {
+    const Asked all = {.level = 1, .plane = 0};
     uint32_t whole = parts_of_whole(holding), missing = whole - count_parts(holding, is_there);
     if (missing == 0)
         fputs("\nMissing: nothing.\n", out);
     else
         fprintf(out, "\nMissing: %" PRIu32 " of %" PRIu32 " parts.\n", missing, whole);
     for (uint32_t level = holding->levels; level > 0; level--)
-        if (lacks_planes(holding, level)) {
+        if (lacks_planes(holding, level, &all)) {
             fprintf(out, "    level %" PRIu32 "  plane ", level);
-            tell_missing_planes(out, holding, level);
+            tell_missing_planes(out, holding, level, &all);
             fputc('\n', out);
         }
 }
@@ -187,7 +188,7 @@ void explain(FILE *out, Bytes record, const Outcome *printed) {
     tell_parts(out, &holding);
     tell_distances(out, &holding);
     tell_farthest_pixel(out, &holding);
-    tell_clipped(out, record, &holding, printed);
+    tell_outside(out, record, &holding, printed);
     tell_missing(out, &holding);
     tell_tail(out, &holding);
 }

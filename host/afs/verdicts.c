@@ -7,7 +7,7 @@
 #include <stdlib.h>
 #include <string.h>
 
-static bool is_another(const Verdict *verdict) {
+bool is_another(const Verdict *verdict) {
     return verdict->wanted != NULL && verdict->wanted != verdict->comparison.seal;
 }
 
@@ -53,8 +53,20 @@ Verdict verdict_on(Matcher *matcher, const Request *request, const Reading *read
     return verdict;
 }
 
+/* Lines about a file, with its name before each or without. */
+typedef struct {
+    FILE *out;
+    Matcher *matcher;
+    const Verdict *verdict;
+    bool with_names;
+} Report;
+
 /* The file's name, and the sealed record's where that isn't the same. */
-static void begin_line(FILE *out, const Verdict *verdict) {
+static void begin_line(const Report *report) {
+    FILE *out = report->out;
+    const Verdict *verdict = report->verdict;
+    if (!report->with_names)
+        return;
     const char *name = verdict->comparison.reading->name, *of = is_another(verdict) ? verdict->wanted->name : verdict->comparison.seal->name;
     char *path = plain_path(name), *of_seal = plain_path(of);
     fprintf(out, "%s: ", name);
@@ -96,7 +108,7 @@ static void tell_selection(FILE *out, const Comparison *comparison) {
     tell_range(out, ", plane", least.plane, most.plane);
 }
 
-static void tell_unchanged(FILE *out, const Comparison *comparison) {
+void tell_unchanged(FILE *out, const Comparison *comparison) {
     if (comparison->is_whole)
         fputs("whole", out);
     else
@@ -105,13 +117,14 @@ static void tell_unchanged(FILE *out, const Comparison *comparison) {
         fputs("; the tail isn't checked", out);
 }
 
-static void tell_header(FILE *out, const Verdict *verdict) {
-    Header is = verdict->comparison.reading->found.header, was = verdict->comparison.seal->header;
-    if (!verdict->comparison.reading->has_header || memcmp(&is, &was, sizeof is) == 0)
+static void tell_header(const Report *report) {
+    const Comparison *comparison = &report->verdict->comparison;
+    Header is = comparison->reading->found.header, was = comparison->seal->header;
+    if (!comparison->reading->has_header || memcmp(&is, &was, sizeof is) == 0)
         return;
-    begin_line(out, verdict);
-    fprintf(out, "the header changed: it tells %" PRIu32 " %" PRIu32 " %" PRIu32 " %" PRIu32, is.width, is.height, is.decompositions, is.planes);
-    fprintf(out, ", and %" PRIu32 " %" PRIu32 " %" PRIu32 " %" PRIu32 " was sealed\n", was.width, was.height, was.decompositions, was.planes);
+    begin_line(report);
+    fprintf(report->out, "the header changed: it tells %" PRIu32 " %" PRIu32 " %" PRIu32 " %" PRIu32, is.width, is.height, is.decompositions, is.planes);
+    fprintf(report->out, ", and %" PRIu32 " %" PRIu32 " %" PRIu32 " %" PRIu32 " was sealed\n", was.width, was.height, was.decompositions, was.planes);
 }
 
 /* What became of a part that is there: it is as it was sealed, or it changed, or it isn't of this record, but maybe of another that is sealed. */
@@ -133,8 +146,9 @@ static bool is_same_origin(Origin one, Origin other) {
 }
 
 /* One line for all parts from the first on that have its origin. */
-static void tell_origin(FILE *out, const Verdict *verdict, const Origin *origins, size_t first) {
-    const Seal *found = &verdict->comparison.reading->found;
+static void tell_origin(const Report *report, const Origin *origins, size_t first) {
+    const Seal *found = &report->verdict->comparison.reading->found;
+    FILE *out = report->out;
     Text names;
     size_t count = 0;
     begin_text(&names);
@@ -142,7 +156,7 @@ static void tell_origin(FILE *out, const Verdict *verdict, const Origin *origins
         if (is_same_origin(origins[i], origins[first]))
             fprintf(names.stream, "%s(%" PRIu32 ", %" PRIu32 ")", count++ == 0 ? " " : ", ", found->parts[i].part.plane, found->parts[i].part.level);
     Bytes listed = end_text(&names);
-    begin_line(out, verdict);
+    begin_line(report);
     fprintf(out, "part%s%.*s ", count == 1 ? "" : "s", (int)listed.length, (const char *)listed.at);
     free(listed.at);
     if (origins[first].fate == CHANGED)
@@ -152,60 +166,67 @@ static void tell_origin(FILE *out, const Verdict *verdict, const Origin *origins
     fprintf(out, "%s%s\n", origins[first].other != NULL ? ", but of " : "", origins[first].other != NULL ? origins[first].other->name : "");
 }
 
-static void tell_other_parts(FILE *out, Matcher *matcher, const Verdict *verdict) {
-    const Seal *found = &verdict->comparison.reading->found;
+static void tell_other_parts(const Report *report) {
+    const Comparison *comparison = &report->verdict->comparison;
+    const Seal *found = &comparison->reading->found;
     Origin *origins = memory_for(found->count, sizeof *origins);
     for (size_t i = 0; i < found->count; i++)
-        origins[i] = origin_of(matcher, &verdict->comparison, &found->parts[i]);
+        origins[i] = origin_of(report->matcher, comparison, &found->parts[i]);
     for (size_t i = 0; i < found->count; i++) {
         size_t first = 0;
         while (!is_same_origin(origins[first], origins[i]))
             first++;
         if (first == i && origins[i].fate != UNCHANGED)
-            tell_origin(out, verdict, origins, i);
+            tell_origin(report, origins, i);
     }
     free(origins);
 }
 
-static void tell_end(FILE *out, const Verdict *verdict) {
-    const Reading *reading = verdict->comparison.reading;
+static void tell_end(const Report *report) {
+    const Reading *reading = report->verdict->comparison.reading;
     if (reading->behind == reading->file.length && reading->outcome.number == AFS_ACCEPTED)
         return;
-    begin_line(out, verdict);
+    begin_line(report);
     if (reading->outcome.number != AFS_ACCEPTED)
-        fprintf(out, "from byte %zu on it can't be read\n", reading->behind);
+        fprintf(report->out, "from byte %zu on it can't be read\n", reading->behind);
     else
-        fputs("the tail isn't of this record\n", out);
+        fputs("the tail isn't of this record\n", report->out);
 }
 
 /* What isn't found anywhere in a file that was changed. */
-static void tell_missing(FILE *out, const Verdict *verdict) {
-    const Seal *seal = verdict->comparison.seal;
+static void tell_missing(const Report *report) {
+    const Seal *seal = report->verdict->comparison.seal;
     const char *before = "missing: part ";
     for (size_t i = 0; i < seal->count; i++) {
         const SealedPart *sealed = &seal->parts[i];
-        if (standing_of(&verdict->comparison, sealed) != IS_MISSING)
+        if (standing_of(&report->verdict->comparison, sealed) != IS_MISSING)
             continue;
         if (before[0] == 'm')
-            begin_line(out, verdict);
-        fprintf(out, "%s(%" PRIu32 ", %" PRIu32 ")", before, sealed->part.plane, sealed->part.level);
+            begin_line(report);
+        fprintf(report->out, "%s(%" PRIu32 ", %" PRIu32 ")", before, sealed->part.plane, sealed->part.level);
         before = ", ";
     }
     if (before[0] != 'm')
-        fputc('\n', out);
+        fputc('\n', report->out);
 }
 
-static void tell_changed(FILE *out, Matcher *matcher, const Verdict *verdict) {
-    tell_header(out, verdict);
-    tell_other_parts(out, matcher, verdict);
-    tell_end(out, verdict);
-    tell_missing(out, verdict);
+static void tell_changed(const Report *report) {
+    tell_header(report);
+    tell_other_parts(report);
+    tell_end(report);
+    tell_missing(report);
+}
+
+void tell_changes(FILE *out, Matcher *matcher, const Verdict *verdict) {
+    tell_changed(&(Report){out, matcher, verdict, false});
 }
 
 /* Which record it is, where it isn't the one that it is to be, or its name doesn't tell that. */
-static void tell_which(FILE *out, const Verdict *verdict) {
+static void tell_which(const Report *report) {
+    FILE *out = report->out;
+    const Verdict *verdict = report->verdict;
     if (is_another(verdict))
-        begin_line(out, verdict);
+        begin_line(report);
     else
         fprintf(out, "%s: ", verdict->comparison.reading->name);
     if (!verdict->comparison.is_changed) {
@@ -220,6 +241,7 @@ static void tell_which(FILE *out, const Verdict *verdict) {
 
 void tell_verdict(FILE *out, Matcher *matcher, const Verdict *verdict, bool quiet) {
     const Comparison *comparison = &verdict->comparison;
+    const Report report = {out, matcher, verdict, true};
     if (quiet && verdict->status == STATUS_DONE)
         return;
     if (comparison->seal == NULL) {
@@ -227,11 +249,11 @@ void tell_verdict(FILE *out, Matcher *matcher, const Verdict *verdict, bool quie
         return;
     }
     if (is_another(verdict) || verdict->namesakes > 0)
-        tell_which(out, verdict);
+        tell_which(&report);
     if (comparison->is_changed)
-        tell_changed(out, matcher, verdict);
+        tell_changed(&report);
     else if (is_as_sealed(verdict)) {
-        begin_line(out, verdict);
+        begin_line(&report);
         tell_unchanged(out, comparison);
         fputc('\n', out);
     }

@@ -22,7 +22,14 @@ Verdict verdict_on(Matcher *matcher, const Request *request, const Reading *read
 /* Whether every part that is there is as it was sealed, of the record that it is to be. */
 bool is_as_sealed(const Verdict *verdict);
 
+/* Whether it is unchanged of another record than it is to be. */
+bool is_another(const Verdict *verdict);
+
 /* Lines about the file, with its name before each; of one that is as it was sealed none where it is to be quiet. */
 void tell_verdict(FILE *out, Matcher *matcher, const Verdict *verdict, bool quiet);
+
+/* Of one that isn't changed: whole, or which selection. Of one that is: what changed, a line for each fact, with no name before it. */
+void tell_unchanged(FILE *out, const Comparison *comparison);
+void tell_changes(FILE *out, Matcher *matcher, const Verdict *verdict);
 
 #endif

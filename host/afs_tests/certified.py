@@ -2,7 +2,8 @@
 certified.py facts SHEET: its figures. certified.py picture SHEET INDEX PNG: its pictures, the first is the record's, the second the scale.
 certified.py contrast SHEET: the least contrast of a colour of its text with what it stands on.
 certified.py cases TOOL FOLDER COUNT [SEED]: so many pictures coded, some parts of each kept; what the sheets claim is worked out from the pyramid that was
-recorded, the one that is decoded, and the parts that are there."""
+recorded, the one that is decoded, the parts that are there, and those that were asked for. Every second one is held against a seal, and then a bit of it is
+turned over as well: of that nothing may be claimed."""
 import base64
 import os
 import random
@@ -13,6 +14,7 @@ import sys
 import zlib
 
 sys.dont_write_bytecode = True
+from sealed import Sealed, verdict
 from ten_thousand import farthest_pixels, parts_of, reached_planes
 
 
@@ -72,6 +74,10 @@ class Tool:
     def __call__(self, *words, given=None):
         return subprocess.run([self.path, *words], input=given, stdout=subprocess.PIPE, stderr=subprocess.DEVNULL, check=True).stdout
 
+    def certificate(self, *words):
+        done = subprocess.run([self.path, "certificate", *words], stdout=subprocess.PIPE, stderr=subprocess.DEVNULL)
+        return done.returncode, done.stdout.decode()
+
     def pyramid(self, record):
         made = self("decode", given=record)
         return struct.unpack(f"<{len(made) // 4}i", made)
@@ -106,14 +112,39 @@ def level_of(index, width, height, n):
     return next((k for k in range(1, n + 1) if row >= height >> k or column >= width >> k), n + 1)
 
 
-def is_right(tool, whole, recorded, kept, halvings, html):
+class Asked:
+    """What is said to have been asked for: options, the level and plane that they stand for, and how often the picture is halved then."""
+
+    def __init__(self, kept, chance):
+        (_, _, _, n, planes), parts, _ = parts_of(kept)
+        kind, self.level, self.plane, self.options = chance.randrange(5), 1, 0, []
+        if kind in (0, 1):
+            self.level = chance.randint(1, n + 1)
+            self.options += ["-r", str(self.level)]
+        if kind in (1, 2):
+            self.plane = chance.randint(0, planes)
+            self.options += ["-p", str(self.plane)]
+        if kind == 3:
+            most = chance.choice([0, 6, 19, 39, 51, 103, 254, 255])
+            self.plane = max(plane for plane in range(planes + 1) if plane == 0 or farthest_pixels([plane] * (n + 1))[0] <= most)
+            self.options = ["-e", str(most)]
+        finest = min((level for _, level, *_ in parts), default=n + 1 if planes else 1)
+        self.halvings = min(self.level if kind in (0, 1) else finest, n) - 1
+
+    def counts(self, n, planes, there):
+        absent = {(plane, level) for plane in range(planes) for level in range(1, n + 2)} - there
+        missing = sum(plane >= self.plane and level >= self.level for plane, level in absent)
+        return {"missing": missing, "left": len(absent) - missing, "unasked": len(absent) - missing}
+
+
+def is_right(tool, whole, recorded, kept, asked, html):
     (_, width, height, n, planes), parts, tail = parts_of(kept)
-    there, told = {(plane, level) for plane, level, *_ in parts}, {"tail": 0, "skipped": 0, **facts(html)}
-    reached = reached_planes(n + 1, planes, there)
+    there, told = {(plane, level) for plane, level, *_ in parts}, {"tail": 0, "skipped": 0, "left": 0, "unasked": 0, **facts(html)}
+    reached, halvings = reached_planes(n + 1, planes, there), asked.halvings
     used = sum(plane >= reached[level - 1] for plane, level in there if level > halvings)
     farthest = farthest_pixels(reached)[halvings]
     skipped = sum(plane < reached[level - 1] for plane, level in there)
-    claims = {"farthest": farthest, "there": len(there), "used": used, "skipped": skipped, "missing": planes * (n + 1) - len(there), "tail": tail}
+    claims = {"farthest": farthest, "there": len(there), "used": used, "skipped": skipped, "tail": tail, **asked.counts(n, planes, there)}
     near = all(
         abs(was - now) < 1 << reached[level_of(i, width, height, n) - 1] for i, (was, now) in enumerate(zip(recorded, tool.pyramid(kept)))
     )
@@ -122,22 +153,47 @@ def is_right(tool, whole, recorded, kept, halvings, html):
     return near and away <= farthest and len(drawn) == (width >> halvings) * (height >> halvings) and all(int(told[k]) == v for k, v in claims.items())
 
 
+def is_held_right(tool, whole, kept, folder, chance, html, status, sorts):
+    """Of what is as it was sealed what verify says, and the digest on the sealed record's line; of a changed copy no claim."""
+    found = verdict(Sealed(whole), kept)
+    with open(os.path.join(folder, "case.seals"), encoding="ascii") as file:
+        digest = re.search("^seal (.*)$", file.read(), re.M).group(1)
+    right = status == (4 if "tail" in found else 0) and facts(html)["seal"] == digest and f'"found">{found}</span>' in html and "since it was coded" not in html
+    turned = bytearray(kept)
+    turned[chance.randrange(5, len(kept)) if len(kept) > 5 else 4] ^= 1 << chance.randrange(8)
+    with open(os.path.join(folder, "turned.record"), "wb") as file:
+        file.write(turned)
+    status, html = tool.certificate("--seals", os.path.join(folder, "case.seals"), os.path.join(folder, "turned.record"))
+    if status != 5:  # refused, or turned over in a tail, which isn't checked
+        return right and (status == 1 or (status == 4 and verdict(Sealed(whole), bytes(turned)) is not None))
+    sorts["changed"] += 1
+    return right and "farthest" not in facts(html) and html.index("alarm") < html.index("<h1>") and "<strong>" not in html
+
+
 def cases(path, folder, count, seed="1"):
-    tool, chance, wrong, sorts = Tool(path), random.Random(int(seed)), [], {"exact": 0, "bound": 0, "none": 0}
+    tool, chance, wrong, sorts = Tool(path), random.Random(int(seed)), [], {"exact": 0, "bound": 0, "none": 0, "asked": 0, "held": 0, "changed": 0}
+    at = os.path.join(folder, "case")
     for case in range(int(count)):
         if case % 5 == 0:
             n, picture = some_picture(chance)
             whole = tool("code", "-n", str(n), given=picture)
             recorded = tool.pyramid(whole)
-        kept, halvings = some_of(whole, chance), chance.randrange(n)
-        with open(os.path.join(folder, "case.record"), "wb") as file:
+            with open(at + ".seals", "wb") as file:
+                file.write(tool("seal", given=whole))
+        kept, is_held = some_of(whole, chance), case % 2 == 1
+        asked = Asked(kept, chance)
+        with open(at + ".record", "wb") as file:
             file.write(kept)
-        html = tool("certificate", "-r", str(halvings + 1), os.path.join(folder, "case.record")).decode()
+        status, html = tool.certificate(*asked.options, *(["--seals", at + ".seals"] if is_held else []), at + ".record")
         farthest = int(facts(html)["farthest"])
         sorts["exact" if farthest == 0 else "bound" if farthest < 255 else "none"] += 1
-        if not is_right(tool, whole, recorded, kept, halvings, html):
+        sorts["asked"] += bool(asked.options)
+        sorts["held"] += is_held
+        held = is_held_right(tool, whole, kept, folder, chance, html, status, sorts) if is_held else status == 0 and 'class="held">Not held' in html
+        if not held or not is_right(tool, whole, recorded, kept, asked, html):
             wrong.append(case)
-    print(f"{count} cases, {len(wrong)} wrong {wrong[:3]}; exact {sorts['exact']}, bound {sorts['bound']}, none nearer than 255 {sorts['none']}")
+    told = ", ".join(f"{name} {number}" for name, number in sorts.items()).replace("none", "none nearer than 255")
+    print(f"{count} cases, {len(wrong)} wrong {wrong[:3]}; {told}")
 
 
 def main(what, path, *rest):
