@@ -75,6 +75,15 @@ def test_every_sort_of_damage(afs: Tool, here: Path, record: bytes, variants: Li
     assert statuses == {0, 3, 4, 5}
 
 
+def test_a_tail_is_of_a_part_that_may_follow(afs: Tool, here: Path, record: bytes) -> None:
+    seals = afshtruni.seal({"job.record": record})
+    parts = afshtruni.parts(record)
+    for follower, status in ((9, 4), (3, 5)):
+        head = record[parts[follower].offset : parts[follower].offset + 1]
+        Path("job.record").write_bytes(record[: parts[8].offset] + head)
+        assert _same_as_tool(afs, seals, "job.record").status == status
+
+
 def test_parts_are_named(record: bytes) -> None:
     part = afshtruni.parts(record)[7]
     changed = bytearray(record)
