@@ -13,8 +13,8 @@ DESCRIPTION
     `afshtruni.read_picture`. Leading dimensions of a chunk must be 1, as of (1, 256, 256). What
     comes back is exact. A chunk that isn't whole is refused, whatever could be decoded of it.
 
-    Where the package is installed with its metadata, as by a wheel, numcodecs finds the codec by
-    its name "afshtruni". Elsewhere it knows it once this module is imported.
+    Where the package is installed, numcodecs finds the codec by its name, "afshtruni". In a source
+    tree it knows it once this module is imported.
 """
 
 from __future__ import annotations

@@ -16,6 +16,7 @@ numcodecs = pytest.importorskip("numcodecs")
 zarr = pytest.importorskip("zarr")
 
 from afshtruni.numcodecs import Afshtruni  # noqa: E402
+from conftest import TREE  # noqa: E402
 from test_library import run_python  # noqa: E402
 
 
@@ -79,11 +80,13 @@ def test_the_name_is_known() -> None:
 
 
 def test_the_name_is_found() -> None:
-    """Where the package has metadata that names it."""
+    """Where the package has metadata that names it: not in the source tree."""
     try:
-        metadata.distribution("afshtruni")
+        version = metadata.version("afshtruni")
     except metadata.PackageNotFoundError:
+        assert Path(afshtruni.__file__).resolve().is_relative_to(TREE)
         pytest.skip("not installed as a distribution")
+    assert version == afshtruni.__version__
     ended = run_python("import numcodecs; print(numcodecs.get_codec({'id': 'afshtruni'}))")
     assert (ended.stdout, ended.stderr) == ("Afshtruni(decompositions=None)\n", "")
 
