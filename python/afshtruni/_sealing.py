@@ -29,19 +29,23 @@ class Verdict:
     status    as of `afs verify`: 0 where everything that is there is as it was sealed, of the
               record that it is to be; 3 where that is so, but all of it was wanted and isn't there;
               4 where it is so but for a tail, which can't be checked; 5 where it isn't
-    of        the name of the sealed record that it was held against, or None where it is of none
-    is_whole  whether every byte of that record is there, as it was sealed
+    kind      "whole" or "selection", as it was sealed; "changed"; "another", as it was sealed, but
+              not of the record that it is to be; "ambiguous", where its name doesn't tell which
+              that is; "unknown", of no sealed record
+    of        the name of the sealed record that it was held against, or None
     changed   plane and level of each part that is there and isn't as it was sealed
     missing   plane and level of each sealed part that isn't there
+    tail      how many bytes stand behind the last part that can be read: no digest covers them
     refusal   why it can't be read to its end, or None
     lines     what `afs verify` prints
     """
 
     status: int
+    kind: str
     of: Optional[str]
-    is_whole: bool
     changed: Tuple[Tuple[int, int], ...]
     missing: Tuple[Tuple[int, int], ...]
+    tail: int
     refusal: Optional[Refusal]
     lines: Tuple[str, ...]
 
@@ -133,10 +137,11 @@ def verify(
     compared = judged.comparison
     return Verdict(
         status=judged.status(whole),
+        kind=judged.kind,
         of=None if compared is None else compared.seal.name,
-        is_whole=compared is not None and judged.is_as_sealed and compared.is_whole,
         changed=() if compared is None else _places(other_parts(compared)),
         missing=() if compared is None else _places(missing_parts(compared)),
+        tail=len(reading.held) - reading.behind,
         refusal=reading.refusal,
         lines=tuple(lines_of(matcher, judged)),
     )

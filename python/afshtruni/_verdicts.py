@@ -33,6 +33,19 @@ class Judged(NamedTuple):
         is_unchanged = self.comparison is not None and not self.comparison.is_changed
         return is_unchanged and self.namesakes == 0 and not self.is_another
 
+    @property
+    def kind(self) -> str:
+        """The verdict in a word, as `afs verify --json` tells it."""
+        if self.comparison is None:
+            return "unknown"
+        if self.comparison.is_changed:
+            return "changed"
+        if self.namesakes > 0:
+            return "ambiguous"
+        if self.is_another:
+            return "another"
+        return "whole" if self.comparison.is_whole else "selection"
+
     def status(self, wants_whole: bool) -> int:
         """What `afs verify` ends with."""
         if self.comparison is None or not self.is_as_sealed:

@@ -58,7 +58,7 @@ def test_seals_are_the_tools(afs: Tool, here: Path, record: bytes) -> None:
     assert b"file a%0Ab %25%FF \xc3\xa9.record\n" in written
     for name in map(os.fspath, records):
         verdict = _same_as_tool(afs, written, name)
-        assert verdict and verdict.is_whole and verdict.of == name
+        assert verdict and verdict.kind == "whole" and verdict.of == name
 
 
 def test_every_sort_of_damage(afs: Tool, here: Path, record: bytes, variants: List[bytes]) -> None:
@@ -69,7 +69,7 @@ def test_every_sort_of_damage(afs: Tool, here: Path, record: bytes, variants: Li
         statuses.add(_same_as_tool(afs, seals, "arrived.record").status)
         asked = _same_as_tool(afs, seals, "arrived.record", "--of", "job.record", of="job.record")
         statuses.add(asked.status)
-        assert asked.is_whole == (held == record)
+        assert (asked.kind == "whole") == (held == record)
         if i % 5 == 0:
             statuses.add(_same_as_tool(afs, seals, "arrived.record", "--whole", whole=True).status)
     assert statuses == {0, 3, 4, 5}
@@ -90,7 +90,7 @@ def test_parts_are_named(record: bytes) -> None:
     changed[part.offset + part.length - 2] ^= 1
     seals = afshtruni.seal({"job.record": record})
     verdict = afshtruni.verify(seals, bytes(changed))
-    assert (verdict.status, verdict.of, verdict.is_whole) == (5, "job.record", False)
+    assert (verdict.status, verdict.of, verdict.kind) == (5, "job.record", "changed")
     assert (verdict.changed, verdict.missing) == (((part.plane, part.level),), ())
     small = afshtruni.verify(seals, afshtruni.serve(record, plane=1))
     assert (small.status, small.changed) == (0, ())
@@ -111,11 +111,11 @@ def two_jobs(here: Path) -> bytes:
 def test_another_jobs_record_is_told(afs: Tool, here: Path, two_jobs: bytes) -> None:
     paths = ("a/job.record", "./a/job.record", "b/../a//job.record", str(here / "a" / "job.record"))
     for path in paths:
-        assert _same_as_tool(afs, two_jobs, path).is_whole
+        assert _same_as_tool(afs, two_jobs, path).kind == "whole"
     Path("a/job.record").write_bytes(Path("b/job.record").read_bytes())
     for path in paths:
         verdict = _same_as_tool(afs, two_jobs, path)
-        assert (verdict.status, verdict.of, verdict.is_whole) == (5, "b/job.record", False)
+        assert (verdict.status, verdict.of, verdict.kind) == (5, "b/job.record", "another")
         assert len(verdict.lines) == 1
         assert _same_as_tool(afs, two_jobs, path, "--of", "b/job.record", of="b/job.record")
 
@@ -132,14 +132,14 @@ def test_from_inside_the_folder(
 
 def test_a_name_that_tells_nothing(afs: Tool, here: Path, two_jobs: bytes) -> None:
     Path("job.record").write_bytes(Path("b/job.record").read_bytes())
-    assert _same_as_tool(afs, two_jobs, "job.record").status == 5
+    assert _same_as_tool(afs, two_jobs, "job.record").kind == "ambiguous"
     small = afshtruni.serve(Path("b/job.record").read_bytes(), 2, 1)
     Path("small.record").write_bytes(small)
     verdict = _same_as_tool(afs, two_jobs, "small.record")
-    assert (verdict.status, verdict.of) == (0, "b/job.record")
+    assert (verdict.status, verdict.kind, verdict.of) == (0, "selection", "b/job.record")
     assert afshtruni.verify(two_jobs, small).of == "b/job.record"
     Path("foreign").write_bytes(afshtruni.code(np.full((8, 8), 77, np.uint8)))
-    assert _same_as_tool(afs, two_jobs, "foreign").of is None
+    assert _same_as_tool(afs, two_jobs, "foreign").kind == "unknown"
 
 
 def test_joined_of_two_jobs(afs: Tool, here: Path, two_jobs: bytes) -> None:
