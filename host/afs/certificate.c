@@ -102,9 +102,9 @@ static Bytes html_of_held(const Request *request, Matcher *matcher, const char *
 Bytes certificate_of(const Request *request, Matcher *matcher, const char *path, Bytes record, const Outcome *printed, int *status) {
     Bytes converted, html = request->seals != NULL ? html_of_held(request, matcher, path, record, printed, status)
                                                    : html_of(request, path, record, printed, NULL, status);
-    if (request->form == AS_HTML)
+    if (request->kind == AS_HTML)
         return html;
-    const char *why = convert_sheet(html, request->form, &converted);
+    const char *why = convert_sheet(html, request->kind, &converted);
     free(html.at);
     if (why != NULL)
         fail("%s: %s", request->out, why);

@@ -1,6 +1,7 @@
 #include "commands.h"
 
 #include "asking.h"
+#include "batch.h"
 #include "calls.h"
 #include "certificate.h"
 #include "holding.h"
@@ -12,6 +13,7 @@
 #include "output.h"
 #include "paths.h"
 #include "pictures.h"
+#include "png_file.h"
 #include "progress.h"
 #include "refusals.h"
 #include "telling.h"
@@ -110,6 +112,18 @@ static int tell_refusal(const Turn *turn, const Outcome *outcome) {
     return STATUS_REFUSED;
 }
 
+/* A pyramid, or a picture, which is drawn as a grey file first. */
+static void put_decoded(const Turn *turn, const Holding *holding, Bytes decoded) {
+    if (turn->request->kind != AS_PNG) {
+        put_out(turn->output, decoded.at, decoded.length);
+        return;
+    }
+    uint32_t width = holding->header.width >> turn->request->halvings, height = holding->header.height >> turn->request->halvings;
+    Bytes png = png_of(decoded.at + (decoded.length - (size_t)width * height), width, height, scale_named("grey"));
+    put_out(turn->output, png.at, png.length);
+    free(png.at);
+}
+
 static int finish_decoded(const Turn *turn, const Outcome *outcome) {
     const Request *request = turn->request;
     Holding holding = holding_of(turn->input, outcome);
@@ -124,7 +138,7 @@ static int finish_decoded(const Turn *turn, const Outcome *outcome) {
     if (request->json)
         tell(turn, outcome);
     else if (!request->check && !is_too_short)
-        put_out(turn->output, outcome->bytes.at, outcome->bytes.length);
+        put_decoded(turn, &holding, outcome->bytes);
     return is_too_short || is_wrong ? STATUS_LACKS : STATUS_DONE;
 }
 
@@ -146,6 +160,20 @@ static int finish_certificate(const Turn *turn, const Outcome *outcome) {
     return status;
 }
 
+static int finish_coded(const Turn *turn, const Outcome *outcome) {
+    const uint8_t *at = outcome->bytes.at;
+    if (turn->request->is_picture)
+        note_coded(turn->request, turn->name, read_header(&at).decompositions);
+    put_out(turn->output, outcome->bytes.at, outcome->bytes.length);
+    return STATUS_DONE;
+}
+
+static int finish_served(const Turn *turn, const Outcome *outcome) {
+    note_served(turn->request, turn->name, outcome);
+    put_out(turn->output, outcome->bytes.at, outcome->bytes.length);
+    return turn->request->has_most && outcome->farthest > turn->request->most ? STATUS_LACKS : STATUS_DONE;
+}
+
 static int finish_turn(const Turn *turn, const Outcome *outcome) {
     switch (turn->request->command) {
     case DECODE:
@@ -159,13 +187,10 @@ static int finish_turn(const Turn *turn, const Outcome *outcome) {
     case CERTIFICATE:
         return finish_certificate(turn, outcome);
     case SERVE:
-        note_served(turn->request, turn->name, outcome);
-        break;
+        return finish_served(turn, outcome);
     default:
-        break;
+        return finish_coded(turn, outcome);
     }
-    put_out(turn->output, outcome->bytes.at, outcome->bytes.length);
-    return STATUS_DONE;
 }
 
 static int tell_unreadable(const Turn *turn, const char *why) {
@@ -206,6 +231,8 @@ static int take_turn(Turn turn, const char *path) {
     const char *why = read_input(path, turn.request->force, &turn.input);
     if (why != NULL)
         return tell_unreadable(&turn, why);
+    if (turn.request->is_picture)
+        take_as_grey_file(&turn.input);
     int status = turn.request->command == VERIFY ? verify(&turn) : call_and_finish(&turn);
     free(turn.input.at);
     return status;
@@ -251,35 +278,45 @@ static int take_turns(Turn turn) {
     int status = STATUS_DONE;
     for (size_t i = 0; i < request->count; i++) {
         if (request->count > 1 && !request->quiet)
-            show_progress(i, request->count);
+            show_progress(i, request->count, false);
         int of_this = take_turn(turn, request->files[i]);
         status = of_this > status ? of_this : status;
         show_output(turn.output);
     }
-    clear_progress();
+    if (request->count > 1)
+        clear_progress();
     return status;
 }
 
-/* What is told of a record doesn't take its place unless that is asked for. */
 static Output output_for(const Request *request) {
-    bool keeps_input = request->command == SEAL || request->command == VERIFY || request->command == CERTIFICATE;
-    bool is_text = request->command == PARTS || request->command == EXPLAIN || keeps_input || request->check;
-    return output_to(request->out, is_text, request->force, request->count == 1 && !keeps_input ? request->files[0] : NULL);
+    return output_to(request->out, request->kind == AS_TEXT || request->kind == AS_HTML, request->force);
+}
+
+/* What all files are held against. */
+typedef struct {
+    Seals seals;
+    Matcher matcher;
+} Known;
+
+static int run_one(const Request *request, void *with) {
+    Known *known = with;
+    Output output = output_for(request);
+    int status = take_turns((Turn){.request = request, .output = &output, .seals = &known->seals, .matcher = &known->matcher});
+    if (request->command == SEAL && known->seals.count > 0)
+        put_seals(&output, &known->seals);
+    finish_output(&output);
+    return status;
 }
 
 int run(const Request *request) {
     if (request->command == JOIN)
         return run_join(request);
-    Output output = output_for(request);
-    Seals seals = {NULL, 0, 0};
+    Known known = {.seals = {NULL, 0, 0}};
     if (request->seals != NULL)
-        read_all_seals(request, &seals);
-    Matcher matcher = match_seals(request, &seals);
-    int status = take_turns((Turn){.request = request, .output = &output, .seals = &seals, .matcher = &matcher});
-    if (request->command == SEAL && seals.count > 0)
-        put_seals(&output, &seals);
-    finish_output(&output);
-    free_matcher(&matcher);
-    free_seals(&seals);
+        read_all_seals(request, &known.seals);
+    known.matcher = match_seals(request, &known.seals);
+    int status = request->to != NULL ? run_batch(request, run_one, &known) : run_one(request, &known);
+    free_matcher(&known.matcher);
+    free_seals(&known.seals);
     return status;
 }

@@ -71,12 +71,12 @@ static bool make_pages(const Workshop *shop, const sigset_t *before) {
     return run_program(pdftoppm, before) && access(shop->first_page, R_OK) == 0;
 }
 
-static const char *make(const Workshop *shop, Bytes html, SheetForm form, Bytes *made, const sigset_t *before) {
+static const char *make(const Workshop *shop, Bytes html, Kind kind, Bytes *made, const sigset_t *before) {
     if (!write_html(shop, html))
         return "the sheet could not be written to the folder for temporary files";
     if (!make_pdf(shop, before))
         return "neither chromium nor weasyprint made it; a name that ends in .html needs none of them";
-    if (form == AS_PDF)
+    if (kind == AS_PDF)
         return read_input(shop->pdf, false, made);
     if (!make_pages(shop, before))
         return "pdftoppm, of the package poppler-utils, didn't make it; a name that ends in .html or .pdf doesn't need it";
@@ -86,7 +86,7 @@ static const char *make(const Workshop *shop, Bytes html, SheetForm form, Bytes 
 }
 
 /* Signals are held back, so that whatever ends the program finds the folder removed; they reach the programs that are run. */
-const char *convert_sheet(Bytes html, SheetForm form, Bytes *made) {
+const char *convert_sheet(Bytes html, Kind kind, Bytes *made) {
     Workshop shop;
     sigset_t all, before;
     sigfillset(&all);
@@ -94,7 +94,7 @@ const char *convert_sheet(Bytes html, SheetForm form, Bytes *made) {
     const char *why = "no folder for temporary files could be made";
     if (begin_workshop(&shop)) {
         const char *const remove[] = {"rm", "-rf", shop.folder, NULL};
-        why = make(&shop, html, form, made, &before);
+        why = make(&shop, html, kind, made, &before);
         run_program(remove, &all);
     }
     sigprocmask(SIG_SETMASK, &before, NULL);

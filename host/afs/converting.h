@@ -3,10 +3,9 @@
 #define AFS_CONVERTING_H
 
 #include "files.h"
-
-typedef enum { AS_HTML, AS_PDF, AS_PNG } SheetForm;
+#include "kinds.h"
 
 /* NULL, and the caller frees what was made; or why it can't be made. */
-const char *convert_sheet(Bytes html, SheetForm form, Bytes *made);
+const char *convert_sheet(Bytes html, Kind kind, Bytes *made);
 
 #endif

@@ -1,6 +1,9 @@
 #include "grey_words.h"
 
+#include "png_file.h"
+
 #include <inttypes.h>
+#include <stdlib.h>
 #include <string.h>
 
 enum { MAXVAL = 255, MAGIC = 2 };
@@ -18,10 +21,22 @@ static bool begins_with(Bytes file, const char *front) {
     return file.length >= length && memcmp(file.at, front, length) == 0;
 }
 
+static const char how_to_make_one[] = "'convert IN -alpha off -colorspace Gray -depth 8 OUT.pgm' makes one of it";
+
+static Sentence why_not_this_png(Bytes file) {
+    PngFault fault;
+    free(grey_file_of_png(file, &fault).at);
+    if (!fault.is_readable)
+        return say("it begins as a PNG picture does, and can't be read: %s", fault.text.text);
+    return say("it is %s; legal is 8 bit grey without alpha: %s", fault.text.text, how_to_make_one);
+}
+
 static Sentence why_not_p5(Bytes file) {
+    if (is_png(file))
+        return why_not_this_png(file);
     for (size_t i = 0; i < sizeof other_files / sizeof *other_files; i++)
         if (begins_with(file, other_files[i].front))
-            return say("it begins as %s does; legal is a binary grey picture of Netpbm's, which begins with P5", other_files[i].name);
+            return say("it begins as %s does; legal is a binary grey picture of Netpbm's, which begins with P5: %s", other_files[i].name, how_to_make_one);
     if (file.length < MAGIC)
         return say("it has %zu bytes; legal is a binary grey picture of Netpbm's, which begins with P5", file.length);
     return say("it begins with the bytes %02X %02X; legal is a binary grey picture of Netpbm's, which begins with P5", file.at[0], file.at[1]);

@@ -16,18 +16,24 @@ typedef struct {
 static const Entry usages[] = {
     {1 << CODE, NULL, "afs code [-n N] [PICTURE]"},
     {1 << CODE, NULL, "afs code W H N [PYRAMID]"},
+    {1 << CODE, NULL, "afs code [-n N] [-j JOBS] --to DIR PICTURE.."},
     {1 << SERVE, NULL, "afs serve [-r LEVEL] [-p PLANE] [FILE]"},
     {1 << SERVE, NULL, "afs serve -e E [FILE]"},
+    {1 << SERVE, NULL, "afs serve [-r LEVEL] [-p PLANE] [-e E] [-j JOBS] --to DIR FILE.."},
     {1 << JOIN, NULL, "afs join FIRST SECOND"},
-    {1 << DECODE, NULL, "afs decode [-g [-s S]] [-r LEVEL] [-p PLANE] [--whole] [FILE]"},
+    {1 << DECODE, NULL, "afs decode [-g [-s S]] [-r LEVEL] [-p PLANE] [--whole] [--as KIND] [FILE]"},
+    {1 << DECODE, NULL, "afs decode [-g [-s S]] [-r LEVEL] [-p PLANE] [--whole] [--as KIND]\n"
+                        "    [-j JOBS] --to DIR FILE.."},
     {1 << DECODE, NULL, "afs decode --check [-r LEVEL] [-p PLANE] [--whole] [--json] [FILE..]"},
     {1 << PARTS, NULL, "afs parts [--json] [FILE..]"},
     {1 << EXPLAIN, NULL, "afs explain [--json] [FILE..]"},
     {1 << SEAL, NULL, "afs seal [FILE..]"},
     {1 << VERIFY, NULL, "afs verify [--of NAME] [--whole] SEALS [FILE..]"},
     {1 << CERTIFICATE, NULL, "afs certificate [--seals SEALS [--of NAME]] [-r LEVEL] [-p PLANE]\n"
-                             "    [--scale SCALE] [--title TEXT] [--note TEXT] [--device TEXT] [FILE]"},
+                             "    [--scale SCALE] [--title TEXT] [--note TEXT] [--device TEXT]\n"
+                             "    [--as KIND] [FILE]"},
     {1 << CERTIFICATE, NULL, "afs certificate -e E .. [FILE]"},
+    {1 << CERTIFICATE, NULL, "afs certificate .. [-j JOBS] --to DIR FILE.."},
 };
 
 static const Entry summaries[] = {
@@ -46,13 +52,13 @@ static const Entry summaries[] = {
     {1 << VERIFY, "verify", "holds records, or what is left of them, against seals, and names\n"
                             "each part that changed"},
     {1 << CERTIFICATE, "certificate", "writes the sheet that goes with a record: its picture, and what\n"
-                                      "holds of it; HTML, or PDF or PNG where -o ends in that"},
+                                      "holds of it; HTML, or PDF or PNG"},
 };
 
 /* Where an option isn't the same for all commands, each way has an entry of its own, and the same head. */
 static const Entry option_entries[] = {
     {1 << CODE, "  -n, --decompositions N", "of a picture (as many as its sides allow, up to 5)"},
-    {1 << DECODE, "  -g, --grey", "decode to a picture; so does -o NAME.pgm"},
+    {1 << DECODE, "  -g, --grey", "decode to a picture; so does -o NAME.pgm or NAME.png"},
     {1 << DECODE, "  -s, --halve S", "the picture halved S times (0)"},
     {1 << SERVE, "  -r, --level LEVEL", "only this level and coarser ones (1, all levels)"},
     {1 << DECODE, "  -r, --level LEVEL", "what was to be expected: only what falls short of\nit is noted"},
@@ -71,7 +77,11 @@ static const Entry option_entries[] = {
     {1 << CERTIFICATE, "      --title TEXT, --note TEXT, --device TEXT", "as given"},
     {1 << DECODE, "      --check", "decode, but write nothing"},
     {1 << DECODE | 1 << PARTS | 1 << EXPLAIN, "      --json", "one object a line for each file"},
+    {1 << DECODE, "      --as KIND", "pyramid, pgm or png, where no name tells it"},
+    {1 << CERTIFICATE, "      --as KIND", "html, pdf or png, where no name tells it"},
     {EVERY, "  -o, --output OUT", "write to OUT instead of standard output"},
+    {1 << CODE | 1 << SERVE | 1 << DECODE | 1 << CERTIFICATE, "      --to DIR", "many files, each to this folder under its own name"},
+    {1 << CODE | 1 << SERVE | 1 << DECODE | 1 << CERTIFICATE, "  -j, --jobs JOBS", "so many of them at once (1)"},
     {EVERY, "  -f, --force", "replace OUT if it is there; use a terminal for records"},
     {EVERY, "  -q, --quiet", "no notes, and no progress line"},
     {EVERY, "  -h, --help", "print this and exit"},
@@ -83,8 +93,8 @@ static const Entry of_all_options[] = {
 
 static const Entry remarks[] = {
     {EVERY & ~(1 << JOIN), NULL, "Without FILE, or where it is -, standard input is read."},
-    {1 << CODE | 1 << DECODE, NULL, "A picture is a binary grey file of Netpbm's: P5, maxval 255. A pyramid is a row\n"
-                                    "of 32-bit numbers, lowest byte first."},
+    {1 << CODE | 1 << DECODE, NULL, "A picture is a binary grey file of Netpbm's, P5 with maxval 255, or a PNG of 8\n"
+                                    "bit grey without alpha. A pyramid is a row of 32-bit numbers, lowest byte first."},
 };
 
 static const char of_changes[] = "\n"
@@ -95,9 +105,10 @@ static const char of_changes[] = "\n"
 static const char of_statuses[] = "\n"
                                   "Exit status: 0 done; 1 refused: 'refused NUMBER NAME at PLACE: FILE: ..' is\n"
                                   "printed on standard error; 2 wrong usage, or a file that can't be read or\n"
-                                  "written; 3 with --whole, something lacks, or a picture's record was changed;\n"
-                                  "from verify 4 where all is as it was sealed but a tail, which can't be checked,\n"
-                                  "5 where something isn't. Of many files the greatest counts.\n";
+                                  "written; 3 with --whole, something lacks, or -e E can't be kept to, or a\n"
+                                  "picture's record was changed; from verify 4 where all is as it was sealed but a\n"
+                                  "tail, which can't be checked, 5 where something isn't. Of many files the\n"
+                                  "greatest counts.\n";
 
 /* Line by line, all but the first behind so many blanks. */
 static void print_indented(FILE *out, const char *lines, int column) {

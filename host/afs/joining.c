@@ -57,7 +57,7 @@ static int join_both(const Request *request, const Input *inputs, Output *output
 }
 
 int run_join(const Request *request) {
-    Output output = output_to(request->out, false, request->force, NULL);
+    Output output = output_to(request->out, false, request->force);
     Input inputs[RECORDS];
     int status = read_both(request, inputs) ? join_both(request, inputs, &output) : STATUS_FAILED;
     for (size_t i = 0; i < RECORDS; i++)

@@ -74,12 +74,22 @@ void note_no_picture(const Request *request, const char *name) {
         complain("%s: was changed, or made of no picture: all of it is there, and of a picture no pixel comes out under 0 or over 255", name);
 }
 
+static void note_distance(const Request *request, const char *name, const Outcome *served) {
+    complain("%s: served for plane %" PRIu64 "; %s %" PRIu64 " grey values from the recorded one%s", name, served->plane, if_picture, served->farthest,
+             served->farthest > request->most ? ", and nothing nearer can be served, as parts are missing" : "");
+}
+
+void note_coded(const Request *request, const char *name, uint64_t decompositions) {
+    enum { USUAL = 3 };
+    if (!request->quiet && !request->has_decompositions && decompositions < USUAL)
+        complain("%s: coded with N = %" PRIu64 ", as its sides allow no more; N = %d needs multiples of %d", name, decompositions, USUAL, 2 << USUAL);
+}
+
 void note_served(const Request *request, const char *name, const Outcome *served) {
     if (request->quiet)
         return;
     if (request->has_most)
-        complain("%s: served for plane %" PRIu64 "; %s %" PRIu64 " grey values from the recorded one%s", name, served->plane, if_picture,
-                 served->farthest, served->farthest > request->most ? ", and nothing nearer can be served, as parts are missing" : "");
+        note_distance(request, name, served);
     Outcome without_tail = *served;
     without_tail.tail = 0;
     Holding kept = holding_of(served->bytes, &without_tail);

@@ -11,6 +11,9 @@ void note_decoded(const Request *request, const char *name, const Holding *holdi
 void note_clipped(const Request *request, const char *name, uint64_t clipped);
 void note_no_picture(const Request *request, const char *name);
 
+/* Of a picture that was coded with as many decompositions as its sides allow: how many, where that is few. */
+void note_coded(const Request *request, const char *name, uint64_t decompositions);
+
 /* Of a record accepted by serve(): with -e a line for the plane and how far a pixel may be, one for the parts that were asked for and aren't there, and one
    for a tail that was left out. */
 void note_served(const Request *request, const char *name, const Outcome *served);

@@ -20,9 +20,16 @@ static uint64_t number_from(const char *name, unsigned least, unsigned most, con
     return number;
 }
 
+static uint64_t number_within(const char *name, unsigned least, unsigned most, const char *text) {
+    uint64_t number = number_from(name, least, most, text);
+    if (number < least || number > most)
+        misused("%s is a number from %u to %u, not '%s'", name, least, most, text);
+    return number;
+}
+
 static _Noreturn void print_and_exit(Text *text) {
     Bytes printed = end_text(text);
-    Output output = output_to(NULL, true, false, NULL);
+    Output output = output_to(NULL, true, false);
     put_out(&output, printed.at, printed.length);
     free(printed.at);
     finish_output(&output);
@@ -67,25 +74,76 @@ static _Noreturn void print_version_and_exit(void) {
     print_and_exit(&text);
 }
 
-static void judge_options(const Words *words, const Request *request) {
-    static const char of_json[] = "parts, explain and decode --check";
+/* The kind that a command writes where its name tells none. */
+static Kind kind_without_name(const Words *words, const Request *request) {
+    switch (request->command) {
+    case DECODE:
+        return request->check ? AS_TEXT : words->given[GREY] ? AS_PGM : AS_PYRAMID;
+    case CERTIFICATE:
+        return AS_HTML;
+    case CODE:
+    case SERVE:
+    case JOIN:
+        return AS_RECORD;
+    default:
+        return AS_TEXT;
+    }
+}
+
+static Kind kind_by_word(const Request *request, const char *word) {
+    Kind kind = kind_asked(request->command, word);
+    if (kind == KINDS)
+        misused("KIND is %s, not '%s'", words_for_kinds(request->command), word);
+    return kind;
+}
+
+/* A name that stands for another kind of file than is written is wrong. A pyramid may stand where its record stood. */
+static Kind choose_kind(const Words *words, const Request *request) {
+    Kind kind = words->given[AS] ? kind_by_word(request, words->arguments[AS]) : kind_without_name(words, request), named = kind_named(request->out);
+    if (named == KINDS || (named == AS_RECORD && request->command == DECODE))
+        return kind;
+    if (kind == AS_TEXT ? named != AS_TEXT : !is_written_by(request->command, named))
+        misused("%s: %s writes %s", request->out, commands[request->command], request->check ? "text here, as NAME.txt" : written_by(request->command));
+    if ((words->given[AS] && named != kind) || (words->given[GREY] && named == AS_PYRAMID))
+        misused("%s: stands for another kind of file than %s does", request->out, as_typed(words, words->given[AS] ? AS : GREY).text);
+    return named;
+}
+
+/* Many files have no place in one, nor have they all one name. */
+static void judge_folder(const Words *words, const Request *request) {
+    if (request->to == NULL && words->given[JOBS])
+        misused("%s is for many files: --to stands beside it", as_typed(words, JOBS).text);
+    if (request->to != NULL && request->out != NULL)
+        misused("beside --to there is no place for %s: each file keeps its name", as_typed(words, OUTPUT).text);
+    if (request->check && (request->to != NULL || words->given[AS]))
+        misused("--check writes nothing, so there is no place for --%s", request->to != NULL ? "to" : "as");
+}
+
+static const char of_json[] = "parts, explain and decode --check";
+
+static void judge_each_option(const Words *words, const Request *request) {
     for (Option option = 0; option < OPTIONS; option++)
         if (words->given[option] && !(options[option].commands >> request->command & 1))
             misused("%s is for %s", as_typed(words, option).text, option == JSON ? of_json : commands_in_words(options[option].commands).text);
+}
+
+static void judge_together(const Words *words, const Request *request) {
     if (request->json && request->command == DECODE && !request->check)
         misused("--json is for %s", of_json);
     if (words->given[HALVE] && !request->grey)
-        misused("%s is for pictures: -g, or -o NAME.pgm, stands beside it", as_typed(words, HALVE).text);
+        misused("%s is for pictures: -g, or -o NAME.pgm or NAME.png, stands beside it", as_typed(words, HALVE).text);
     if (request->has_most && (words->given[LEVEL] || words->given[PLANE]))
         misused("beside %s there is no place for -r or -p", as_typed(words, MOST).text);
     if (request->command == CERTIFICATE && request->of != NULL && request->seals == NULL)
         misused("--of names a sealed record: --seals stands beside it");
     if (request->out != NULL && request->check && !request->json)
         misused("--check writes nothing, so there is no place for -o");
+    judge_folder(words, request);
 }
 
 static bool takes_many(const Request *request) {
-    return request->command == PARTS || request->command == EXPLAIN || request->command == SEAL || request->command == VERIFY || request->check;
+    return request->to != NULL || request->command == PARTS || request->command == EXPLAIN || request->command == SEAL || request->command == VERIFY ||
+           request->check;
 }
 
 /* The seals stand before the files that are held against them. */
@@ -96,11 +154,11 @@ static size_t read_seals_name(const Words *words, Request *request) {
     return 2;
 }
 
-/* W, H and N of a pyramid stand before its file; where there is at most one operand, it is a picture. */
+/* W, H and N of a pyramid stand before its file; where there is at most one operand, or many are written to a folder, each is a picture. */
 static size_t read_numbers(const Words *words, Request *request) {
     static const char *const names[] = {"W", "H", "N"};
     uint64_t *const numbers[] = {&request->width, &request->height, &request->decompositions};
-    request->is_picture = request->command == CODE && words->count <= 2;
+    request->is_picture = request->command == CODE && (words->count <= 2 || request->to != NULL);
     if (request->command != CODE || request->is_picture)
         return 1;
     if (words->count == 3)
@@ -110,6 +168,14 @@ static size_t read_numbers(const Words *words, Request *request) {
     for (size_t i = 0; i < 3; i++)
         *numbers[i] = number_from(names[i], i < 2 ? 4 : 1, i < 2 ? 512 : 5, words->operands[1 + i]);
     return 4;
+}
+
+static void judge_names(const Request *request) {
+    if (request->count == 0)
+        misused("--to needs files: each keeps its name");
+    for (size_t i = 0; i < request->count; i++)
+        if (!is_named(request->files[i]))
+            misused("standard input has no name to be kept by --to");
 }
 
 static void judge_pair(const Request *request) {
@@ -134,17 +200,14 @@ static void read_operands(const Words *words, Request *request) {
         judge_pair(request);
     else if (request->count > 1 && !takes_many(request))
         misused("too many arguments: '%s'", request->files[1]);
+    if (request->to != NULL)
+        judge_names(request);
     if (request->count == 0) {
         request->files = standard_input;
         request->count = 1;
     }
     if (request->command == CERTIFICATE && request->seals != NULL && !is_named(request->seals) && !is_named(request->files[0]))
         misused("only one of record and seals can be standard input");
-}
-
-static bool ends_in(const char *path, const char *ending) {
-    size_t length = path == NULL ? 0 : strlen(path), of_ending = strlen(ending);
-    return length >= of_ending && strcmp(path + length - of_ending, ending) == 0;
 }
 
 /* The halved picture needs no finer levels than these. */
@@ -167,7 +230,8 @@ static void take_numbers(const Words *words, Request *request) {
     if (words->given[HALVE])
         request->halvings = number_from("S", 0, 4, arguments[HALVE]);
     if (words->given[MOST])
-        request->most = number_from("E", 0, 255, arguments[MOST]);
+        request->most = number_within("E", 0, 255, arguments[MOST]);
+    request->jobs = words->given[JOBS] ? number_within("JOBS", 1, MOST_JOBS, arguments[JOBS]) : 1;
 }
 
 static void take_texts(const Words *words, Request *request) {
@@ -178,7 +242,7 @@ static void take_texts(const Words *words, Request *request) {
     request->device = some(words->arguments[DEVICE]);
     request->scale = scale_from(words->arguments[SCALE]);
     request->out = words->arguments[OUTPUT];
-    request->form = ends_in(request->out, ".pdf") ? AS_PDF : ends_in(request->out, ".png") ? AS_PNG : AS_HTML;
+    request->to = words->arguments[TO];
 }
 
 static void take_switches(const Words *words, Request *request) {
@@ -189,7 +253,6 @@ static void take_switches(const Words *words, Request *request) {
     request->json = words->given[JSON];
     request->has_most = words->given[MOST];
     request->has_decompositions = words->given[DECOMPOSITIONS];
-    request->grey = words->given[GREY] || (request->command == DECODE && ends_in(request->out, ".pgm"));
 }
 
 Request request_from(char **argv) {
@@ -204,8 +267,11 @@ Request request_from(char **argv) {
     take_numbers(&words, &request);
     take_texts(&words, &request);
     take_switches(&words, &request);
+    judge_each_option(&words, &request);
+    request.kind = choose_kind(&words, &request);
+    request.grey = words.given[GREY] || (request.command == DECODE && (request.kind == AS_PGM || request.kind == AS_PNG));
     expect(&words, &request);
-    judge_options(&words, &request);
+    judge_together(&words, &request);
     read_operands(&words, &request);
     return request;
 }

@@ -3,12 +3,14 @@
 #define AFS_OPTIONS_H
 
 #include "choices.h"
-#include "converting.h"
+#include "kinds.h"
 #include "scales.h"
 
 #include <stdbool.h>
 #include <stddef.h>
 #include <stdint.h>
+
+enum { MOST_JOBS = 256 };
 
 typedef struct {
     Command command;
@@ -19,7 +21,7 @@ typedef struct {
     bool asks;            /* -r or -p was given */
     bool has_level;       /* -r was given: a certificate draws this level */
     bool has_expectation; /* decode: it is known what was to be expected */
-    bool grey;            /* decode: a grey file is to be written */
+    bool grey;            /* decode: a picture is to be written */
     uint64_t halvings;    /* so many times halved */
     bool has_most;        /* serve, certificate: as much as keeps every pixel */
     uint64_t most;        /* within so many grey values */
@@ -28,8 +30,10 @@ typedef struct {
     const char *of;     /* of these: the name of the sealed record, NULL if it is to be found */
     const char *title, *note, *device; /* certificate: NULL if not given */
     const Scale *scale;
-    SheetForm form;
+    Kind kind;          /* of what is written */
     const char *out;    /* NULL without -o */
+    const char *to;     /* a folder for what each file gives, or NULL */
+    uint64_t jobs;      /* processes that work on them at once */
     char *const *files; /* at least one, to be joined two; "-" is standard input */
     size_t count;
 } Request;

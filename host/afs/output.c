@@ -65,15 +65,7 @@ static void follow_links(Output *output, const char *path) {
     fail_output(output, ELOOP);
 }
 
-static bool is_input(const struct stat *file, const char *only_input) {
-    struct stat input;
-    if (only_input == NULL)
-        return false;
-    int status = is_named(only_input) ? stat(only_input, &input) : fstat(STDIN_FILENO, &input);
-    return status == 0 && input.st_dev == file->st_dev && input.st_ino == file->st_ino;
-}
-
-static void judge_target(Output *output, const char *only_input) {
+static void judge_target(Output *output) {
     output->is_there = stat(output->target, &output->replaced) == 0;
     if (!output->is_there && errno != ENOENT)
         fail_output(output, errno);
@@ -85,10 +77,8 @@ static void judge_target(Output *output, const char *only_input) {
         output->way = TO_DEVICE;
         return;
     }
-    if (!output->force && !is_input(&output->replaced, only_input))
+    if (!output->force)
         fail_output(output, EEXIST);
-    if (!output->force && access(output->target, W_OK) != 0)
-        fail_output(output, errno);
 }
 
 static void refuse_terminal(const Output *output, int descriptor) {
@@ -96,7 +86,7 @@ static void refuse_terminal(const Output *output, int descriptor) {
         fail("%s: is a terminal, and this is no text: name a file with -o, or send it on by '>' or a pipe", output->name);
 }
 
-Output output_to(const char *path, bool is_text, bool force, const char *only_input) {
+Output output_to(const char *path, bool is_text, bool force) {
     Output output = {.name = is_named(path) ? path : "standard output", .is_text = is_text, .force = force, .descriptor = STDOUT_FILENO};
     if (is_named(path))
         follow_links(&output, path);
@@ -104,7 +94,7 @@ Output output_to(const char *path, bool is_text, bool force, const char *only_in
     if (output.way == TO_DESCRIPTOR)
         refuse_terminal(&output, output.descriptor);
     else
-        judge_target(&output, only_input);
+        judge_target(&output);
     return output;
 }
 

@@ -25,9 +25,8 @@ typedef struct {
     FILE *stream;         /* NULL until there is something to write */
 } Output;
 
-/* Looks at the path before any work is done. A file that is there may be replaced where `force` says so, or where it is the only input, NULL if there
-   are several; a terminal gets nothing but text, unless forced. */
-Output output_to(const char *path, bool is_text, bool force, const char *only_input);
+/* Looks at the path before any work is done. A file that is there is replaced, and a terminal gets what is no text, only where `force` says so. */
+Output output_to(const char *path, bool is_text, bool force);
 
 void put_out(Output *output, const void *from, size_t length);
 

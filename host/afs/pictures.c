@@ -1,5 +1,7 @@
 #include "pictures.h"
 
+#include "png_file.h"
+
 #include <stdlib.h>
 #include <string.h>
 
@@ -17,6 +19,15 @@ PictureSizes sizes_of(Bytes file, const uint64_t *asked) {
         while (sizes.decompositions > 1 && !(is_side(sizes.width, sizes.decompositions) && is_side(sizes.height, sizes.decompositions)))
             sizes.decompositions--;
     return sizes;
+}
+
+void take_as_grey_file(Bytes *file) {
+    PngFault fault;
+    Bytes grey = is_png(*file) ? grey_file_of_png(*file, &fault) : (Bytes){NULL, 0};
+    if (grey.at == NULL)
+        return;
+    free(file->at);
+    *file = grey;
 }
 
 Outcome code_picture(Bytes file, const uint64_t *asked) {

@@ -12,6 +12,9 @@ typedef struct {
    or 1 if none is. */
 PictureSizes sizes_of(Bytes file, const uint64_t *asked);
 
+/* A PNG picture that can be taken becomes a grey file of Netpbm's; all else stays as it is, for the call to judge. */
+void take_as_grey_file(Bytes *file);
+
 Outcome code_picture(Bytes file, const uint64_t *asked);
 
 /* The picture of what is there of a record, halved so many times. */

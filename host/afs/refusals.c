@@ -25,13 +25,17 @@ static bool is_side(uint64_t side, uint64_t decompositions) {
     return side >= LEAST_SIDE && side <= GREATEST_SIDE && side % (UINT64_C(2) << decompositions) == 0;
 }
 
+static bool is_number_of_decompositions(uint64_t number) {
+    return number >= 1 && number <= MOST_DECOMPOSITIONS;
+}
+
 static bool is_legal(Sizes sizes) {
-    return sizes.decompositions >= 1 && sizes.decompositions <= MOST_DECOMPOSITIONS && is_side(sizes.width, sizes.decompositions) &&
+    return is_number_of_decompositions(sizes.decompositions) && is_side(sizes.width, sizes.decompositions) &&
            is_side(sizes.height, sizes.decompositions) && sizes.planes <= MOST_PLANES;
 }
 
 static Sentence why_size(Sizes sizes) {
-    if (sizes.decompositions < 1 || sizes.decompositions > MOST_DECOMPOSITIONS)
+    if (!is_number_of_decompositions(sizes.decompositions))
         return say("N, the number of decompositions,%s is %" PRIu64 "; legal is 1 to %d", sizes.where, sizes.decompositions, MOST_DECOMPOSITIONS);
     if (!is_side(sizes.width, sizes.decompositions))
         return why_side("W, the width,", sizes.width, sizes);
@@ -45,12 +49,25 @@ static Sentence why_range(const Request *request, Bytes pyramid, uint64_t index)
                index / request->width, index % request->width, coefficient_at(pyramid.at + COEFFICIENT_BYTES * index));
 }
 
+/* A picture is made legal elsewhere: cut, made smaller, or, where its sides are no multiples, larger. */
+static Sentence why_sides(PictureSizes sizes, bool is_asked) {
+    int multiple = 2 << sizes.decompositions;
+    Sentence with_number = say("with N = %" PRIu64 " ", sizes.decompositions);
+    Sentence legal = say("%" PRIu64 " x %" PRIu64 ": %ssides must be multiples of %d and at most %d", sizes.width, sizes.height,
+                         is_asked ? with_number.text : "", multiple, GREATEST_SIDE);
+    if (sizes.width > GREATEST_SIDE || sizes.height > GREATEST_SIDE)
+        return say("%s; 'pamdice -width=%d -height=%d' cuts it into such pieces, and 'pamscale' makes it smaller", legal.text, GREATEST_SIDE, GREATEST_SIDE);
+    return say("%s; 'pnmpad -mwidth=%d -mheight=%d' makes it so much larger, and 'pamcut' smaller", legal.text, multiple, multiple);
+}
+
 static Sentence why_not_taken(const Request *request, Bytes file, const Outcome *outcome) {
     PictureSizes sizes = sizes_of(file, request->has_decompositions ? &request->decompositions : NULL);
     switch (outcome->number) {
     case AFS_GREY:
         return why_not_grey(file);
     case AFS_SIZE:
+        if (is_number_of_decompositions(sizes.decompositions) && sizes.width > 0 && sizes.height > 0)
+            return why_sides(sizes, request->has_decompositions);
         return why_size((Sizes){sizes.width, sizes.height, sizes.decompositions, 0, " of the picture"});
     default:
         return say("memory that was lent is too short");
@@ -189,7 +206,8 @@ static Sentence why_ask(const Request *request, Header header) {
 static Sentence why_not_this_size(const Request *request, Header header) {
     Sizes sizes = {header.width, header.height, header.decompositions, header.planes, " in the header"};
     if (is_legal(sizes))
-        return say("%" PRIu64 " halvings were asked for; of this picture 0 to %" PRIu32 " can be", request->halvings, header.decompositions - 1);
+        return say("%" PRIu64 " halving%s asked for; of this picture 0 to %" PRIu32 " can be", request->halvings, request->halvings == 1 ? " was" : "s were",
+                   header.decompositions - 1);
     return why_size(sizes);
 }
 

@@ -3,7 +3,7 @@
 #define AFS_SENTENCE_H
 
 typedef struct {
-    char text[200];
+    char text[320];
 } Sentence;
 
 Sentence say(const char *format, ...) __attribute__((format(printf, 1, 2)));

@@ -132,7 +132,8 @@ def _request(holding: _Holding) -> Iterator[str]:
 def _parts(holding: _Holding) -> Iterator[str]:
     count, whole = len(holding.there), holding.header.most_parts
     used = sum(len(holding.planes) - reached for reached in holding.decoded.reached)
-    yield f"\nParts: {count} of {whole} are there, {used} of them are used."
+    there, taken = ("is" if number == 1 else "are" for number in (count, used))
+    yield f"\nParts: {count} of {whole} {there} there, {used} of them {taken} used."
     if holding.header.planes == 0:
         yield "Without planes there are no parts: every coefficient is 0."
     else:

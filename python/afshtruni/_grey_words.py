@@ -25,11 +25,16 @@ _OTHER_FILES: Tuple[Tuple[bytes, str], ...] = (
 )
 
 
+_HOW_TO_MAKE_ONE = (
+    "'convert IN -alpha off -colorspace Gray -depth 8 OUT.pgm' makes one of it"
+)
+
+
 def _why_not_p5(file: bytes) -> str:
     legal = "legal is a binary grey picture of Netpbm's, which begins with P5"
     for front, name in _OTHER_FILES:
         if file.startswith(front):
-            return f"it begins as {name} does; {legal}"
+            return f"it begins as {name} does; {legal}: {_HOW_TO_MAKE_ONE}"
     if len(file) < len(_MAGIC):
         return f"it has {len(file)} bytes; {legal}"
     return f"it begins with the bytes {file[0]:02X} {file[1]:02X}; {legal}"

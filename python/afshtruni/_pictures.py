@@ -19,7 +19,7 @@ from ._limits import GREATEST_PRINTED
 from ._notes import OF_NO_PICTURE, Note
 from ._pyramids import taken_apart, workspace
 from ._values import Decoded, Picture, Pyramid
-from ._words import TOO_SHORT, why_halvings, why_range, why_size
+from ._words import TOO_SHORT, is_side, why_halvings, why_picture, why_range, why_size
 
 _MOST_DECOMPOSITIONS = 5
 _LONGEST_HEADER = 15
@@ -38,7 +38,7 @@ def _grey_file(picture: object) -> NDArray[np.uint8]:
 def _most_decompositions(width: int, height: int) -> int:
     """As many as the sides allow, or 1, which is refused then."""
     for halvings in range(_MOST_DECOMPOSITIONS, 1, -1):
-        if width % (2 << halvings) == 0 and height % (2 << halvings) == 0:
+        if is_side(width, halvings) and is_side(height, halvings):
             return halvings
     return 1
 
@@ -57,6 +57,7 @@ def read_picture(
     file = _grey_file(picture)
     size = call("afs_grey_size", file, why=lambda *_: why_not_grey(file.tobytes()))
     width, height = size[GREY_READ["WIDTH"]], size[GREY_READ["HEIGHT"]]
+    is_asked = decompositions is not None
     if decompositions is None:
         decompositions = _most_decompositions(width, height)
     halvings = number("decompositions", decompositions)
@@ -65,7 +66,7 @@ def read_picture(
     sizes = Header(width, height, halvings, 0)
     call(
         "afs_grey_in", file, halvings, out, workspace(out.size),
-        why=lambda *_: why_size(sizes, " of the picture"),
+        why=lambda *_: why_picture(sizes, is_asked),
     )
     return Pyramid(out, halvings)
 

@@ -23,15 +23,16 @@ _HEADER_NAMES = (
 _HEAD_NAMES = ("the plane", "the level", "the bit count")
 
 
-def _is_side(side: int, decompositions: int) -> bool:
+def is_side(side: int, decompositions: int) -> bool:
+    """Whether a side is legal with so many decompositions."""
     return LEAST_SIDE <= side <= GREATEST_SIDE and side % (2 << decompositions) == 0
 
 
 def _is_legal(header: Header) -> bool:
     return (
         1 <= header.decompositions <= MOST_DECOMPOSITIONS
-        and _is_side(header.width, header.decompositions)
-        and _is_side(header.height, header.decompositions)
+        and is_side(header.width, header.decompositions)
+        and is_side(header.height, header.decompositions)
         and header.planes <= MOST_PLANES
     )
 
@@ -49,11 +50,28 @@ def why_size(header: Header, where: str = "") -> str:
     if not 1 <= count <= MOST_DECOMPOSITIONS:
         name = "N, the number of decompositions,"
         return f"{name}{where} is {count}; legal is 1 to {MOST_DECOMPOSITIONS}"
-    if not _is_side(header.width, count):
+    if not is_side(header.width, count):
         return _why_side("W, the width,", header.width, count, where)
-    if not _is_side(header.height, count):
+    if not is_side(header.height, count):
         return _why_side("H, the height,", header.height, count, where)
     return f"the number of planes{where} is {header.planes}; legal is 0 to {MOST_PLANES}"
+
+
+def why_picture(header: Header, is_asked: bool) -> str:
+    """Of a picture's sizes that aren't legal, where the number of decompositions was asked for."""
+    count = header.decompositions
+    if not 1 <= count <= MOST_DECOMPOSITIONS or header.width * header.height == 0:
+        return why_size(header, " of the picture")
+    multiple = 2 << count
+    legal = (
+        f"{header.width} x {header.height}: {f'with N = {count} ' if is_asked else ''}sides must be"
+        f" multiples of {multiple} and at most {GREATEST_SIDE}"
+    )
+    if max(header.width, header.height) > GREATEST_SIDE:
+        pieces = f"'pamdice -width={GREATEST_SIDE} -height={GREATEST_SIDE}'"
+        return f"{legal}; {pieces} cuts it into such pieces, and 'pamscale' makes it smaller"
+    padded = f"'pnmpad -mwidth={multiple} -mheight={multiple}'"
+    return f"{legal}; {padded} makes it so much larger, and 'pamcut' smaller"
 
 
 def why_range(pyramid: NDArray[Any], index: int, greatest: int) -> str:
@@ -67,9 +85,8 @@ def why_range(pyramid: NDArray[Any], index: int, greatest: int) -> str:
 
 def why_halvings(halvings: int, decompositions: int) -> str:
     """Of a picture that can't be halved so often."""
-    return (
-        f"{halvings} halvings were asked for; of this picture 0 to {decompositions - 1} can be"
-    )
+    asked = "1 halving was" if halvings == 1 else f"{halvings} halvings were"
+    return f"{asked} asked for; of this picture 0 to {decompositions - 1} can be"
 
 
 def _why_malformed(form: Form, name: str, offset: int) -> str:
