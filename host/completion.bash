@@ -31,9 +31,8 @@ _afs() {
         mapfile -t COMPREPLY < <(compgen -W '--grey --halve --level --plane --whole --check --json --as --output --to --jobs --force --quiet --help' \
             -- "$word")
         ;;
-    parts:-* | explain:-*) mapfile -t COMPREPLY < <(compgen -W '--json --output --force --quiet --help' -- "$word") ;;
-    seal:-*) mapfile -t COMPREPLY < <(compgen -W '--output --force --quiet --help' -- "$word") ;;
-    verify:-*) mapfile -t COMPREPLY < <(compgen -W '--of --whole --output --force --quiet --help' -- "$word") ;;
+    parts:-* | explain:-* | seal:-*) mapfile -t COMPREPLY < <(compgen -W '--json --output --force --quiet --help' -- "$word") ;;
+    verify:-*) mapfile -t COMPREPLY < <(compgen -W '--of --whole --json --output --force --quiet --help' -- "$word") ;;
     certificate:-*)
         mapfile -t COMPREPLY < <(compgen -W '--seals --of --level --plane --error --scale --title --note --device --as --output --to --jobs --force --quiet
             --help' -- "$word")

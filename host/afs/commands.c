@@ -103,7 +103,7 @@ static int tell_refusal(const Turn *turn, const Outcome *outcome) {
     if (turn->request->json) {
         Text text;
         begin_text(&text);
-        tell_refused(text.stream, turn->name, turn->input, outcome, why.text);
+        tell_refused(text.stream, turn->request, turn->name, turn->input, outcome, why.text);
         put_text(turn->output, &text);
     } else {
         clear_progress();
@@ -144,12 +144,13 @@ static int finish_decoded(const Turn *turn, const Outcome *outcome) {
 
 /* A seal has no place for bytes that are no whole part. */
 static int finish_sealed(const Turn *turn, const Outcome *outcome) {
-    if (outcome->tail > 0) {
+    if (outcome->tail > 0 && !turn->request->json)
         complain("%s: has a tail of %" PRIu64 " bytes, which can't be sealed; 'afs serve' leaves it out", turn->name, outcome->tail);
-        return STATUS_LACKS;
-    }
-    add_seal(turn->seals, seal_of(turn->name, outcome->bytes));
-    return STATUS_DONE;
+    if (turn->request->json)
+        tell(turn, outcome);
+    else if (outcome->tail == 0)
+        add_seal(turn->seals, seal_of(turn->name, outcome->bytes));
+    return outcome->tail > 0 ? STATUS_LACKS : STATUS_DONE;
 }
 
 static int finish_certificate(const Turn *turn, const Outcome *outcome) {
@@ -198,7 +199,7 @@ static int tell_unreadable(const Turn *turn, const char *why) {
     if (turn->request->json) {
         Text text;
         begin_text(&text);
-        tell_unread(text.stream, turn->name, why);
+        tell_unread(text.stream, turn->request, turn->name, why);
         put_text(turn->output, &text);
     }
     return STATUS_FAILED;
@@ -207,12 +208,17 @@ static int tell_unreadable(const Turn *turn, const char *why) {
 /* Refused or not, what can be read of it is compared. */
 static int verify(const Turn *turn) {
     Reading reading = read_file(turn->name, turn->input);
+    bool is_refused = reading.outcome.number != AFS_ACCEPTED;
+    Sentence why = is_refused ? why_refused(turn->request, turn->input, &reading.outcome) : say("%s", "");
+    Verdict verdict = verdict_on(turn->matcher, turn->request, &reading);
     Text text;
     begin_text(&text);
-    Verdict verdict = verdict_on(turn->matcher, turn->request, &reading);
-    tell_verdict(text.stream, turn->matcher, &verdict, turn->request->quiet);
+    if (turn->request->json)
+        tell_verified(text.stream, turn->matcher, &verdict, is_refused ? why.text : NULL);
+    else
+        tell_verdict(text.stream, turn->matcher, &verdict, turn->request->quiet);
     put_text(turn->output, &text);
-    if (reading.outcome.number != AFS_ACCEPTED)
+    if (is_refused && !turn->request->json)
         tell_refusal(turn, &reading.outcome);
     free_reading(&reading);
     return verdict.status;

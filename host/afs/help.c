@@ -27,8 +27,8 @@ static const Entry usages[] = {
     {1 << DECODE, NULL, "afs decode --check [-r LEVEL] [-p PLANE] [--whole] [--json] [FILE..]"},
     {1 << PARTS, NULL, "afs parts [--json] [FILE..]"},
     {1 << EXPLAIN, NULL, "afs explain [--json] [FILE..]"},
-    {1 << SEAL, NULL, "afs seal [FILE..]"},
-    {1 << VERIFY, NULL, "afs verify [--of NAME] [--whole] SEALS [FILE..]"},
+    {1 << SEAL, NULL, "afs seal [--json] [FILE..]"},
+    {1 << VERIFY, NULL, "afs verify [--of NAME] [--whole] [--json] SEALS [FILE..]"},
     {1 << CERTIFICATE, NULL, "afs certificate [--seals SEALS [--of NAME]] [-r LEVEL] [-p PLANE]\n"
                              "    [--scale SCALE] [--title TEXT] [--note TEXT] [--device TEXT]\n"
                              "    [--as KIND] [FILE]"},
@@ -76,7 +76,7 @@ static const Entry option_entries[] = {
     {1 << CERTIFICATE, "      --scale SCALE", "grey, viridis or magma (grey)"},
     {1 << CERTIFICATE, "      --title TEXT, --note TEXT, --device TEXT", "as given"},
     {1 << DECODE, "      --check", "decode, but write nothing"},
-    {1 << DECODE | 1 << PARTS | 1 << EXPLAIN, "      --json", "one object a line for each file"},
+    {1 << DECODE | 1 << PARTS | 1 << EXPLAIN | 1 << SEAL | 1 << VERIFY, "      --json", "one object a line for each file"},
     {1 << DECODE, "      --as KIND", "pyramid, pgm or png, where no name tells it"},
     {1 << CERTIFICATE, "      --as KIND", "html, pdf or png, where no name tells it"},
     {EVERY, "  -o, --output OUT", "write to OUT instead of standard output"},

@@ -1,6 +1,8 @@
 #include "json.h"
 
+#include "digest.h"
 #include "nearness.h"
+#include "seals.h"
 #include "utf8.h"
 
 #include <inttypes.h>
@@ -55,13 +57,29 @@ static void tell_farthest_pixels(FILE *out, const Holding *holding) {
     fputc(']', out);
 }
 
-static void tell_parts(FILE *out, Bytes record, const Outcome *outcome) {
+static void tell_digest(FILE *out, const char *what, Digest digest) {
+    fprintf(out, ", \"%s\": \"", what);
+    print_digest(out, &digest);
+    fputc('"', out);
+}
+
+static void tell_place(FILE *out, const char *before, Part part) {
+    fprintf(out, "%s{\"plane\": %" PRIu32 ", \"level\": %" PRIu32, before, part.plane, part.level);
+}
+
+/* Where each lies in the file, head and body; and its digest where they are sealed. */
+static void tell_parts(FILE *out, Bytes record, const Outcome *outcome, bool are_sealed) {
     const uint8_t *at = record.at, *end = end_of_parts(record, outcome);
     const char *before = "";
     fputs(", \"parts\": [", out);
     for (read_header(&at); at < end; before = ", ") {
+        const uint8_t *begin = at;
         Part part = read_part(&at);
-        fprintf(out, "%s{\"plane\": %" PRIu32 ", \"level\": %" PRIu32 ", \"bits\": %" PRIu32 "}", before, part.plane, part.level, part.bits);
+        tell_place(out, before, part);
+        fprintf(out, ", \"bits\": %" PRIu32 ", \"offset\": %td, \"length\": %td", part.bits, begin - record.at, at - begin);
+        if (are_sealed)
+            tell_digest(out, "sha256", digest_of(begin, (size_t)(at - begin)));
+        fputc('}', out);
     }
     fputc(']', out);
 }
@@ -74,40 +92,122 @@ static void tell_missing(FILE *out, const Holding *holding) {
         for (uint32_t level = holding->levels; level > 0; level--) {
             if (is_there(holding, plane, level))
                 continue;
-            fprintf(out, "%s{\"plane\": %" PRIu32 ", \"level\": %" PRIu32 "}", before, plane, level);
+            tell_place(out, before, (Part){plane, level, 0});
+            fputc('}', out);
             before = ", ";
         }
     fputc(']', out);
 }
 
+/* None where there is a tail, which can't be sealed. */
+static void tell_seal(FILE *out, Bytes record, const Outcome *served) {
+    if (served->tail > 0) {
+        fputs(", \"seal\": null", out);
+        return;
+    }
+    Seal seal = seal_of("", record);
+    tell_digest(out, "seal", digest_of_seal(&seal));
+    free_seal(&seal);
+}
+
 void tell_accepted(FILE *out, const Request *request, const char *name, Bytes record, const Outcome *outcome) {
     Holding holding = holding_of(record, outcome);
+    bool is_decoded = request->command != PARTS && request->command != SEAL;
     tell_outcome(out, name, record.length, outcome, NULL);
     tell_sizes(out, holding.header);
-    if (request->command == PARTS) {
-        fputs(", \"reached\": null, \"skipped\": null, \"farthest_pixels\": null", out);
-    } else {
+    if (is_decoded) {
         tell_levels(out, "reached", &holding, holding.reached);
         tell_levels(out, "skipped", &holding, holding.skipped);
         tell_farthest_pixels(out, &holding);
+    } else {
+        fputs(", \"reached\": null, \"skipped\": null, \"farthest_pixels\": null", out);
     }
-    tell_parts(out, record, outcome);
+    tell_parts(out, record, outcome, request->command == SEAL);
     tell_missing(out, &holding);
-    fprintf(out, ", \"tail\": %" PRIu64 ", \"lacks\": %s}\n", outcome->tail, lacks(request, &holding) ? "true" : "false");
+    fprintf(out, ", \"tail\": %" PRIu64 ", \"lacks\": %s", outcome->tail, lacks(request, &holding) ? "true" : "false");
+    if (request->command == SEAL)
+        tell_seal(out, record, outcome);
+    fputs("}\n", out);
 }
 
-static const char nothing_known[] = ", \"width\": null, \"height\": null, \"decompositions\": null, \"planes\": null, \"reached\": null, "
-                                    "\"skipped\": null, \"farthest_pixels\": null, \"parts\": null, \"missing\": null, \"tail\": null, \"lacks\": null}\n";
+static const char no_sizes[] = ", \"width\": null, \"height\": null, \"decompositions\": null, \"planes\": null";
 
-void tell_refused(FILE *out, const char *name, Bytes record, const Outcome *outcome, const char *why) {
+static void tell_nothing_known(FILE *out, const Request *request) {
+    fputs(no_sizes, out);
+    if (request->command == VERIFY)
+        fputs(", \"wanted\": null, \"of\": null, \"verdict\": null, \"changed\": null, \"missing\": null, \"tail\": null}\n", out);
+    else
+        fprintf(out,
+                ", \"reached\": null, \"skipped\": null, \"farthest_pixels\": null, \"parts\": null, \"missing\": null, \"tail\": null, \"lacks\": null%s}\n",
+                request->command == SEAL ? ", \"seal\": null" : "");
+}
+
+void tell_refused(FILE *out, const Request *request, const char *name, Bytes record, const Outcome *outcome, const char *why) {
     tell_outcome(out, name, record.length, outcome, why);
-    fputs(nothing_known, out);
+    tell_nothing_known(out, request);
 }
 
-void tell_unread(FILE *out, const char *name, const char *why) {
+void tell_unread(FILE *out, const Request *request, const char *name, const char *why) {
     fputs("{\"file\": ", out);
     tell_string(out, name);
     fputs(", \"length\": null, \"number\": null, \"name\": null, \"place\": null, \"why\": ", out);
     tell_string(out, why);
-    fputs(nothing_known, out);
+    tell_nothing_known(out, request);
+}
+
+static void tell_name(FILE *out, const char *what, const Seal *seal) {
+    fprintf(out, ", \"%s\": ", what);
+    if (seal == NULL)
+        fputs("null", out);
+    else
+        tell_string(out, seal->name);
+}
+
+/* Parts that aren't the sealed record's, and where they belong, if that is known. */
+static void tell_changed_parts(FILE *out, Matcher *matcher, const Comparison *comparison) {
+    const Seal *found = &comparison->reading->found;
+    const char *before = "";
+    fputs(", \"changed\": [", out);
+    for (size_t i = 0; i < found->count; i++) {
+        if (standing_in_seal(comparison, &found->parts[i]) == AS_SEALED)
+            continue;
+        tell_place(out, before, found->parts[i].part);
+        tell_name(out, "of", other_with(matcher, comparison->seal, &found->parts[i]));
+        fputc('}', out);
+        before = ", ";
+    }
+    fputc(']', out);
+}
+
+static void tell_parts_not_there(FILE *out, const Comparison *comparison) {
+    const char *before = "";
+    fputs(", \"missing\": [", out);
+    for (size_t i = 0; i < comparison->seal->count; i++) {
+        if (standing_of(comparison, &comparison->seal->parts[i]) != IS_MISSING)
+            continue;
+        tell_place(out, before, comparison->seal->parts[i].part);
+        fputc('}', out);
+        before = ", ";
+    }
+    fputc(']', out);
+}
+
+void tell_verified(FILE *out, Matcher *matcher, const Verdict *verdict, const char *why) {
+    const Comparison *comparison = &verdict->comparison;
+    const Reading *reading = comparison->reading;
+    tell_outcome(out, reading->name, reading->file.length, &reading->outcome, why);
+    if (reading->has_header)
+        tell_sizes(out, reading->found.header);
+    else
+        fputs(no_sizes, out);
+    tell_name(out, "wanted", verdict->wanted);
+    tell_name(out, "of", comparison->seal);
+    fprintf(out, ", \"verdict\": \"%s\"", verdict_in_a_word(verdict));
+    if (comparison->seal == NULL) {
+        fputs(", \"changed\": null, \"missing\": null", out);
+    } else {
+        tell_changed_parts(out, matcher, comparison);
+        tell_parts_not_there(out, comparison);
+    }
+    fprintf(out, ", \"tail\": %zu}\n", reading->file.length - reading->behind);
 }

@@ -119,7 +119,7 @@ static void judge_folder(const Words *words, const Request *request) {
         misused("--check writes nothing, so there is no place for --%s", request->to != NULL ? "to" : "as");
 }
 
-static const char of_json[] = "parts, explain and decode --check";
+static const char of_json[] = "parts, explain, seal, verify and decode --check";
 
 static void judge_each_option(const Words *words, const Request *request) {
     for (Option option = 0; option < OPTIONS; option++)

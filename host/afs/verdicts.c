@@ -15,6 +15,16 @@ bool is_as_sealed(const Verdict *verdict) {
     return verdict->comparison.seal != NULL && !verdict->comparison.is_changed && verdict->namesakes == 0 && !is_another(verdict);
 }
 
+const char *verdict_in_a_word(const Verdict *verdict) {
+    if (verdict->comparison.seal == NULL)
+        return "unknown";
+    if (verdict->comparison.is_changed)
+        return "changed";
+    if (verdict->namesakes > 0)
+        return "ambiguous";
+    return is_another(verdict) ? "another" : verdict->comparison.is_whole ? "whole" : "selection";
+}
+
 /* By the file's name, unless one is asked for or there is one alone. */
 static Namesakes candidates_for(const Matcher *matcher, const char *asked, const Reading *reading) {
     if (matcher->seals->count == 1 && asked == NULL)

@@ -25,6 +25,9 @@ bool is_as_sealed(const Verdict *verdict);
 /* Whether it is unchanged of another record than it is to be. */
 bool is_another(const Verdict *verdict);
 
+/* whole, selection, changed, another (another record than it is to be, as that was sealed), ambiguous (its name may be that of several) or unknown. */
+const char *verdict_in_a_word(const Verdict *verdict);
+
 /* Lines about the file, with its name before each; of one that is as it was sealed none where it is to be quiet. */
 void tell_verdict(FILE *out, Matcher *matcher, const Verdict *verdict, bool quiet);
 

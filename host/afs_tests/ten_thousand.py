@@ -94,7 +94,11 @@ def is_right(told, record):
     missing = [{"plane": p, "level": k} for p in range(planes - 1, -1, -1) for k in range(levels, 0, -1) if (p, k) not in there]
     return (
         (told["width"], told["height"], told["decompositions"], told["planes"]) == (width, height, decompositions, planes)
-        and told["parts"] == [{"plane": plane, "level": level, "bits": bits} for plane, level, bits, *_ in parts]
+        and told["parts"]
+        == [
+            {"plane": plane, "level": level, "bits": bits, "offset": begin, "length": end - begin}
+            for plane, level, bits, begin, end in parts
+        ]
         and told["missing"] == missing
         and told["tail"] == tail
         and told["lacks"] == (bool(missing) or tail > 0)
