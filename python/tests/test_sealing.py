@@ -2,6 +2,7 @@
 
 from __future__ import annotations
 
+import json
 import os
 from pathlib import Path
 from typing import Any, Callable, Dict, List
@@ -30,6 +31,19 @@ def here(tmp_path: Path, monkeypatch: pytest.MonkeyPatch) -> Path:
     return tmp_path
 
 
+def _places(told: Any) -> Any:
+    return () if told is None else tuple((part["plane"], part["level"]) for part in told)
+
+
+def _same_as_json(verdict: Verdict, told: Dict[str, Any]) -> None:
+    refusal = verdict.refusal
+    assert (verdict.kind, verdict.of, verdict.tail) == (told["verdict"], told["of"], told["tail"])
+    assert verdict.changed == _places(told["changed"])
+    assert verdict.missing == _places(told["missing"])
+    why = (0, None) if refusal is None else (refusal.number, refusal.why)
+    assert why == (told["number"], told["why"])
+
+
 def _same_as_tool(afs: Tool, seals: bytes, name: str, *options: str, **asked: Any) -> Verdict:
     """Of a file, held against seals that lie beside it."""
     Path("all.seals").write_bytes(seals)
@@ -41,6 +55,7 @@ def _same_as_tool(afs: Tool, seals: bytes, name: str, *options: str, **asked: An
     refusal = verdict.refusal
     wanted = "" if refusal is None else f"{str(refusal).replace(': ', f': {name}: ', 1)}\n"
     assert told.stderr == wanted.encode("utf-8", "surrogateescape")
+    _same_as_json(verdict, json.loads(afs("verify", "--json", *options, "all.seals", name).stdout))
     return verdict
 
 
