@@ -1,8 +1,9 @@
 # make help   what can be made
-.PHONY: help needs run test bench soak install uninstall deb wheel clean fmt
+.PHONY: help needs run digest test bench soak install uninstall deb wheel clean fmt
 
 help:
 	@echo 'make run         from nothing: proves and builds the library, builds the tool, and does the main job with it on the sample that ships'
+	@echo 'make digest      the SHA-256 of the library that make run builds, build/libafshtruni.a, and the kit that it was proved with'
 	@echo 'make test        the gate: every crate proved, every must-fail edit refused, all tests'
 	@echo 'make install     tool, library, header, pkg-config files, man pages, completion, Python package: PREFIX=/usr/local, DESTDIR before it;'
 	@echo '                 make uninstall removes them'
@@ -24,6 +25,9 @@ run:
 	@host/demo build/afs build/demo
 	@echo
 	@echo 'The tool is build/afs, the program that lists parts build/partlist, the library build/libafshtruni.a and .so.'
+
+digest:
+	@$(MAKE) --no-print-directory -s -C host digest
 
 test:
 	@tools/gate

@@ -22,7 +22,7 @@ _afs() {
     -o | --output | --seals) compopt -o filenames && mapfile -t COMPREPLY < <(compgen -f -- "$word") && return ;;
     esac
     case $command:$word in
-    :-*) mapfile -t COMPREPLY < <(compgen -W '--help --version' -- "$word") ;;
+    :-*) mapfile -t COMPREPLY < <(compgen -W '--help --version --verbose' -- "$word") ;;
     : | :[!-]* | help:*) mapfile -t COMPREPLY < <(compgen -W 'code serve join decode parts explain seal verify certificate help' -- "$word") ;;
     code:-*) mapfile -t COMPREPLY < <(compgen -W '--decompositions --output --to --jobs --force --quiet --help' -- "$word") ;;
     serve:-*) mapfile -t COMPREPLY < <(compgen -W '--level --plane --error --output --to --jobs --force --quiet --help' -- "$word") ;;

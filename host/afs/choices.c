@@ -30,6 +30,7 @@ const Choice options[OPTIONS] = {
     [QUIET] = {'q', "quiet", NULL, EVERY},
     [HELP] = {'h', "help", NULL, EVERY},
     [VERSION_OPTION] = {0, "version", NULL, EVERY},
+    [VERBOSE] = {0, "verbose", NULL, EVERY},
 };
 
 Sentence commands_in_words(unsigned bits) {

@@ -32,6 +32,7 @@ typedef enum {
     QUIET,
     HELP,
     VERSION_OPTION,
+    VERBOSE,
     OPTIONS
 } Option;
 

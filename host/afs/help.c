@@ -88,7 +88,7 @@ static const Entry option_entries[] = {
 };
 
 static const Entry of_all_options[] = {
-    {EVERY, "      --version", "print the version and exit"},
+    {EVERY, "      --version", "print the version and exit; with --verbose also the SHA-256\nof the library, and the kit that it was proved with"},
 };
 
 static const Entry remarks[] = {

@@ -67,10 +67,13 @@ static _Noreturn void print_help_and_exit(const Words *words) {
     print_and_exit(&text);
 }
 
-static _Noreturn void print_version_and_exit(void) {
+/* And what it stands on: the archive that it is linked with, and the kit that this was proved with. */
+static _Noreturn void print_version_and_exit(bool is_verbose) {
     Text text;
     begin_text(&text);
     fputs("afs " VERSION "\n", text.stream);
+    if (is_verbose)
+        fputs("library sha256 " LIBRARY_SHA256 "\nproved with " KIT "\n", text.stream);
     print_and_exit(&text);
 }
 
@@ -260,7 +263,9 @@ Request request_from(char **argv) {
     if (words.given[HELP] || (words.count > 0 && strcmp(words.operands[0], "help") == 0))
         print_help_and_exit(&words);
     if (words.given[VERSION_OPTION])
-        print_version_and_exit();
+        print_version_and_exit(words.given[VERBOSE]);
+    if (words.given[VERBOSE])
+        misused("--verbose is for --version");
     if (words.count == 0)
         misused("no command: %s are there", commands_in_words(EVERY).text);
     Request request = {.command = command_named(words.operands[0])};
