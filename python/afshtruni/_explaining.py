@@ -5,7 +5,7 @@ from __future__ import annotations
 from typing import Iterator, List, NamedTuple, Optional, Set, Tuple
 
 from ._layout import Form, Header, header_of, parts_until, try_number
-from ._lending import BytesLike, octets
+from ._lending import BytesLike, held_in
 from ._pictures import is_of_no_picture, printed
 from ._records import decode
 from ._values import Decoded, added_by
@@ -255,7 +255,7 @@ def explain(record: BytesLike) -> str:
     """Says what a record holds, what of it is used, and how far what is decoded may be from what
     was recorded: what `afs explain` prints. Refuses as `decode` does.
     """
-    held = octets("record", record).tobytes()
+    held = held_in("record", record)
     holding = _holding_of(held, decode(held))
     lines = [
         *_what_shows(holding.header),

@@ -72,11 +72,17 @@ def pixels(given: object) -> bytes:
     return b"P5\n%d %d\n255\n" % (width, height) + plain.tobytes()
 
 
-def octets(what: str, given: object) -> NDArray[np.uint8]:
-    """Bytes, or anything that holds a row of them."""
+def held_in(what: str, given: object) -> bytes:
+    """Bytes, or what anything holds that has a row of them."""
     held = given if isinstance(given, bytes) else _copied(what, given)
     if len(held) > MOST_BYTES:
         raise ValueError(f"{what} has {len(held)} bytes, far more than any record or picture")
+    return held
+
+
+def octets(what: str, given: object) -> NDArray[np.uint8]:
+    """The same as an array."""
+    held = held_in(what, given)
     return np.frombuffer(held, np.uint8) if held else np.empty(0, np.uint8)
 
 

@@ -10,7 +10,7 @@ from numpy.typing import NDArray
 from ._answers import ACCEPTED, CODED, DECODED, JOINED, LEVEL_PLACES, NAMES, NUMBER, PLACE, SERVED
 from ._answers import SURVEYED
 from ._layout import Header, header_of, parts_until
-from ._lending import BytesLike, number, octets
+from ._lending import BytesLike, held_in, number, octets
 from ._library import Answer, ask, call
 from ._limits import GREATEST_CODED
 from ._notes import told_bound
@@ -90,7 +90,7 @@ def _serve_within(record: BytesLike, level: int, plane: int, error: int) -> byte
     most = number("error", error)
     if most > FARTHEST:
         raise ValueError(f"error must be 0 to {FARTHEST}, not {most}")
-    held = octets("record", record).tobytes()
+    held = held_in("record", record)
     bound = FARTHEST
     for lowest in range(decode(held).planes, -1, -1):
         served = serve(held, 1, lowest)
@@ -189,5 +189,5 @@ def parts(record: BytesLike) -> List[Part]:
 
     Each has `plane`, `level`, `bits`, `offset` and `length`. Refuses as `survey` does.
     """
-    held = octets("record", record).tobytes()
+    held = held_in("record", record)
     return list(parts_until(held, len(held) - survey(held).tail))

@@ -4,16 +4,16 @@ from __future__ import annotations
 
 import os
 from dataclasses import dataclass
-from typing import List, Mapping, Optional, Tuple, Union
+from typing import Dict, List, Mapping, Optional, Tuple, Union
 
 from ._answers import ACCEPTED, NUMBER, PLACE, SURVEYED
-from ._lending import BytesLike, octets
+from ._lending import BytesLike, held_in, octets
 from ._library import ask
 from ._matching import Matcher, matcher_of
 from ._paths import plain_path
 from ._refusal import Refusal
 from ._seals import Seal, SealedPart, seal_of, write_seals
-from ._verdicts import judge, lines_of
+from ._verdicts import Judged, judge, lines_of
 from ._verifying import missing_parts, other_parts, read_record
 from ._words import why_not_read
 
@@ -63,16 +63,16 @@ def _named(name: FileName) -> str:
 
 
 def _sealed(name: str, record: BytesLike) -> Seal:
-    held = octets("record", record)
-    answer = ask("afs_survey", held)
+    held = held_in("record", record)
+    answer = ask("afs_survey", octets("record", held))
     number, place, tail = answer[NUMBER], answer[PLACE], answer[SURVEYED["TAIL"]]
     if number != ACCEPTED:
-        raise Refusal(number, place, f"{name}: {why_not_read(held.tobytes(), number, place)}")
+        raise Refusal(number, place, f"{name}: {why_not_read(held, number, place)}")
     if tail > 0:
         raise ValueError(
             f"{name}: has a tail of {tail} bytes, which can't be sealed; serve() leaves it out"
         )
-    return seal_of(name, held.tobytes())
+    return seal_of(name, held)
 
 
 def seal(records: Mapping[FileName, BytesLike]) -> bytes:
@@ -84,17 +84,31 @@ def seal(records: Mapping[FileName, BytesLike]) -> bytes:
     records and for whatever is served, cut off or joined of them. Refuses as `survey` does; a
     record with a tail raises ValueError.
     """
-    seals: List[Seal] = []
+    seals: Dict[str, Seal] = {}
     for name, record in records.items():
         told = _named(name)
-        if any(told == other.name for other in seals):
+        if told in seals:
             raise ValueError(f"{told}: is to be sealed twice; of each name there is one seal")
-        seals.append(_sealed(told, record))
-    return write_seals(seals)
+        seals[told] = _sealed(told, record)
+    return write_seals(seals.values())
 
 
 def _places(parts: List[SealedPart]) -> Tuple[Tuple[int, int], ...]:
     return tuple((part.plane, part.level) for part in parts)
+
+
+def _verdict_of(matcher: Matcher, judged: Judged, whole: bool) -> Verdict:
+    reading, compared = judged.reading, judged.comparison
+    return Verdict(
+        status=judged.status(whole),
+        kind=judged.kind,
+        of=None if compared is None else compared.seal.name,
+        changed=() if compared is None else _places(other_parts(compared)),
+        missing=() if compared is None else _places(missing_parts(compared)),
+        tail=len(reading.held) - reading.behind,
+        refusal=reading.refusal,
+        lines=tuple(lines_of(matcher, judged)),
+    )
 
 
 def _check_asked(matcher: Matcher, of: str) -> None:
@@ -127,21 +141,10 @@ def verify(
     ValueError where a line of `seals` isn't as it was written, or none, or several, are sealed as
     `of`.
     """
-    matcher = matcher_of(octets("seals", seals).tobytes())
+    matcher = matcher_of(held_in("seals", seals))
     asked = None if of is None else _named(of)
     if asked is not None:
         _check_asked(matcher, asked)
     path = None if name is None else _named(name)
-    reading = read_record(_NAMELESS if path is None else path, octets("record", record).tobytes())
-    judged = judge(matcher, asked, path, reading)
-    compared = judged.comparison
-    return Verdict(
-        status=judged.status(whole),
-        kind=judged.kind,
-        of=None if compared is None else compared.seal.name,
-        changed=() if compared is None else _places(other_parts(compared)),
-        missing=() if compared is None else _places(missing_parts(compared)),
-        tail=len(reading.held) - reading.behind,
-        refusal=reading.refusal,
-        lines=tuple(lines_of(matcher, judged)),
-    )
+    reading = read_record(_NAMELESS if path is None else path, held_in("record", record))
+    return _verdict_of(matcher, judge(matcher, asked, path, reading), whole)

@@ -4,9 +4,10 @@ count and SHA-256; and their form as a text, which is that of `afs seal`."""
 from __future__ import annotations
 
 import re
-from functools import lru_cache
+from dataclasses import dataclass
+from functools import cached_property, lru_cache
 from hashlib import sha256
-from typing import Iterable, List, Match, NamedTuple, Optional, Pattern, Sequence, Tuple
+from typing import Dict, Iterable, List, Match, NamedTuple, Optional, Pattern, Sequence, Tuple
 
 import numpy as np
 
@@ -35,17 +36,22 @@ class SealedPart(NamedTuple):
     digest: str
 
 
-class Seal(NamedTuple):
-    """What is sealed of a record: of its name, which the digest leaves out, and of its parts, in
-    their order."""
+@dataclass(frozen=True, eq=False)
+class Seal:
+    """What is sealed of a record: its name, which the digest leaves out, and its parts, in their
+    order."""
 
     name: str
     header: Header
     parts: Tuple[SealedPart, ...]
 
+    @cached_property
+    def _by_place(self) -> Dict[Tuple[int, int], SealedPart]:
+        return {(part.plane, part.level): part for part in self.parts}
+
     def part(self, plane: int, level: int) -> Optional[SealedPart]:
         """The part of a plane and level, or None."""
-        return next((part for part in self.parts if part[:2] == (plane, level)), None)
+        return self._by_place.get((plane, level))
 
 
 def seal_of(name: str, record: bytes) -> Seal:
