@@ -56,6 +56,18 @@ def test_importing_needs_no_library() -> None:
     assert (ended.returncode, ended.stderr) == (0, "")
 
 
+def test_importing_needs_numpy_alone() -> None:
+    """What the codec and the format need is asked for where they are imported."""
+    ended = run_python(
+        "import sys; sys.modules.update(dict.fromkeys(['numcodecs', 'zarr', 'imageio']));"
+        "import afshtruni\n"
+        "for name in ('numcodecs', 'imageio'):\n"
+        "    try: __import__('afshtruni.' + name)\n"
+        "    except ImportError: print(name)"
+    )
+    assert (ended.stdout, ended.stderr) == ("numcodecs\nimageio\n", "")
+
+
 def test_threads(record: bytes) -> None:
     wanted = afshtruni.decode(record).coefficients
     with ThreadPoolExecutor(4) as threads:
