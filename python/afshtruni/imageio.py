@@ -56,7 +56,7 @@ class RecordFormat(Format):
     Parameters for saving
     ---------------------
     decompositions : int
-        N, 1 to 5. Default as many as the sides allow.
+        N, as in `afshtruni.read_picture`, which chooses it by default.
     """
 
     def _can_read(self, request: Any) -> bool:

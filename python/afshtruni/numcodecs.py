@@ -47,7 +47,7 @@ def _picture_of(chunk: NDArray[Any]) -> NDArray[np.uint8]:
 class Afshtruni(Codec):
     """Codes chunks of uint8 as the records of pictures.
 
-    decompositions  N, 1 to 5; without it as many as the sides of a chunk allow
+    decompositions  N, as in `afshtruni.read_picture`
     """
 
     codec_id = "afshtruni"
