@@ -108,12 +108,14 @@ static void write_seal_facts(FILE *out, const Held *held) {
         write_text_fact(out, "Sealed as", seal->name);
         write_digest_fact(out, "Its seal", "seal", &digest);
     }
-    write_text_fact(out, "Seals", held->seals);
+    fputs("<tr><th scope=\"row\">Seals</th><td>", out);
+    print_escaped(out, held->seals);
     if (held->signatures[0] != '\0') {
-        fputs("<tr><th scope=\"row\">Signature</th><td>", out);
+        fputs("; beside it ", out);
         print_escaped(out, held->signatures);
-        fputs(", beside the seals; not judged here</td></tr>\n", out);
+        fputs(", not judged here", out);
     }
+    fputs("</td></tr>\n", out);
 }
 
 static void write_facts(FILE *out, const Sheet *sheet) {

@@ -82,16 +82,23 @@ static void tell_skipped(FILE *out, const Holding *holding) {
                 skipped, skipped == 1 ? "it builds" : "they build");
 }
 
-/* Which planes lack of what was asked for, level by level. */
+/* Which planes lack of what was asked for; levels that lack the same as one stretch. */
 static void list_missing(FILE *out, const Sheet *sheet) {
     const Holding *holding = &sheet->holding;
-    const char *before = " ";
-    for (uint32_t level = holding->levels; level > 0; level--)
-        if (lacks_planes(holding, level, &sheet->asked)) {
-            fprintf(out, "%s%s %" PRIu32 " lacks plane ", before, before[0] == ' ' ? "Level" : "level", level);
-            tell_missing_planes(out, holding, level, &sheet->asked);
-            before = "; ";
-        }
+    const char *level_word = " Level";
+    for (uint32_t level = holding->levels; level > 0; level--) {
+        uint32_t first = level, lacking = lacking_planes(holding, level, &sheet->asked);
+        while (level > 1 && lacking_planes(holding, level - 1, &sheet->asked) == lacking)
+            level--;
+        if (lacking == 0)
+            continue;
+        if (first == level)
+            fprintf(out, "%s %" PRIu32 " lacks plane ", level_word, level);
+        else
+            fprintf(out, "%ss %" PRIu32 " to %" PRIu32 " lack plane ", level_word, first, level);
+        tell_missing_planes(out, holding, level, &sheet->asked);
+        level_word = "; level";
+    }
     fputc('.', out);
 }
 

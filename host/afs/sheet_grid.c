@@ -110,7 +110,7 @@ static void write_counts(FILE *out, const Sheet *sheet) {
 
 static void write_key(FILE *out, const Sheet *sheet) {
     fputs("<p class=\"key\"><b><span class=\"used\">&#9679;</span>there and used</b> <b><span class=\"there\">&#9675;</span>there, not used: ", out);
-    fputs(sheet->halvings > 0 ? "not drawn at this size, or " : "", out);
+    fputs(sheet->halvings > 0 ? "not drawn, or " : "", out);
     fputs("a part that it builds on is missing</b>", out);
     if (count_other(sheet) > 0)
         fputs(" <b><span class=\"changed\">&#10005;</span>there, not as sealed</b>", out);

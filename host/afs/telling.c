@@ -116,30 +116,28 @@ static void tell_outside(FILE *out, Bytes record, const Holding *holding, const 
                 outside, outside == 1 ? "pixel comes" : "pixels come");
 }
 
-static bool is_lacking(const Holding *holding, uint32_t plane, uint32_t level, const Asked *asked) {
-    return was_asked_for(asked, plane, level) && !is_there(holding, plane, level);
+uint32_t lacking_planes(const Holding *holding, uint32_t level, const Asked *asked) {
+    uint32_t lacking = 0;
+    for (uint32_t plane = 0; plane < holding->header.planes; plane++)
+        if (was_asked_for(asked, plane, level) && !is_there(holding, plane, level))
+            lacking |= UINT32_C(1) << plane;
+    return lacking;
 }
 
 void tell_missing_planes(FILE *out, const Holding *holding, uint32_t level, const Asked *asked) {
+    uint32_t lacking = lacking_planes(holding, level, asked);
     const char *before = "";
     for (uint32_t plane = holding->header.planes; plane-- > 0;) {
-        if (!is_lacking(holding, plane, level, asked))
+        if (!(lacking >> plane & 1))
             continue;
         fprintf(out, "%s%" PRIu32, before, plane);
         uint32_t first = plane;
-        while (plane > 0 && is_lacking(holding, plane - 1, level, asked))
+        while (plane > 0 && lacking >> (plane - 1) & 1)
             plane--;
         if (plane < first)
             fprintf(out, " to %" PRIu32, plane);
         before = ", ";
     }
-}
-
-bool lacks_planes(const Holding *holding, uint32_t level, const Asked *asked) {
-    for (uint32_t plane = 0; plane < holding->header.planes; plane++)
-        if (is_lacking(holding, plane, level, asked))
-            return true;
-    return false;
 }
 
 static void tell_missing(FILE *out, const Holding *holding) {
@@ -150,7 +148,7 @@ static void tell_missing(FILE *out, const Holding *holding) {
     else
         fprintf(out, "\nMissing: %" PRIu32 " of %" PRIu32 " parts.\n", missing, whole);
     for (uint32_t level = holding->levels; level > 0; level--)
-        if (lacks_planes(holding, level, &all)) {
+        if (lacking_planes(holding, level, &all) != 0) {
             fprintf(out, "    level %" PRIu32 "  plane ", level);
             tell_missing_planes(out, holding, level, &all);
             fputc('\n', out);

@@ -13,8 +13,8 @@ void list_parts(FILE *out, Bytes record, const Outcome *served);
 /* The assessor's questions about a record, answered in sentences; for a record that print_picture() made a picture of. */
 void explain(FILE *out, Bytes record, const Outcome *printed);
 
-/* Whether a level lacks any that were asked for, and which, downward, neighbours as one stretch. */
-bool lacks_planes(const Holding *holding, uint32_t level, const Asked *asked);
+/* Which planes a level lacks that were asked for, as bits; and told, downward, neighbours as one stretch. */
+uint32_t lacking_planes(const Holding *holding, uint32_t level, const Asked *asked);
 void tell_missing_planes(FILE *out, const Holding *holding, uint32_t level, const Asked *asked);
 
 #endif
