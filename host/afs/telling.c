@@ -58,8 +58,8 @@ static void tell_what_shows(FILE *out, Header header) {
 
 static void tell_parts(FILE *out, const Holding *holding) {
     uint32_t there = count_parts(holding, is_there), used = count_parts(holding, is_used);
-    fprintf(out, "\nParts: %" PRIu32 " of %" PRIu32 " %s there, %" PRIu32 " of them %s used.\n", there, parts_of_whole(holding), there == 1 ? "is" : "are", used,
-            used == 1 ? "is" : "are");
+    fprintf(out, "\nParts: %" PRIu32 " of %" PRIu32 " %s there, %" PRIu32 " of them %s used.\n", there, parts_of_whole(holding),
+            there == 1 ? "is" : "are", used, used == 1 ? "is" : "are");
     if (holding->header.planes == 0)
         fputs("Without planes there are no parts: every coefficient is 0.\n", out);
     else
