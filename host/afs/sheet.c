@@ -141,8 +141,8 @@ static void write_foot(FILE *out, const Sheet *sheet) {
     fputs("<footer>\n<p>", out);
     if (sheet->held != NULL && sheet->held->verdict->comparison.seal != NULL)
         fputs("The seal is the digest on the line <code>seal</code> of the record that is named, in the seals that are: the SHA-256 of its\n"
-              "header&rsquo;s numbers and of the digests of all its parts. Who signed them, and whether the signature is good, is to be seen with what made it\n"
-              "(man afs).",
+              "header&rsquo;s numbers and of the digests of all its parts. Who signed them, and whether the signature is good, is to be seen with what made\n"
+              "it (man afs).",
               out);
     else
         fputs("Whether a byte was changed, a seal shows: <code>afs seal</code> where a record is made, <code>afs certificate --seals</code> here.", out);
