@@ -100,10 +100,10 @@ static Kind kind_by_word(const Request *request, const char *word) {
     return kind;
 }
 
-/* A name that stands for another kind of file than is written is wrong. A pyramid may stand where its record stood. */
+/* A name that stands for another kind of file than is written is wrong. By force a pyramid stands where its record stood. */
 static Kind choose_kind(const Words *words, const Request *request) {
     Kind kind = words->given[AS] ? kind_by_word(request, words->arguments[AS]) : kind_without_name(words, request), named = kind_named(request->out);
-    if (named == KINDS || (named == AS_RECORD && request->command == DECODE))
+    if (named == KINDS || (named == AS_RECORD && request->command == DECODE && words->given[FORCE]))
         return kind;
     if (kind == AS_TEXT ? named != AS_TEXT : !is_written_by(request->command, named))
         misused("%s: %s writes %s", request->out, commands[request->command], request->check ? "text here, as NAME.txt" : written_by(request->command));
