@@ -57,6 +57,15 @@ static void tell_farthest_pixels(FILE *out, const Holding *holding) {
     fputc(']', out);
 }
 
+/* Known where a picture is printed of all of the record. */
+static void tell_pixels_outside(FILE *out, const Request *request, Bytes record, const Holding *holding, const Outcome *outcome) {
+    bool is_printed = request->command == EXPLAIN || request->grey;
+    if (is_printed && farthest_pixel(holding, 0) == 0)
+        fprintf(out, ", \"pixels_outside\": %" PRIu64, pixels_outside(record, holding, outcome, request->halvings));
+    else
+        fputs(", \"pixels_outside\": null", out);
+}
+
 static void tell_digest(FILE *out, const char *what, Digest digest) {
     fprintf(out, ", \"%s\": \"", what);
     print_digest(out, &digest);
@@ -119,8 +128,9 @@ void tell_accepted(FILE *out, const Request *request, const char *name, Bytes re
         tell_levels(out, "reached", &holding, holding.reached);
         tell_levels(out, "skipped", &holding, holding.skipped);
         tell_farthest_pixels(out, &holding);
+        tell_pixels_outside(out, request, record, &holding, outcome);
     } else {
-        fputs(", \"reached\": null, \"skipped\": null, \"farthest_pixels\": null", out);
+        fputs(", \"reached\": null, \"skipped\": null, \"farthest_pixels\": null, \"pixels_outside\": null", out);
     }
     tell_parts(out, record, outcome, request->command == SEAL);
     tell_missing(out, &holding);
@@ -138,7 +148,8 @@ static void tell_nothing_known(FILE *out, const Request *request) {
         fputs(", \"wanted\": null, \"of\": null, \"verdict\": null, \"changed\": null, \"missing\": null, \"tail\": null}\n", out);
     else
         fprintf(out,
-                ", \"reached\": null, \"skipped\": null, \"farthest_pixels\": null, \"parts\": null, \"missing\": null, \"tail\": null, \"lacks\": null%s}\n",
+                ", \"reached\": null, \"skipped\": null, \"farthest_pixels\": null, \"pixels_outside\": null, \"parts\": null, \"missing\": null, "
+                "\"tail\": null, \"lacks\": null%s}\n",
                 request->command == SEAL ? ", \"seal\": null" : "");
 }
 
