@@ -1,10 +1,10 @@
 -- What each turn of a loop that fills leaves, and what it comes to at the end; and what fits of a run of stores.
-use Rattle.std.specs.Prelude.{◌≡◌, List, [], ◌∷◌, ◌++◌, ℕ, ◌+◌, ◌-◌, ◌≤◌, ◌<◌, min, length, set, take, drop, replicate}
+use Rattle.std.specs.Prelude.{◌≡◌, List, [], ◌∷◌, ◌++◌, ℕ, ◌+◌, ◌-◌, ◌≤◌, ◌<◌, min, length, get_or, set, take, drop, replicate}
 use Rattle.std.proofs.Common.{refl, sym, ap, subst, ◌∙◌, arith, length-set, length-take, length-drop, add-one}
 use Rattle.std.proofs.Math.Decide.{dec_le}
-use Rattle.std.proofs.Math.Seq.{paste, take-suc-set}
-use Rattle.std.proofs.lemmas.List.Edits.{sets, sets-eq}
-use Rattle.std.proofs.lemmas.List.{append_assoc, append-nil, drop-drop, take-take, drop_all, take_all, replicate-append-replicate}
+use Rattle.std.proofs.Math.Seq.{paste, paste-zero, take-suc-set}
+use Rattle.std.proofs.lemmas.List.Edits.{sets, sets-eq, paste_more}
+use Rattle.std.proofs.lemmas.List.{take-take, take_all, replicate-append-replicate}
 use Rattle.memory.specs.Stores.{sets_cut, sets_past}
 
 -- The first i elements of s, a list that was d, are v.
@@ -42,25 +42,41 @@ module _ (l vs : List ℕ) (at n : ℕ) where
       ∙ sym (sets-eq (take n vs) l at (omega arith))
       ∙ sets_cut l at n vs (omega arith)
 
-  pub stored : (first : ℕ) → first ≡ min at (length l) → n ≡ min (length vs) (length l - first)
-      → take first l ++ (take n vs ++ drop n (drop first l)) ≡ sets l at vs
-  stored first f e = by (dec_le at (length l))
+  pub pasted_first : (first : ℕ) → first ≡ min at (length l) → n ≡ min (length vs) (length l - first)
+      → paste l first vs n ≡ sets l at vs
+  pasted_first first f e = by (dec_le at (length l))
     where
       Stands : ℕ → Type 0
-      Stands i = take i l ++ (take n vs ++ drop n (drop i l)) ≡ sets l at vs
+      Stands i = paste l i vs n ≡ sets l at vs
 
       by : Dec (at ≤ length l) → Stands first
       by (yes h) =
           let same : first ≡ at = omega arith in
-          subst Stands (sym same)
-          (ap (λ d. take at l ++ (take n vs ++ d)) (drop-drop n at l)
-          ∙ sym (append_assoc (take at l) (take n vs) (drop (at + n) l))
-          ∙ pasted h (omega arith))
+          subst Stands (sym same) (pasted h (omega arith))
       by (no h) =
           let none : n ≡ 0 = omega arith in
           let past : first ≡ length l = omega arith in
-          rw (none, past, take_all (length l) l (omega arith), drop_all (length l) l (omega arith)) (append-nil l)
-          ∙ sym (sets_past l at vs (omega arith))
+          rw (none, past) (sym (paste-zero l (length l) vs) ∙ sym (sets_past l at vs (omega arith)))
+
+-- The first i elements of s stand in t, a list that was d, from a place on.
+pub record Copied (s d : List ℕ) (at i : ℕ) (t : List ℕ) : Type 0 where
+  pub same : length t ≡ length d
+  pub list : t ≡ paste d at s i
+
+module _ {s d : List ℕ} {at : ℕ} where
+  pub copied_none : Copied s d at 0 d
+  copied_none = record { same = refl; list = paste-zero d at s }
+
+  module _ {i : ℕ} {t : List ℕ} (c : Copied s d at i t) where
+    pub copied_more : at + i < length d → i < length s → Copied s d at (i + 1) (set t (at + i) (get_or s i 0))
+    copied_more there h =
+        record {
+          same = length-set t (at + i) (get_or s i 0) ∙ c.same;
+          list = rw c.list (paste_more d at s i 0 there h);
+        }
+
+    pub copied_all : (place : ℕ) → at ≡ min place (length d) → i ≡ min (length s) (length d - at) → t ≡ sets d place s
+    copied_all place f e = c.list ∙ pasted_first d s place i at f e
 
 -- A stretch of l moved by so many places, as far as it fits.
 module _ (l : List ℕ) (start count by n : ℕ) (e : n ≡ min count (length l - start - by)) where

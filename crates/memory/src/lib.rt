@@ -61,7 +61,10 @@ pub fn copy(from: &[u8], start: usize, count: usize, to: &mut [u8], at: usize)
     let bytes = stretch(from, start, count);
     let first = at.min(to.len());
     let fitting = bytes.len().min(to.len() - first);
-    to[first..first + fitting].copy_from_slice(&bytes[..fitting]);
+    // A for: copy_from_slice needs memmove of the C library, which the archive asks for nowhere else.
+    for i in 0..fitting {
+        to[first + i] = bytes[i];
+    }
 }
 
 // Whether the `count` bytes of `one` at `start` are the same as the `many` bytes of `other` at `from`.
